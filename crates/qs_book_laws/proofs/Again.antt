@@ -1,26 +1,9 @@
 -- A restart takes up what is on record of a committed transaction: pending again, or committed once.
-use Rattle.std.proofs.Common.{◌≡◌, ◌⊎◌, ℕ, Bool, true, false, not, List, [], ◌∷◌, ◌++◌, ◌&&◌, ◌||◌, Option, Some, None, inl, inr, refl, sym, ap, subst, ◌∙◌, fold, if◌then◌else◌}
-use Rattle.std.specs.Prelude.{slice_get, flat_map, is_some, nat_lt}
-use Rattle.std.specs.List.{list_all, AllByRecursion}
-use Rattle.std.specs.BTreeMap.{is_at}
-use Rattle.std.proofs.lemmas.List.{append_assoc}
-use Rattle.qs_base.specs.Order.{same_tid}
-use Rattle.qs_base.specs.declared.identifiers.Member.{Member}
-use Rattle.qs_base.specs.declared.identifiers.Tid.{Tid}
-use Rattle.qs_base.proofs.Same.{same_tid-true, same_tid-self}
-use Rattle.qs_book_journal.specs.declared.entry.Act.{Act}
+use Rattle.qs_book_laws.proofs.Words.{◌≡◌, ◌⊎◌, ℕ, Bool, true, false, not, List, [], ◌∷◌, ◌++◌, ◌&&◌, ◌||◌, Option, Some, None, inl, inr, refl, sym, ap, subst, ◌∙◌, fold, if◌then◌else◌, slice_get, flat_map, is_some, nat_lt, list_all, AllByRecursion, is_at, append_assoc, same_tid, Member, Tid, same_tid-true, same_tid-self, Act, Entry, Found, TableValue, applied, restarted, apply_change, apply_note, BookValue, find_transaction, changed_at, crossed_in, is_in_order, broken_at, broken, effect_act}
+use Rattle.qs_book_laws.proofs.Words.{effect, NodeValue, pending_at, record_of, changes_of, voter, voter_cmp, restart, reopened, restarted_node, put_new_votes, new_votes, new_votes_at, with_votes, record_at, changes_at, is_kept, broken_restart, is_among, member_at, is_found, without_records, OnRecord, Voter, IsCommitted, crossed_at, keeps_contents, or_right}
 use Rattle.qs_book_journal.specs.declared.entry.Act.TheVariants as acts
-use Rattle.qs_book_journal.specs.declared.entry.Entry.{Entry}
-use Rattle.qs_book_journal.specs.declared.entry.Found.{Found}
-use Rattle.qs_ops.specs.Table.{TableValue, applied, restarted, apply_change, apply_note}
-use Rattle.qs_book_machine.specs.Book.{BookValue, find_transaction, changed_at, crossed_in}
-use Rattle.qs_book_machine.specs.Lawful.{is_in_order, broken_at, broken, effect_act, effect}
-use Rattle.qs_book_machine.specs.Nodes.{NodeValue, pending_at, record_of, changes_of, voter, voter_cmp}
-use Rattle.qs_book_machine.specs.Restart.{restart, reopened, restarted_node, put_new_votes, new_votes, new_votes_at, with_votes, with_vote, record_at, changes_at, is_kept, is_found_vote, votes_once, broken_restart, is_among, add_commit, commits_found, has_record, member_at, is_found, without_records}
-use Rattle.qs_book_machine.specs.declared.state.OnRecord.{OnRecord}
-use Rattle.qs_book_machine.specs.declared.state.Voter.{Voter}
-use Rattle.qs_book_laws.specs.Laws.{IsCommitted}
-use Rattle.qs_book_laws.specs.Served.{crossed_at, keeps_contents, logged_at, IsLogged, PendsAgain, CommitsOnce}
+use Rattle.qs_book_machine.specs.Restart.{with_vote, is_found_vote, votes_once, add_commit, commits_found, has_record}
+use Rattle.qs_book_laws.specs.Served.{logged_at, IsLogged, PendsAgain, CommitsOnce}
 use Rattle.qs_book_laws.proofs.Alikes.{voter_exact, voter_equal, voter_itself}
 use Rattle.qs_book_laws.proofs.Ends.{held_there}
 use Rattle.qs_book_laws.proofs.FoundOnly.{found_stays, found_with}
@@ -176,11 +159,7 @@ among_snoc (x ∷ xs) tid t h other = by (same_tid tid x) (is_among xs tid) refl
 
 among_mid : (first rest : List Tid) (tid : Tid) → is_among (first ++ (tid ∷ rest)) tid ≡ true
 among_mid [] rest tid = rw (same_tid-self tid) refl
-among_mid (x ∷ first) rest tid = by (same_tid tid x) (is_among (first ++ (tid ∷ rest)) tid) (among_mid first rest tid)
-  where
-    by : (a c : Bool) → c ≡ true → (a || c) ≡ true
-    by true c h = refl
-    by false c h = h
+among_mid (x ∷ first) rest tid = or_right (same_tid tid x) (is_among (first ++ (tid ∷ rest)) tid) (among_mid first rest tid)
 
 module _ (here : ℕ) (book : BookValue) (tid : Tid) (recorded : has_record here book tid ≡ true) where
   add_same : (acc : List Tid) → ((is_among acc tid ≡ false) ⊎ Once tid acc) → Once tid (add_commit here book acc tid)
@@ -247,11 +226,7 @@ module _ (book : BookValue) (pend : List Found) (tid : Tid) (member : Member) (i
 
 some_either : (b : Bool) (book : BookValue) (here : ℕ) (tid : Tid) (s : ℕ) → s ≡ number b → is_some (record_at here book tid s) ≡ true → has_record here book tid ≡ true
 some_either true book here tid s e h = let one : is_some (record_at here book tid 0) ≡ true = subst (λ (n : ℕ). is_some (record_at here book tid n) ≡ true) e h in rw one refl
-some_either false book here tid s e h = let one : is_some (record_at here book tid 1) ≡ true = subst (λ (n : ℕ). is_some (record_at here book tid n) ≡ true) e h in by (is_some (record_at here book tid 0)) (is_some (record_at here book tid 1)) one
-  where
-    by : (a c : Bool) → c ≡ true → (a || c) ≡ true
-    by true c k = refl
-    by false c k = k
+some_either false book here tid s e h = let one : is_some (record_at here book tid 1) ≡ true = subst (λ (n : ℕ). is_some (record_at here book tid n) ≡ true) e h in or_right (is_some (record_at here book tid 0)) (is_some (record_at here book tid 1)) one
 
 pub commits_once : (book : BookValue) (entry : Entry) (inc : ℕ) (pend : List Found) (done : List Tid) (tid : Tid) (member : Member) (was at_last : NodeValue) → keeps_contents member.server.0 ≡ true → broken book entry ≡ None
     → entry.act ≡ acts.Restart inc pend done → entry.node.0 ≡ member.node.0 → is_some (record_at member.node.0 book tid member.server.0) ≡ true → is_among done tid ≡ true

@@ -1,24 +1,10 @@
 -- What a test for the same cause or the same transaction tells.
-use Rattle.std.proofs.Common.{ℕ, ◌≡◌, Bool, true, false, ◌||◌, List, [], ◌∷◌, refl, sym, ap, subst, arith}
-use Rattle.std.specs.List.{AllByRecursion, list_any}
-use Rattle.std.proofs.lemmas.Bool.Decides.{nat_tests}
-use Rattle.std.specs.Ordering.{nat_cmp}
-use Rattle.std.specs.BTreeMap.{is_at}
-use Rattle.std.specs.declared.cmp.Ordering.{Ordering}
-use Rattle.std.specs.declared.cmp.Ordering.TheVariants.{Less, Equal, Greater}
-use Rattle.qs_base.specs.Order.{tid_cmp, same_tid}
-use Rattle.qs_base.specs.declared.identifiers.Tid.{Tid}
-use Rattle.qs_base.proofs.Same.{same_bytes-true, same_member-true, same_tid-true}
-use Rattle.qs_ops.specs.Alike.{same_reason, same_cause}
-use Rattle.qs_ops.specs.declared.answer.Cause.{Cause}
+use Rattle.qs_book_laws.proofs.Words.{ℕ, ◌≡◌, Bool, true, false, ◌||◌, List, [], ◌∷◌, refl, sym, ap, subst, arith, AllByRecursion, list_any, nat_tests, nat_cmp, is_at, Ordering, Less, Equal, Greater, tid_cmp, same_tid, Tid, same_member-true, same_tid-true, same_cause, Cause, exact_unsigned, exact_pairs, voter_cmp, Voter, tid_exact, tid_total, tied_itself, nat_cmp_total}
+use Rattle.qs_base.proofs.Same.{same_bytes-true}
+use Rattle.qs_ops.specs.Alike.{same_reason}
 use Rattle.qs_ops.specs.declared.answer.Cause.TheVariants.{Asked, Voted, Gone, Home, Room, Old}
 use Rattle.qs_ops.specs.declared.vote.Reason.{Reason}
 use Rattle.qs_ops.specs.declared.vote.Reason.TheVariants.{Quota, LogRoom, Taken, Code}
-use Rattle.std.proofs.lemmas.Map.Lookups.{exact_unsigned, exact_pairs}
-use Rattle.qs_book_machine.specs.Nodes.{voter_cmp}
-use Rattle.qs_book_machine.specs.declared.state.Voter.{Voter}
-use Rattle.qs_base.proofs.TidOrder.{tid_exact, tid_total}
-use Rattle.std.proofs.lemmas.Cmp.{tied_itself, nat_cmp_total}
 
 pub same_reason-true : (r s : Reason) → same_reason r s ≡ true → r ≡ s
 same_reason-true (Quota bytes limit) (Quota b l) h = grind (arith, nat_tests)

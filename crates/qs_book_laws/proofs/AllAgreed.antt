@@ -1,32 +1,11 @@
 -- A transaction that the machine finds unanimous has come to that by entries of its history.
-use Rattle.std.proofs.Common.{◌≡◌, ℕ, ◌+◌, ◌≤◌, ◌&&◌, Bool, true, false, List, [], ◌∷◌, ◌++◌, Option, Some, None, refl, sym, ap, subst, ◌∙◌, if◌then◌else◌, arith}
-use Rattle.std.specs.Prelude.{is_some, slice_get}
-use Rattle.std.specs.List.{list_all}
+use Rattle.qs_book_laws.proofs.Words.{◌≡◌, ℕ, ◌+◌, ◌≤◌, ◌&&◌, Bool, true, false, List, [], ◌∷◌, ◌++◌, Option, Some, None, refl, sym, ap, subst, ◌∙◌, if◌then◌else◌, arith, le_refl, is_some, slice_get, list_all, Member, NodeNo, Outcome, Tid, class_of, is_two_phase, Op, Reply, Vote, Act, Serve, Ending, Learn, Loan, Yield, Entry, TransactionValue, part_of, is_unanimous, is_empty, all_served, agrees, serving_part, voted_part, learnt_part, found_part, Part, BookValue, find_transaction}
+use Rattle.qs_book_laws.proofs.Words.{cell_of_transaction, is_done, borrower_at, broken_decide, broken_outcome, may_decide, broken_act, effect, IsLawful, book_after, NodeValue, opening, Opened, IsCoherent, IsCommitted}
 use Rattle.qs_base.specs.declared.identifiers.Class.TheVariants as classes
-use Rattle.qs_base.specs.declared.identifiers.Member.{Member}
-use Rattle.qs_base.specs.declared.identifiers.NodeNo.{NodeNo}
-use Rattle.qs_base.specs.declared.identifiers.Outcome.{Outcome}
 use Rattle.qs_base.specs.declared.identifiers.Outcome.TheVariants as outcomes
-use Rattle.qs_base.specs.declared.identifiers.Tid.{Tid}
-use Rattle.qs_ops.specs.Members.{class_of, is_two_phase}
-use Rattle.qs_ops.specs.declared.operation.Op.{Op}
-use Rattle.qs_ops.specs.declared.reply.Reply.{Reply}
-use Rattle.qs_ops.specs.declared.vote.Vote.{Vote}
 use Rattle.qs_ops.specs.declared.vote.Vote.TheVariants as votes
-use Rattle.qs_book_journal.specs.declared.entry.Act.{Act}
-use Rattle.qs_book_journal.specs.declared.entry.Act.TheVariants.{Serve, Ending, Learn, Loan, Yield}
 use Rattle.qs_book_journal.specs.declared.entry.Act.TheVariants as acts
-use Rattle.qs_book_journal.specs.declared.entry.Entry.{Entry}
-use Rattle.qs_book_machine.specs.Transaction.{TransactionValue, part_of, is_unanimous, is_empty, all_served, agrees, serving_part, voted_part, learnt_part, found_part}
 use Rattle.qs_book_machine.specs.declared.transaction.Cell.TheVariants as cells
-use Rattle.qs_book_machine.specs.declared.transaction.Part.{Part}
-use Rattle.qs_book_machine.specs.Book.{BookValue, find_transaction, cell_of_transaction, is_done}
-use Rattle.qs_book_machine.specs.Clauses.{borrower_at, broken_decide, broken_outcome, may_decide}
-use Rattle.qs_book_machine.specs.Lawful.{broken_act, effect, IsLawful, book_after}
-use Rattle.qs_book_machine.specs.Nodes.{NodeValue}
-use Rattle.qs_book_machine.specs.Opening.{opening}
-use Rattle.qs_book_machine.specs.declared.opened.Opened.{Opened}
-use Rattle.qs_book_laws.specs.Laws.{IsCoherent, IsCommitted}
 use Rattle.qs_book_laws.specs.Unanimity.{no_loans, is_served_in, is_voted_in, are_returned, IsUnanimous}
 use Rattle.qs_book_laws.proofs.Always.{IsSo, step_so, opening_so}
 use Rattle.qs_book_laws.proofs.Answered.{each_served}
@@ -60,14 +39,11 @@ choose_for tid member inc t (Some other) now f part p q = choose (is_own tid mem
 within : (a b c d : ℕ) → c ≡ a → d ≡ b + 1 → a ≤ b → c ≤ d
 within a b c d p q h = omega arith
 
-itself : (n : ℕ) → n ≤ n
-itself n = omega arith
-
 voted_covers : (ballot : Vote) (part : Part) → Covers part → Covers (voted_part ballot part)
 voted_covers (votes.Abort reason) part h = h
-voted_covers votes.ReadOnly part h = itself part.served
-voted_covers votes.Volatile part h = itself part.served
-voted_covers votes.Recoverable part h = itself part.served
+voted_covers votes.ReadOnly part h = le_refl part.served
+voted_covers votes.Volatile part h = le_refl part.served
+voted_covers votes.Recoverable part h = le_refl part.served
 
 learnt_covers : (outcome : Outcome) (part : Part) → Covers part → Covers (learnt_part outcome part)
 learnt_covers outcomes.Commit part h = h
@@ -89,12 +65,12 @@ module _ (tid : Tid) (member : Member) (inc : ℕ) where
   covers_all [] book i lawful so = so
   covers_all (entry ∷ entries) book i lawful so =
       covers_all entries (effect book entry) (stepped book entry i lawful.0).inv lawful.1
-      (step_so tid (IsCovered member inc) book entry i lawful.0 (λ label client ticks. itself 0) (part_left tid member inc Covers (λ covers changes. itself 0) covers_after book entry i lawful.0) so)
+      (step_so tid (IsCovered member inc) book entry i lawful.0 (λ label client ticks. le_refl 0) (part_left tid member inc Covers (λ covers changes. le_refl 0) covers_after book entry i lawful.0) so)
 
   covers_first : (opened : List Opened) → IsSo tid (IsCovered member inc) (opening opened)
   covers_first opened =
-      opening_so tid (IsCovered member inc) (λ cell cause. itself 0)
-      (λ m k covers changes tx p. subst Covers (sym (put_part member inc tx m k (found_part covers changes))) (choose _ (found_part covers changes) (part_of tx member inc) (itself 0) p)) opened
+      opening_so tid (IsCovered member inc) (λ cell cause. le_refl 0)
+      (λ m k covers changes tx p. subst Covers (sym (put_part member inc tx m k (found_part covers changes))) (choose _ (found_part covers changes) (part_of tx member inc) (le_refl 0) p)) opened
 
 -- ---- the whole
 

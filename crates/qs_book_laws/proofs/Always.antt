@@ -1,28 +1,11 @@
 -- What holds of a transaction as it begins, or stands at the opening, and is left by every entry, holds always.
-use Rattle.std.proofs.Common.{◌≡◌, ℕ, suc, Bool, true, false, List, [], ◌∷◌, Option, Some, None, refl, sym, ap, subst, ◌∙◌, fold, if◌then◌else◌}
-use Rattle.std.specs.Prelude.{is_some, slice_get, length, nat_lt}
-use Rattle.std.specs.List.{list_any}
-use Rattle.std.specs.BTreeMap.{insert_entry, is_at}
-use Rattle.qs_base.specs.Order.{tid_cmp}
-use Rattle.qs_base.specs.declared.identifiers.ClientNo.{ClientNo}
-use Rattle.qs_base.specs.declared.identifiers.Member.{Member}
-use Rattle.qs_base.specs.declared.identifiers.Tid.{Tid}
-use Rattle.qs_base.proofs.TidOrder.{tid_exact}
-use Rattle.qs_ops.specs.declared.answer.Cause.{Cause}
+use Rattle.qs_book_laws.proofs.Words.{◌≡◌, ℕ, suc, Bool, true, false, List, [], ◌∷◌, Option, Some, None, refl, sym, ap, subst, ◌∙◌, fold, if◌then◌else◌, is_some, slice_get, length, nat_lt, list_any, insert_entry, is_at, tid_cmp, ClientNo, Member, Tid, tid_exact, Cause, Act, Entry, TransactionValue, begun, found_at, Cell, BookValue, find_transaction, with_transaction, begin, ticks_at, broken, effect_act, effect, NodeValue, opening, name_from, name_all, name_transaction, name_pending}
+use Rattle.qs_book_laws.proofs.Words.{opened_transaction, member_at, Opened, Pending}
 use Rattle.qs_ops.specs.declared.answer.Cause.TheVariants as causes
-use Rattle.qs_book_journal.specs.declared.entry.Act.{Act}
 use Rattle.qs_book_journal.specs.declared.entry.Act.TheVariants as acts
-use Rattle.qs_book_journal.specs.declared.entry.Entry.{Entry}
-use Rattle.qs_book_machine.specs.Transaction.{TransactionValue, begun, opened_as, found_at}
-use Rattle.qs_book_machine.specs.declared.transaction.Cell.{Cell}
+use Rattle.qs_book_machine.specs.Transaction.{opened_as}
 use Rattle.qs_book_machine.specs.declared.transaction.Cell.TheVariants as cells
-use Rattle.qs_book_machine.specs.Book.{BookValue, find_transaction, with_transaction, begin, ticks_at}
-use Rattle.qs_book_machine.specs.Lawful.{broken, effect_act, effect}
-use Rattle.qs_book_machine.specs.Nodes.{NodeValue}
-use Rattle.qs_book_machine.specs.Opening.{opening, name_from, name_all, name_transaction, name_pending, opened_transaction, has_commit}
-use Rattle.qs_book_machine.specs.Restart.{member_at}
-use Rattle.qs_book_machine.specs.declared.opened.Opened.{Opened}
-use Rattle.qs_book_machine.specs.declared.opened.Pending.{Pending}
+use Rattle.qs_book_machine.specs.Opening.{has_commit}
 use Rattle.qs_book_laws.proofs.Alikes.{tid_itself, at_exact}
 use Rattle.qs_book_laws.proofs.Grows.{begins, alters_transaction, step_alters}
 use Rattle.qs_book_laws.proofs.Maps.{lookup_put, lookup_put_apart}

@@ -1,31 +1,11 @@
 -- Each request of a transaction whose requests are all served in the end, and which isn't crossed, was served before another
 -- of its number was issued.
-use Rattle.std.proofs.Common.{◌≡◌, ℕ, ◌==◌, ◌&&◌, ◌||◌, Bool, true, false, not, List, [], ◌∷◌, Option, Some, None, refl, sym, ap, subst, ◌∙◌, arith}
-use Rattle.std.proofs.lemmas.Bool.Decides.{nat_tests}
-use Rattle.std.specs.Prelude.{is_some, slice_get, length}
-use Rattle.std.specs.List.{find}
-use Rattle.std.specs.Map.{lookup}
-use Rattle.std.specs.BTreeMap.{is_at}
-use Rattle.qs_base.specs.Order.{same_tid, same_member, member_cmp}
-use Rattle.qs_base.specs.declared.identifiers.Member.{Member}
-use Rattle.qs_base.specs.declared.identifiers.NodeNo.{NodeNo}
-use Rattle.qs_base.specs.declared.identifiers.Outcome.{Outcome}
+use Rattle.qs_book_laws.proofs.Words.{◌≡◌, ℕ, ◌==◌, ◌&&◌, ◌||◌, Bool, true, false, not, List, [], ◌∷◌, Option, Some, None, refl, sym, ap, subst, ◌∙◌, is_some, slice_get, length, find, lookup, is_at, same_tid, same_member, member_cmp, Member, NodeNo, Outcome, Tid, same_tid-self, same_member-true, same_member-self, Op, Act, Begin, Issue, Serve, Ask, Counted, Decide, Ending, Learn, Loan, Yield, Tick, Crash, Restart, Entry, TransactionValue, request_cmp, is_standing, standing_request, crossed_by}
+use Rattle.qs_book_laws.proofs.Words.{learnt, is_crossed, all_served, lent, given_back, Request, RequestNo, BookValue, find_transaction, crossed_in, inc_at, link_to, borrower_at, broken_issue, broken_act, broken, effect, IsLawful, book_after, NodeValue, is_share, crossed_at, eqb-self}
 use Rattle.qs_base.specs.declared.identifiers.Outcome.TheVariants as outcomes
-use Rattle.qs_base.specs.declared.identifiers.Tid.{Tid}
-use Rattle.qs_base.proofs.Same.{same_tid-self, same_member-true, same_member-self}
-use Rattle.qs_ops.specs.declared.operation.Op.{Op}
-use Rattle.qs_book_journal.specs.declared.entry.Act.{Act}
-use Rattle.qs_book_journal.specs.declared.entry.Act.TheVariants.{Begin, Issue, Serve, Ask, Counted, Decide, Ending, Learn, Answer, Loan, Yield, Tick, Crash, Restart}
+use Rattle.qs_book_journal.specs.declared.entry.Act.TheVariants.{Answer}
 use Rattle.qs_book_journal.specs.declared.entry.Act.TheVariants as acts
-use Rattle.qs_book_journal.specs.declared.entry.Entry.{Entry}
-use Rattle.qs_book_machine.specs.Transaction.{TransactionValue, request_cmp, requests_in, is_standing, standing_request, crossed_by, learnt, is_crossed, all_served, lent, given_back}
-use Rattle.qs_book_machine.specs.declared.transaction.Request.{Request}
-use Rattle.qs_book_machine.specs.declared.transaction.RequestNo.{RequestNo}
-use Rattle.qs_book_machine.specs.Book.{BookValue, find_transaction, crossed_in, inc_at}
-use Rattle.qs_book_machine.specs.Clauses.{link_to, borrower_at, broken_issue}
-use Rattle.qs_book_machine.specs.Lawful.{broken_act, broken, effect, IsLawful, book_after}
-use Rattle.qs_book_machine.specs.Nodes.{NodeValue}
-use Rattle.qs_book_laws.specs.Served.{is_share, crossed_at}
+use Rattle.qs_book_machine.specs.Transaction.{requests_in}
 use Rattle.qs_book_laws.specs.Unanimity.{issues, issues_from, serves_from, is_served_in}
 use Rattle.qs_book_laws.proofs.Ends.{lawful_node}
 use Rattle.qs_book_laws.proofs.Grows.{step_grows}
@@ -36,9 +16,6 @@ use Rattle.qs_book_laws.proofs.Requests.{request_exact, IsStanding, put_stands, 
 use Rattle.qs_book_laws.proofs.Steps.{stepped}
 use Rattle.qs_book_laws.proofs.Takes.{some_same}
 use Rattle.qs_book_laws.proofs.Turns.{Stands, Gives, GivesFor, Obliged, step_turns}
-
-equal : (n : ℕ) → (n == n) ≡ true
-equal n = grind (arith, nat_tests)
 
 module _ (tid : Tid) (member : Member) (from : NodeNo) (number : ℕ) where
   abbrev pub at : RequestNo
@@ -75,10 +52,10 @@ module _ (tid : Tid) (member : Member) (from : NodeNo) (number : ℕ) where
       e = request_exact (record { link = record { from = sender; to = other.node }; number = n }) at is
 
       by_node : (sender.0 == from.0) ≡ true
-      by_node = subst (λ (m : ℕ). (m == from.0) ≡ true) (sym (ap (λ (r : RequestNo). r.link.from.0) e)) (equal from.0)
+      by_node = subst (λ (m : ℕ). (m == from.0) ≡ true) (sym (ap (λ (r : RequestNo). r.link.from.0) e)) (eqb-self from.0)
 
       by_number : (n == number) ≡ true
-      by_number = subst (λ (m : ℕ). (m == number) ≡ true) (sym (ap (λ (r : RequestNo). r.number) e)) (equal number)
+      by_number = subst (λ (m : ℕ). (m == number) ≡ true) (sym (ap (λ (r : RequestNo). r.number) e)) (eqb-self number)
 
       by : (b : Bool) → same_member other member ≡ b → b ≡ false
       by false far = refl

@@ -1,20 +1,5 @@
 -- As a transaction is decided to commit, each of its members that keep contents has pending and on record just what it served.
-use Rattle.std.proofs.Common.{◌≡◌, ℕ, Bool, true, false, List, [], ◌&&◌, Option, Some, refl, sym, ap, subst, ◌∙◌, length}
-use Rattle.std.specs.Prelude.{is_some, slice_get, nat_lt, unwrap_or}
-use Rattle.std.specs.List.{list_all}
-use Rattle.std.specs.Option.{option_map}
-use Rattle.qs_base.specs.declared.identifiers.Member.{Member}
-use Rattle.qs_base.specs.declared.identifiers.Tid.{Tid}
-use Rattle.qs_book_journal.specs.declared.entry.Entry.{Entry}
-use Rattle.qs_book_machine.specs.Transaction.{TransactionValue, is_open, is_crossed, is_unanimous, is_empty, agrees, all_served}
-use Rattle.qs_book_machine.specs.Book.{BookValue, find_transaction}
-use Rattle.qs_book_machine.specs.Lawful.{IsLawful, book_after}
-use Rattle.qs_book_machine.specs.Nodes.{changes_of}
-use Rattle.qs_book_machine.specs.Opening.{opening}
-use Rattle.qs_book_machine.specs.declared.opened.Opened.{Opened}
-use Rattle.qs_book_laws.specs.Durable.{IsKept}
-use Rattle.qs_book_laws.specs.Laws.{IsCoherent}
-use Rattle.qs_book_laws.specs.Served.{held_at, changes_served, keeps_contents}
+use Rattle.qs_book_laws.proofs.Words.{◌≡◌, ℕ, Bool, true, false, List, [], ◌&&◌, Option, Some, refl, sym, ap, subst, ◌∙◌, length, is_some, slice_get, nat_lt, unwrap_or, list_all, option_map, Member, Tid, Entry, TransactionValue, is_open, is_crossed, is_unanimous, is_empty, agrees, all_served, BookValue, find_transaction, IsLawful, book_after, changes_of, opening, Opened, IsKept, IsCoherent, held_at, changes_served, keeps_contents}
 use Rattle.qs_book_laws.proofs.Ballots.{IsEven}
 use Rattle.qs_book_laws.proofs.Counts.{count_of, count_in, no_count}
 use Rattle.qs_book_laws.proofs.Covered.{agrees_all, marked}

@@ -1,27 +1,9 @@
 -- A vote of a member's own: one to commit covers all that it served in this incarnation.
-use Rattle.std.proofs.Common.{◌≡◌, ℕ, ◌==◌, Bool, true, false, List, [], Option, Some, None, refl, sym, ap, subst, ◌∙◌, if◌then◌else◌}
-use Rattle.std.specs.Prelude.{unwrap_or, slice_get, is_some}
-use Rattle.std.specs.Option.{option_map}
-use Rattle.std.specs.Map.{lookup}
-use Rattle.std.specs.BTreeMap.{is_at}
-use Rattle.qs_base.specs.Order.{tid_cmp}
-use Rattle.qs_base.specs.declared.identifiers.Member.{Member}
-use Rattle.qs_base.specs.declared.identifiers.Tid.{Tid}
-use Rattle.qs_ops.specs.declared.operation.Op.{Op}
-use Rattle.qs_ops.specs.declared.vote.Vote.{Vote}
+use Rattle.qs_book_laws.proofs.Words.{◌≡◌, ℕ, ◌==◌, Bool, true, false, List, [], Option, Some, None, refl, sym, ap, subst, ◌∙◌, if◌then◌else◌, unwrap_or, slice_get, is_some, option_map, lookup, is_at, tid_cmp, Member, Tid, Op, Vote, Act, Entry, TableValue, share_of, released, nothing_held, Share, TransactionValue, part_of, is_crossed, is_covering, voted, BookValue, find_transaction, changed_at, crossed_in, vote, vote_node, inc_at, broken_vote, is_vote_due, is_server_vote, has_vote, broken_act}
+use Rattle.qs_book_laws.proofs.Words.{broken, effect_act, effect, NodeValue, pending_at, voter, voter_cmp, OnRecord, held_at, crossed_at}
 use Rattle.qs_ops.specs.declared.vote.Vote.TheVariants as votes
-use Rattle.qs_book_journal.specs.declared.entry.Act.{Act}
 use Rattle.qs_book_journal.specs.declared.entry.Act.TheVariants as acts
-use Rattle.qs_book_journal.specs.declared.entry.Entry.{Entry}
-use Rattle.qs_ops.specs.Table.{TableValue, share_of, released, nothing_held}
-use Rattle.qs_ops.specs.declared.share.Share.{Share}
-use Rattle.qs_book_machine.specs.Transaction.{TransactionValue, part_of, is_crossed, is_covering, voted}
-use Rattle.qs_book_machine.specs.Book.{BookValue, find_transaction, changed_at, crossed_in, vote, vote_node, inc_at}
-use Rattle.qs_book_machine.specs.Clauses.{broken_vote, is_vote_due, is_vote, is_server_vote, has_vote}
-use Rattle.qs_book_machine.specs.Lawful.{broken_act, broken, effect_act, effect}
-use Rattle.qs_book_machine.specs.Nodes.{NodeValue, pending_at, voter, voter_cmp}
-use Rattle.qs_book_machine.specs.declared.state.OnRecord.{OnRecord}
-use Rattle.qs_book_laws.specs.Served.{held_at, crossed_at}
+use Rattle.qs_book_machine.specs.Clauses.{is_vote}
 use Rattle.qs_book_laws.proofs.Acts as alike
 use Rattle.qs_book_laws.proofs.Alikes.{at_exact, voter_itself}
 use Rattle.qs_book_laws.proofs.Counts.{Count, count_of, of_transaction, abort_counts, is_for_commit, voted_count, voted_later}

@@ -1,27 +1,12 @@
 -- A transaction that may still be committed began in the incarnation in which its home is: a restart of the home aborts it,
 -- or commits it.
-use Rattle.std.proofs.Common.{◌≡◌, ℕ, zero, suc, ◌<◌, ◌≤◌, ◌==◌, ◌&&◌, ◌||◌, Bool, true, false, List, [], ◌∷◌, Option, Some, None, inl, inr, refl, sym, ap, subst, ◌∙◌, fold, arith, if◌then◌else◌}
-use Rattle.std.proofs.lemmas.Bool.Decides.{nat_tests}
-use Rattle.std.specs.Prelude.{slice_get, is_some}
-use Rattle.std.specs.List.{list_any}
+use Rattle.qs_book_laws.proofs.Words.{◌≡◌, ℕ, zero, suc, ◌<◌, ◌≤◌, ◌==◌, ◌&&◌, ◌||◌, Bool, true, false, List, [], ◌∷◌, Option, Some, None, inl, inr, refl, sym, ap, subst, ◌∙◌, fold, arith, if◌then◌else◌, nat_tests, slice_get, is_some, list_any, option_map, is_at, tid_cmp, Member, Tid, Act, Begin, Issue, Serve, Ask, Counted, Decide, Ending, Learn, Loan, Yield, Tick, Crash, Restart, Entry, Found, TransactionValue, is_open, decided_at, BookValue, find_transaction, changed_at, decide, begin, inc_at}
+use Rattle.qs_book_laws.proofs.Words.{is_in_order, broken_act, broken_node, broken_at, broken, effect_act, effect, NodeValue, restart, restarted_node, reopened, put_new_votes, new_votes, with_votes, abort_begun, begun_tid, is_open_here, up_to, begun_at, commit_found, vote_found, eq-eqb, or_right}
 use Rattle.std.proofs.lemmas.List.Folds.{list_any-append}
-use Rattle.std.specs.Option.{option_map}
-use Rattle.std.specs.BTreeMap.{is_at}
-use Rattle.qs_base.specs.Order.{tid_cmp}
-use Rattle.qs_base.specs.declared.identifiers.Member.{Member}
 use Rattle.qs_base.specs.declared.identifiers.Outcome.TheVariants as outcomes
-use Rattle.qs_base.specs.declared.identifiers.Tid.{Tid}
 use Rattle.qs_ops.specs.declared.answer.Cause.TheVariants as causes
-use Rattle.qs_book_journal.specs.declared.entry.Act.{Act}
-use Rattle.qs_book_journal.specs.declared.entry.Act.TheVariants.{Begin, Issue, Serve, Ask, Counted, Decide, Ending, Learn, Answer, Loan, Yield, Tick, Crash, Restart}
+use Rattle.qs_book_journal.specs.declared.entry.Act.TheVariants.{Answer}
 use Rattle.qs_book_journal.specs.declared.entry.Act.TheVariants as acts
-use Rattle.qs_book_journal.specs.declared.entry.Entry.{Entry}
-use Rattle.qs_book_journal.specs.declared.entry.Found.{Found}
-use Rattle.qs_book_machine.specs.Transaction.{TransactionValue, is_open, decided_at}
-use Rattle.qs_book_machine.specs.Book.{BookValue, find_transaction, changed_at, decide, begin, inc_at}
-use Rattle.qs_book_machine.specs.Lawful.{is_in_order, broken_act, broken_node, broken_at, broken, effect_act, effect}
-use Rattle.qs_book_machine.specs.Nodes.{NodeValue}
-use Rattle.qs_book_machine.specs.Restart.{restart, restarted_node, reopened, put_new_votes, new_votes, with_votes, abort_begun, begun_tid, is_open_here, up_to, begun_at, commit_found, vote_found}
 use Rattle.qs_book_laws.proofs.Acts as of
 use Rattle.qs_book_laws.proofs.Faces.{Face, face, face_at, Age, age, age_at, Alike, node_alike}
 use Rattle.qs_book_laws.proofs.Grows.{before_aborts, abort_alters}
@@ -32,6 +17,7 @@ use Rattle.qs_book_laws.proofs.Outcomes.{Inv, IsBegun, Kept, by_alike}
 use Rattle.qs_book_laws.proofs.Restarts.{Settles, settles_all, commit_settles, vote_settles, abort_settles, votes_age}
 use Rattle.qs_book_laws.proofs.Steps.{held}
 use Rattle.qs_book_laws.proofs.Takes.{some_of}
+use Rattle.qs_base_lemmas.proofs.Tests.{lt_not_equal}
 
 -- ---- incarnations
 
@@ -112,10 +98,7 @@ abort_one here tid book home known =
     itself = ap (λ (n : ℕ). begun_tid n tid.inc tid.seq) (sym home)
 
     at_home : (tid.home.0 == here) ≡ true
-    at_home = equal tid.home.0 here home
-      where
-        equal : (m n : ℕ) → m ≡ n → (m == n) ≡ true
-        equal m n e = grind (arith, nat_tests)
+    at_home = eq-eqb tid.home.0 here home
 
     cells : (tx : TransactionValue) → find_transaction book tid ≡ Some tx → (b : Bool) → is_open tx.cell ≡ b → IsClosed (if b then decide tid outcomes.Abort (Some (causes.Home tid.inc)) book else book) tid
     cells tx is true opened = record {
@@ -155,19 +138,12 @@ among_up_to : (n m : ℕ) → 0 < m → m ≤ n → list_any (λ k. k == m) (up_
 among_up_to zero m above below = absurd (omega arith)
 among_up_to (suc n) m above below = list_any-append (λ (k : ℕ). k == m) (up_to n) (suc n ∷ []) ∙ by (suc n == m) refl (among_up_to n m above)
   where
-    last : (a b : Bool) → b ≡ true → (a || b) ≡ true
-    last true b h = refl
-    last false b h = h
-
     less : (suc n == m) ≡ false → m ≤ n
     less h = grind (arith, nat_tests)
 
     by : (b : Bool) → (suc n == m) ≡ b → (m ≤ n → list_any (λ k. k == m) (up_to n) ≡ true) → (list_any (λ k. k == m) (up_to n) || ((suc n == m) || false)) ≡ true
-    by true is more = last (list_any (λ k. k == m) (up_to n)) ((suc n == m) || false) (rw is refl)
+    by true is more = or_right (list_any (λ k. k == m) (up_to n)) ((suc n == m) || false) (rw is refl)
     by false far more = let h : list_any (λ k. k == m) (up_to n) ≡ true = more (less far) in rw h refl
-
-later_not : (a b : ℕ) → a < b → a ≡ b → ⊥
-later_not a b h e = omega arith
 
 module _ (tid : Tid) (member : Member) (here inc : ℕ) (pend : List Found) (done : List Tid) (book : BookValue) (node : NodeValue)
     (i : Inv book) (at_here : slice_get book.nodes here ≡ Some node) (home : tid.home.0 ≡ here) (native : IsNative tid book) (known : is_some (find_transaction book tid) ≡ true) where
@@ -200,7 +176,7 @@ module _ (tid : Tid) (member : Member) (here inc : ℕ) (pend : List Found) (don
       by (i.begun tid (face tx.0) (age node) (ap (λ (o : Option TransactionValue). option_map face o) tx.1) (ap (age_at book) home ∙ aged))
     where
       by : IsBegun tid (age node) → tid.seq ≤ node.begun
-      by (inl earlier) = absurd (later_not tid.inc node.inc earlier its_inc.0)
+      by (inl earlier) = absurd (lt_not_equal tid.inc node.inc earlier its_inc.0)
       by (inr both) = both.1
 
   mid_here : slice_get mid.nodes here ≡ Some (with_votes (new_votes here book pend) node)

@@ -1,26 +1,12 @@
 -- A node that ran in an incarnation is in a later one exactly where an entry restarted it into a later one.
-use Rattle.std.proofs.Common.{◌≡◌, ◌⊎◌, inl, inr, ℕ, ◌<◌, ◌≤◌, ◌==◌, ◌&&◌, ◌||◌, Bool, true, false, List, [], ◌∷◌, Option, None, Some, refl, sym, ap, ◌∙◌, arith}
-use Rattle.std.proofs.lemmas.Bool.Decides.{nat_tests}
-use Rattle.std.specs.Prelude.{nat_lt, unwrap_or}
-use Rattle.std.specs.List.{list_any}
-use Rattle.qs_base.specs.declared.identifiers.NodeNo.{NodeNo}
-use Rattle.qs_book_journal.specs.declared.entry.Act.{Act}
-use Rattle.qs_book_journal.specs.declared.entry.Act.TheVariants.{Restart}
-use Rattle.qs_book_journal.specs.declared.entry.Entry.{Entry}
-use Rattle.qs_book_machine.specs.Book.{BookValue, inc_at}
-use Rattle.qs_book_machine.specs.Lawful.{broken, effect, IsLawful, book_after}
-use Rattle.qs_book_laws.specs.Gone.{is_restart_into, restarts_into, is_restart_beyond, restarts_beyond, ran_as}
-use Rattle.qs_book_laws.specs.Lives.{is_restart, restarts}
+use Rattle.qs_book_laws.proofs.Words.{◌≡◌, ◌⊎◌, inl, inr, ℕ, ◌<◌, ◌≤◌, ◌==◌, ◌&&◌, ◌||◌, Bool, true, false, List, [], ◌∷◌, Option, None, Some, refl, sym, ap, ◌∙◌, arith, nat_tests, nat_lt, unwrap_or, list_any, NodeNo, Act, Restart, Entry, BookValue, inc_at, broken, effect, IsLawful, book_after, restarts_into, ran_as, is_restart, restarts, or_left, or_right}
+use Rattle.qs_book_laws.specs.Gone.{is_restart_into, is_restart_beyond, restarts_beyond}
 use Rattle.qs_book_laws.proofs.Gone.{inc_as}
 use Rattle.qs_book_laws.proofs.Holding.{clash, left_of, same_number}
 use Rattle.qs_book_laws.proofs.Lives.{same_life, Reborn, reborn, Restarting, restarting}
 use Rattle.qs_book_laws.proofs.Pasts.{inc_rises}
 
 module _ (node : NodeNo) (gone : ℕ) where
-  off : (b : Bool) → (b && false) ≡ false
-  off true = refl
-  off false = refl
-
   -- ---- a step
 
   module _ (book : BookValue) (entry : Entry) (h : broken book entry ≡ None) where
@@ -111,14 +97,6 @@ module _ (node : NodeNo) (gone : ℕ) where
   beyond_only [] book lawful h = inl h
   beyond_only (entry ∷ entries) book lawful h = at (beyond_only entries (effect book entry) lawful.1 h)
     where
-      first : (a b : Bool) → a ≡ true → (a || b) ≡ true
-      first true b k = refl
-      first false b k = absurd (cc k)
-
-      second : (a b : Bool) → b ≡ true → (a || b) ≡ true
-      second true b k = refl
-      second false b k = k
-
       equal : (a b c : ℕ) → a < b → b ≡ c → a < c
       equal a b c k e = omega arith
 
@@ -126,11 +104,11 @@ module _ (node : NodeNo) (gone : ℕ) where
       now k false far = inl (equal gone (inc_at (effect book entry) node) (inc_at book node) k (same_inc book entry lawful.0 far))
       now k true near =
           let x : Reopened book entry lawful.0 = reopens book entry lawful.0 near in
-          inr (first (restarts_beyond node gone entry) (list_any (restarts_beyond node gone) entries) (x.beyond ∙ less gone (inc_at (effect book entry) node) x.inc k x.now))
+          inr (or_left (restarts_beyond node gone entry) (list_any (restarts_beyond node gone) entries) (x.beyond ∙ less gone (inc_at (effect book entry) node) x.inc k x.now))
 
       at : (gone < inc_at (effect book entry) node) ⊎ (list_any (restarts_beyond node gone) entries ≡ true) → (gone < inc_at book node) ⊎ (list_any (restarts_beyond node gone) (entry ∷ entries) ≡ true)
       at (inl k) = now k (restarts node entry) refl
-      at (inr k) = inr (second (restarts_beyond node gone entry) (list_any (restarts_beyond node gone) entries) k)
+      at (inr k) = inr (or_right (restarts_beyond node gone entry) (list_any (restarts_beyond node gone) entries) k)
 
   -- it restarted into that one from a lesser one
   into_rises : (entries : List Entry) (book : BookValue) → IsLawful book entries → list_any (restarts_into node gone) entries ≡ true → inc_at book node < gone

@@ -1,25 +1,12 @@
 -- Every lawful step changes committed files and notes by changes of committed transactions alone.
-use Rattle.std.proofs.Common.{◌≡◌, ℕ, ◌+◌, [], ◌∷◌, ◌++◌, Bool, true, false, not, List, Option, Some, None, refl, sym, ap, subst, ◌∙◌}
-use Rattle.std.specs.Prelude.{slice_get}
-use Rattle.std.specs.List.{list_all}
-use Rattle.qs_base.specs.declared.identifiers.ClientNo.{ClientNo}
-use Rattle.qs_base.specs.declared.identifiers.Member.{Member}
+use Rattle.qs_book_laws.proofs.Words.{◌≡◌, ℕ, ◌+◌, [], ◌∷◌, ◌++◌, Bool, true, false, not, List, Option, Some, None, refl, sym, ap, subst, ◌∙◌, slice_get, list_all, ClientNo, Member, Tid, Act, Begin, Issue, Serve, Ask, Counted, Decide, Ending, Learn, Loan, Yield, Tick, Crash, Restart, Entry, TransactionValue, asked_at, voted, learnt, BookValue, find_transaction, with_node, with_transaction, begin, vote, learn, learn_node, doubts_after, inc_at, broken_vote, broken_learn, is_in_order, broken_act}
+use Rattle.qs_book_laws.proofs.Words.{broken_node, broken_at, broken, effect_act, effect, IsLawful, book_after, NodeValue, pending_at, opening, broken_restart, is_found_commit, Opened, IsCoherent, IsCommitted, TakesCommitted, LeavesCommitted}
 use Rattle.qs_base.specs.declared.identifiers.Outcome.TheVariants as outcomes
-use Rattle.qs_base.specs.declared.identifiers.Tid.{Tid}
 use Rattle.qs_ops.specs.declared.vote.Vote.TheVariants as votes
-use Rattle.qs_book_journal.specs.declared.entry.Act.{Act}
-use Rattle.qs_book_journal.specs.declared.entry.Act.TheVariants.{Begin, Issue, Serve, Ask, Counted, Decide, Ending, Learn, Answer, Loan, Yield, Tick, Crash, Restart}
+use Rattle.qs_book_journal.specs.declared.entry.Act.TheVariants.{Answer}
 use Rattle.qs_book_journal.specs.declared.entry.Act.TheVariants as acts
-use Rattle.qs_book_journal.specs.declared.entry.Entry.{Entry}
-use Rattle.qs_book_machine.specs.Transaction.{TransactionValue, asked_at, voted, learnt}
-use Rattle.qs_book_machine.specs.Book.{BookValue, find_transaction, with_node, with_transaction, begin, vote, learn, learn_node, doubts_after, inc_at}
-use Rattle.qs_book_machine.specs.Clauses.{broken_ask, may_ask, broken_vote, broken_learn}
-use Rattle.qs_book_machine.specs.Lawful.{is_in_order, broken_act, broken_node, broken_at, broken, effect_act, effect, IsLawful, book_after}
-use Rattle.qs_book_machine.specs.Nodes.{NodeValue, pending_at}
-use Rattle.qs_book_machine.specs.Opening.{opening}
-use Rattle.qs_book_machine.specs.Restart.{broken_restart, is_found_commit}
-use Rattle.qs_book_machine.specs.declared.opened.Opened.{Opened}
-use Rattle.qs_book_laws.specs.Laws.{IsCoherent, IsCommitted, TakesCommitted, LeavesCommitted, may_take}
+use Rattle.qs_book_machine.specs.Clauses.{broken_ask, may_ask}
+use Rattle.qs_book_laws.specs.Laws.{may_take}
 use Rattle.qs_book_laws.proofs.Fates.{commit_stays}
 use Rattle.qs_book_laws.proofs.Histories.{learns_cell}
 use Rattle.qs_book_laws.proofs.Openings.{opening_holds}

@@ -1,34 +1,10 @@
 -- What a member served of a transaction, and what its votes cover, after each act.
-use Rattle.std.proofs.Common.{◌≡◌, ℕ, ◌+◌, Bool, true, false, List, [], ◌∷◌, ◌==◌, Option, Some, None, refl, sym, ap, subst, ◌∙◌, fold, if◌then◌else◌, arith}
-use Rattle.std.proofs.lemmas.Bool.Decides.{nat_tests}
-use Rattle.std.specs.Prelude.{unwrap_or, is_some}
-use Rattle.std.specs.Option.{option_map}
-use Rattle.std.specs.Map.{lookup}
-use Rattle.std.specs.Ordering.{nat_cmp}
-use Rattle.std.specs.BTreeMap.{insert_entry, is_at}
-use Rattle.std.specs.declared.cmp.Ordering.{Ordering}
-use Rattle.std.specs.declared.cmp.Ordering.TheVariants.{Less, Equal, Greater}
-use Rattle.std.proofs.lemmas.Map.Lookups.{exact_unsigned, exact_pairs}
-use Rattle.std.proofs.lemmas.Cmp.{tied_itself, nat_cmp_total}
-use Rattle.qs_base.specs.Order.{tid_cmp, member_cmp, same_member}
-use Rattle.qs_base.specs.declared.identifiers.Member.{Member}
-use Rattle.qs_base.specs.declared.identifiers.Outcome.{Outcome}
+use Rattle.qs_book_laws.proofs.Words.{◌≡◌, ℕ, ◌+◌, Bool, true, false, List, [], ◌∷◌, ◌==◌, Option, Some, None, refl, sym, ap, subst, ◌∙◌, fold, if◌then◌else◌, arith, nat_tests, unwrap_or, is_some, option_map, lookup, nat_cmp, insert_entry, is_at, Ordering, Less, Equal, Greater, exact_unsigned, exact_pairs, tied_itself, nat_cmp_total, tid_cmp, member_cmp, same_member, Member, Outcome, Tid, same_member-true, same_member-self, Cause, Vote, Found, class_of, TransactionValue, changed_value, part_of}
+use Rattle.qs_book_laws.proofs.Words.{no_part, life, life_cmp, learnt, learnt_part, lent, made_part, given_back, yielded_part, voted, voted_part, served_in, serving_part, found_at, found_part, with_learnt, decided_at, heard, Life, Part, RequestNo, BookValue, find_transaction, with_transaction, decide, hear, loan_to, give_back_from, inc_at, up_to, begun_at, abort_begun, vote_found, commit_found, learn_found, decide_found, is_among, is_open_here, begun_tid, record_at, member_at}
+use Rattle.qs_book_laws.proofs.Words.{count_of as pending_of, Asking}
 use Rattle.qs_base.specs.declared.identifiers.Outcome.TheVariants as outcomes
-use Rattle.qs_base.specs.declared.identifiers.Tid.{Tid}
-use Rattle.qs_base.proofs.Same.{same_member-true, same_member-self}
-use Rattle.qs_ops.specs.declared.answer.Cause.{Cause}
-use Rattle.qs_ops.specs.declared.vote.Vote.{Vote}
 use Rattle.qs_ops.specs.declared.vote.Vote.TheVariants as votes
-use Rattle.qs_book_journal.specs.declared.entry.Found.{Found}
-use Rattle.qs_ops.specs.Members.{class_of}
-use Rattle.qs_book_machine.specs.Transaction.{TransactionValue, changed_value, part_of, no_part, life, life_cmp, learnt, learnt_part, lent, made_part, given_back, yielded_part, voted, voted_part, served_in, serving_part, found_at, found_part, with_learnt, decided_at, heard}
-use Rattle.qs_book_machine.specs.declared.transaction.Life.{Life}
-use Rattle.qs_book_machine.specs.declared.transaction.Part.{Part}
-use Rattle.qs_book_machine.specs.declared.transaction.RequestNo.{RequestNo}
-use Rattle.qs_book_machine.specs.Book.{BookValue, find_transaction, with_transaction, decide, hear, loan_to, give_back_from, inc_at}
 use Rattle.qs_ops.specs.declared.answer.Cause.TheVariants as causes
-use Rattle.qs_book_machine.specs.Restart.{up_to, begun_at, abort_begun, vote_found, commit_found, learn_found, decide_found, is_among, is_open_here, begun_tid, record_at, member_at, count_of as pending_of}
-use Rattle.qs_book_machine.specs.declared.state.Asking.{Asking}
 use Rattle.qs_book_laws.proofs.Holding.{member_equal, clash, settled}
 use Rattle.qs_book_laws.proofs.Maps.{changed_alike, changed_apart, changed_none, lookup_changed, lookup_put, lookup_put_apart}
 

@@ -1,34 +1,10 @@
 -- As commit is decided, a member's record is all that it has pending.
-use Rattle.std.proofs.Common.{◌≡◌, ℕ, ◌≤◌, Bool, true, false, List, [], ◌∷◌, ◌++◌, ◌&&◌, Option, Some, None, refl, sym, ap, subst, ◌∙◌, arith}
-use Rattle.std.specs.Prelude.{unwrap_or, slice_get}
-use Rattle.std.specs.Option.{option_map}
-use Rattle.std.specs.List.{list_all}
-use Rattle.std.specs.Map.{lookup}
-use Rattle.std.specs.BTreeMap.{is_at}
-use Rattle.std.proofs.lemmas.List.{append-nil}
-use Rattle.qs_base.specs.Order.{tid_cmp}
-use Rattle.qs_base.specs.declared.identifiers.Member.{Member}
+use Rattle.qs_book_laws.proofs.Words.{◌≡◌, ℕ, ◌≤◌, Bool, true, false, List, [], ◌∷◌, ◌++◌, ◌&&◌, Option, Some, None, refl, sym, ap, subst, ◌∙◌, le_refl, unwrap_or, slice_get, option_map, list_all, lookup, is_at, append-nil, tid_cmp, Member, Tid, Op, Act, Entry, class_of, TransactionValue, changed_value, life, life_cmp, no_part, voted, is_unanimous, agrees, agrees_in, is_empty, Life, Part, BookValue, find_transaction, changed_at, broken_decide, broken_outcome, may_decide, broken_act, broken}
+use Rattle.qs_book_laws.proofs.Words.{effect_act, effect, IsLawful, book_after, NodeValue, pending_at, record_of, changes_of, voter, voter_cmp, opening, record_at, Opened, OnRecord, IsCoherent, change_served, crossed_at, held_at, keeps_contents, lets_go}
 use Rattle.qs_base.specs.declared.identifiers.Outcome.TheVariants as outcomes
-use Rattle.qs_base.specs.declared.identifiers.Tid.{Tid}
-use Rattle.qs_ops.specs.declared.operation.Op.{Op}
 use Rattle.qs_ops.specs.declared.vote.Vote.TheVariants as votes
-use Rattle.qs_book_journal.specs.declared.entry.Act.{Act}
 use Rattle.qs_book_journal.specs.declared.entry.Act.TheVariants as acts
-use Rattle.qs_book_journal.specs.declared.entry.Entry.{Entry}
-use Rattle.qs_ops.specs.Members.{class_of}
-use Rattle.qs_book_machine.specs.Transaction.{TransactionValue, changed_value, life, life_cmp, no_part, voted, is_unanimous, agrees, agrees_in, is_empty}
-use Rattle.qs_book_machine.specs.declared.transaction.Life.{Life}
-use Rattle.qs_book_machine.specs.declared.transaction.Part.{Part}
-use Rattle.qs_book_machine.specs.Book.{BookValue, find_transaction, changed_at}
-use Rattle.qs_book_machine.specs.Clauses.{broken_decide, broken_outcome, may_decide}
-use Rattle.qs_book_machine.specs.Lawful.{broken_act, broken, effect_act, effect, IsLawful, book_after}
-use Rattle.qs_book_machine.specs.Nodes.{NodeValue, pending_at, record_of, changes_of, voter, voter_cmp}
-use Rattle.qs_book_machine.specs.Opening.{opening}
-use Rattle.qs_book_machine.specs.Restart.{record_at}
-use Rattle.qs_book_machine.specs.declared.opened.Opened.{Opened}
-use Rattle.qs_book_machine.specs.declared.state.OnRecord.{OnRecord}
-use Rattle.qs_book_laws.specs.Laws.{IsCoherent}
-use Rattle.qs_book_laws.specs.Served.{change_served, crossed_at, held_at, keeps_contents, lets_go, NeverVotes, IsHolding}
+use Rattle.qs_book_laws.specs.Served.{NeverVotes, IsHolding}
 use Rattle.qs_book_laws.proofs.Alikes.{voter_itself}
 use Rattle.qs_book_laws.proofs.Counts.{Count, counts, count_in, voted_count, count_of, no_count, life_exact}
 use Rattle.qs_book_laws.proofs.Covering.{Covers, step_covers}
@@ -43,6 +19,7 @@ use Rattle.qs_book_laws.proofs.Outcomes.{Inv, Moves}
 use Rattle.qs_book_laws.proofs.Shares.{number}
 use Rattle.qs_book_laws.proofs.Steps.{held, stepped, ran, after_both, lawful_front, lawful_rest}
 use Rattle.qs_book_laws.proofs.Faces.{vote_by, recorded_by}
+use Rattle.qs_base_lemmas.proofs.Tests.{eq_le}
 
 -- ---- the vote
 
@@ -51,16 +28,10 @@ count_most : (tid : Tid) (member : Member) (inc : ℕ) (es : List (Tid × Transa
     ≤ (unwrap_or (option_map (count_in member inc) (lookup (is_at (tid_cmp tid)) (changed_value (is_at (tid_cmp tid)) (voted member inc votes.Recoverable) es))) no_count).served
 count_most tid member inc es None is =
     subst (λ (o : Option TransactionValue). (unwrap_or (option_map (count_in member inc) o) no_count).covered ≤ (unwrap_or (option_map (count_in member inc) o) no_count).served)
-    (sym (changed_none (is_at (tid_cmp tid)) (voted member inc votes.Recoverable) es is)) (none 0)
-  where
-    none : (n : ℕ) → n ≤ n
-    none n = omega arith
+    (sym (changed_none (is_at (tid_cmp tid)) (voted member inc votes.Recoverable) es is)) (le_refl 0)
 count_most tid member inc es (Some tx) is =
     subst (λ (o : Option TransactionValue). (unwrap_or (option_map (count_in member inc) o) no_count).covered ≤ (unwrap_or (option_map (count_in member inc) o) no_count).served)
-    (sym (lookup_changed (is_at (tid_cmp tid)) (voted member inc votes.Recoverable) es tx is)) (most _ _ (voted_count member inc votes.Recoverable tx refl))
-  where
-    most : (m n : ℕ) → m ≡ n → m ≤ n
-    most m n e = omega arith
+    (sym (lookup_changed (is_at (tid_cmp tid)) (voted member inc votes.Recoverable) es tx is)) (eq_le _ _ (voted_count member inc votes.Recoverable tx refl))
 
 first_covers : (book : BookValue) (entry : Entry) (tid : Tid) (member : Member) (covers : ℕ) → broken book entry ≡ None → entry.act ≡ acts.Vote tid member votes.Recoverable covers
     → held_at (effect book entry) tid member ≡ held_at book tid member → Covers tid member (effect book entry)

@@ -1,16 +1,6 @@
 -- While a member does not vote again, its record is all that it has pending, unless it served something since.
-use Rattle.std.proofs.Common.{◌≡◌, ℕ, ◌+◌, ◌≤◌, Bool, true, false, List, [], ◌++◌, Some, None, refl, sym, ap, subst, ◌∙◌, arith}
-use Rattle.std.proofs.lemmas.List.{append-nil}
-use Rattle.qs_base.specs.declared.identifiers.Member.{Member}
-use Rattle.qs_base.specs.declared.identifiers.Tid.{Tid}
-use Rattle.qs_ops.specs.declared.operation.Op.{Op}
-use Rattle.qs_book_journal.specs.declared.entry.Act.{Act}
+use Rattle.qs_book_laws.proofs.Words.{◌≡◌, ℕ, ◌+◌, ◌≤◌, Bool, true, false, List, [], ◌++◌, Some, None, refl, sym, ap, subst, ◌∙◌, arith, append-nil, Member, Tid, Op, Act, Entry, BookValue, broken, effect, changes_of, change_served, held_at, lets_go, votes_on, le_one_more}
 use Rattle.qs_book_journal.specs.declared.entry.Act.TheVariants as acts
-use Rattle.qs_book_journal.specs.declared.entry.Entry.{Entry}
-use Rattle.qs_book_machine.specs.Book.{BookValue}
-use Rattle.qs_book_machine.specs.Lawful.{broken, effect}
-use Rattle.qs_book_machine.specs.Nodes.{changes_of}
-use Rattle.qs_book_laws.specs.Served.{change_served, held_at, lets_go, votes_on}
 use Rattle.qs_book_laws.proofs.Counts.{Count, count_of}
 use Rattle.qs_book_laws.proofs.Covers.{Mark, mark_of}
 use Rattle.qs_book_laws.proofs.Leaves.{Leaves, serves_on, step_leaves}
@@ -44,13 +34,10 @@ module _ (tid : Tid) (member : Member) where
       record {
         mark = c.mark;
         at = serves.mark ∙ c.at;
-        most = subst (λ (k : Count). k.covered ≤ k.served) (sym after) (above (count_of old tid member c.mark.inc).covered (count_of old tid member c.mark.inc).served c.most);
+        most = subst (λ (k : Count). k.covered ≤ k.served) (sym after) (le_one_more (count_of old tid member c.mark.inc).covered (count_of old tid member c.mark.inc).served c.most);
         all = λ h. absurd (beyond (count_of old tid member c.mark.inc).covered (count_of old tid member c.mark.inc).served c.most (subst (λ (k : Count). k.covered ≡ k.served) after h));
       }
     where
-      above : (m n : ℕ) → m ≤ n → m ≤ n + 1
-      above m n h = omega arith
-
       beyond : (m n : ℕ) → m ≤ n → m ≡ n + 1 → ⊥
       beyond m n h k = omega arith
 

@@ -1,21 +1,6 @@
 -- While a member does not vote again, its record is all that it has pending, unless it served something since.
-use Rattle.std.proofs.Common.{◌≡◌, ℕ, Bool, true, false, List, ◌==◌, ◌&&◌, Option, Some, None, refl, sym, ap, subst, ◌∙◌, arith}
-use Rattle.std.proofs.lemmas.Bool.Decides.{nat_tests}
-use Rattle.std.specs.Prelude.{unwrap_or, slice_get}
-use Rattle.std.specs.Option.{option_map}
-use Rattle.std.specs.Map.{lookup}
-use Rattle.std.specs.BTreeMap.{is_at}
-use Rattle.qs_base.specs.Order.{tid_cmp, same_tid, same_member}
-use Rattle.qs_base.specs.declared.identifiers.Member.{Member}
-use Rattle.qs_base.specs.declared.identifiers.Tid.{Tid}
-use Rattle.qs_base.proofs.Same.{same_tid-self}
+use Rattle.qs_book_laws.proofs.Words.{◌≡◌, ℕ, Bool, true, false, List, ◌==◌, ◌&&◌, Option, Some, None, refl, sym, ap, subst, ◌∙◌, unwrap_or, slice_get, option_map, lookup, is_at, tid_cmp, same_tid, same_member, Member, Tid, same_tid-self, TransactionValue, BookValue, changed_at, with_transaction, vote_node, NodeValue, record_of, voter, voter_cmp, without_record, OnRecord, Voter, is_share, eq-eqb}
 use Rattle.qs_ops.specs.declared.vote.Vote.TheVariants as votes
-use Rattle.qs_book_machine.specs.Transaction.{TransactionValue}
-use Rattle.qs_book_machine.specs.Book.{BookValue, changed_at, with_transaction, vote_node}
-use Rattle.qs_book_machine.specs.Nodes.{NodeValue, record_of, voter, voter_cmp, without_record}
-use Rattle.qs_book_machine.specs.declared.state.OnRecord.{OnRecord}
-use Rattle.qs_book_machine.specs.declared.state.Voter.{Voter}
-use Rattle.qs_book_laws.specs.Served.{is_share}
 use Rattle.qs_book_laws.proofs.Alikes.{at_exact, voter_exact, voter_equal}
 use Rattle.qs_book_laws.proofs.Counts.{count_in, no_count, Counted as SameCount, of_transaction}
 use Rattle.qs_book_laws.proofs.Faces.{Age, age, Alike}
@@ -98,15 +83,12 @@ module _ (tid : Tid) (member : Member) where
       split true false z h yes_y yes_z = absurd (cc yes_y)
       split true true false h yes_y yes_z = absurd (cc yes_z)
 
-      equal : (m n : ℕ) → m ≡ n → (m == n) ≡ true
-      equal m n e = grind (arith, nat_tests)
-
       by : (c : Bool) → (other.node.0 == member.node.0) ≡ c
           → option_map (mark_in tid member.server.0) (slice_get (changed_at other.node.0 f nodes) member.node.0) ≡ option_map (mark_in tid member.server.0) (slice_get nodes member.node.0)
       by false far = ap (λ (o : Option NodeValue). option_map (mark_in tid member.server.0) o) (elsewhere f nodes other.node.0 member.node.0 far)
       by true near =
           changed_at_alike (mark_in tid member.server.0) f
-          (λ v. keeps v (λ e. split (same_tid t tid) (other.node.0 == member.node.0) (other.server.0 == member.server.0) apart near (equal other.server.0 member.server.0 e))) nodes other.node.0 member.node.0
+          (λ v. keeps v (λ e. split (same_tid t tid) (other.node.0 == member.node.0) (other.server.0 == member.server.0) apart near (eq-eqb other.server.0 member.server.0 e))) nodes other.node.0 member.node.0
 
   -- a vote that goes on record
   pub put_mark : (t : Tid) (k count : ℕ) (crossed : Bool) (covers : ℕ) (v : NodeValue) → (k ≡ member.server.0 → same_tid t tid ≡ false) → mark_in tid member.server.0 (vote_node count crossed t k votes.Recoverable covers v) ≡ mark_in tid member.server.0 v

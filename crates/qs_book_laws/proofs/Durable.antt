@@ -1,37 +1,12 @@
 -- From a commit on, the changes of the transaction are kept at files and audit until an entry applies them, and gone after it.
-use Rattle.std.proofs.Common.{◌≡◌, ◌⊎◌, inl, inr, ℕ, Bool, true, false, List, [], ◌∷◌, ◌++◌, Option, Some, None, refl, sym, ap, subst, ◌∙◌, nat_lt}
-use Rattle.std.specs.Prelude.{slice_get, length, unwrap_or}
-use Rattle.std.specs.Option.{option_map}
-use Rattle.std.proofs.lemmas.List.{append-nil}
-use Rattle.qs_base.specs.Order.{tid_cmp}
-use Rattle.qs_base.specs.declared.identifiers.Member.{Member}
-use Rattle.qs_base.specs.declared.identifiers.NodeNo.{NodeNo}
-use Rattle.qs_base.specs.declared.identifiers.Outcome.{Outcome}
+use Rattle.qs_book_laws.proofs.Words.{◌≡◌, ◌⊎◌, inl, inr, ℕ, Bool, true, false, List, [], ◌∷◌, ◌++◌, Option, Some, None, refl, sym, ap, subst, ◌∙◌, nat_lt, slice_get, length, unwrap_or, option_map, append-nil, tid_cmp, Member, NodeNo, Outcome, Tid, same_tid-true, same_member-true, Op, Reply, Vote, Act, Entry, Found, nothing_held, Share, cell_of, BookValue, find_transaction, cell_of_transaction, changed_at, learn_node, doubts_after, broken_act, broken, effect_act, effect, IsLawful, book_after}
+use Rattle.qs_book_laws.proofs.Words.{NodeValue, pending_at, record_of, changes_of, voter, voter_cmp, opening, record_at, Opened, OnRecord, IsKept, Applies, IsCommitted, IsCoherent, is_share, change_served, held_at, keeps_contents, lets_go, votes_on}
 use Rattle.qs_base.specs.declared.identifiers.Outcome.TheVariants as outcomes
-use Rattle.qs_base.specs.declared.identifiers.Tid.{Tid}
-use Rattle.qs_base.proofs.Same.{same_tid-true, same_member-true}
-use Rattle.qs_ops.specs.declared.operation.Op.{Op}
-use Rattle.qs_ops.specs.declared.reply.Reply.{Reply}
-use Rattle.qs_ops.specs.declared.vote.Vote.{Vote}
 use Rattle.qs_ops.specs.declared.vote.Vote.TheVariants as votes
-use Rattle.qs_book_journal.specs.declared.entry.Act.{Act}
 use Rattle.qs_book_journal.specs.declared.entry.Act.TheVariants as acts
-use Rattle.qs_book_journal.specs.declared.entry.Entry.{Entry}
-use Rattle.qs_book_journal.specs.declared.entry.Found.{Found}
-use Rattle.qs_ops.specs.Table.{nothing_held}
-use Rattle.qs_ops.specs.declared.share.Share.{Share}
-use Rattle.qs_book_machine.specs.Transaction.{cell_of}
 use Rattle.qs_book_machine.specs.declared.transaction.Cell.TheVariants as cells
-use Rattle.qs_book_machine.specs.Book.{BookValue, find_transaction, cell_of_transaction, changed_at, learn_node, doubts_after}
-use Rattle.qs_book_machine.specs.Lawful.{broken_act, broken, effect_act, effect, IsLawful, book_after}
-use Rattle.qs_book_machine.specs.Nodes.{NodeValue, pending_at, record_of, changes_of, voter, voter_cmp}
-use Rattle.qs_book_machine.specs.Opening.{opening}
-use Rattle.qs_book_machine.specs.Restart.{record_at}
-use Rattle.qs_book_machine.specs.declared.opened.Opened.{Opened}
-use Rattle.qs_book_machine.specs.declared.state.OnRecord.{OnRecord}
-use Rattle.qs_book_laws.specs.Durable.{IsKept, IsGone, LearnsCommit, Applies, IsGoneThrough, IsDurable}
-use Rattle.qs_book_laws.specs.Laws.{IsCommitted, IsCoherent}
-use Rattle.qs_book_laws.specs.Served.{is_share, change_served, held_at, keeps_contents, lets_go, votes_on, HasApplied}
+use Rattle.qs_book_laws.specs.Durable.{IsGone, LearnsCommit, IsGoneThrough, IsDurable}
+use Rattle.qs_book_laws.specs.Served.{HasApplied}
 use Rattle.qs_book_laws.proofs.Acts as alike
 use Rattle.qs_book_laws.proofs.Alikes.{at_exact, voter_exact}
 use Rattle.qs_book_laws.proofs.Committed.{ran_shut}
@@ -55,6 +30,7 @@ use Rattle.qs_book_laws.proofs.ShutOpenings.{opening_shut}
 use Rattle.qs_book_laws.proofs.Steps.{stepped, ran, lawful_front, lawful_rest}
 use Rattle.qs_book_laws.proofs.Tidy.{IsTidy, AllTidy, step_tidy, opening_tidy}
 use Rattle.qs_book_laws.proofs.Unanimous.{Commits, alike_back, step_commits}
+use Rattle.std.proofs.lemmas.Bool.{false_from_ne_true}
 
 -- ---- what an act does at the member
 
@@ -160,15 +136,11 @@ module _ (tid : Tid) (member : Member) where
     on_record = record_marked (effect book entry) ∙ (ap recorded (step_leaves tid member book entry i h holds quiet idle).mark ∙ sym (record_marked book));
   }
     where
-      off : (b : Bool) → (b ≡ true → ⊥) → b ≡ false
-      off true no_so = absurd (no_so refl)
-      off false no_so = refl
-
       idle : serves_on tid member entry.act ≡ false
-      idle = off (serves_on tid member entry.act) (λ is. never_serves book entry h r (serving entry.act is))
+      idle = false_from_ne_true (serves_on tid member entry.act) (λ is. never_serves book entry h r (serving entry.act is))
 
       quiet : votes_on tid member entry.act ≡ false
-      quiet = off (votes_on tid member entry.act) (λ is. never_votes book entry h now (voting entry.act is))
+      quiet = false_from_ne_true (votes_on tid member entry.act) (λ is. never_votes book entry h now (voting entry.act is))
 
   -- ---- the member learns commit
 

@@ -1,24 +1,9 @@
 -- A life of a node that has ended, or is still to come, is no more and not yet: no entry changes what a member did in it.
-use Rattle.std.proofs.Common.{◌≡◌, ℕ, ◌<◌, ◌==◌, ◌&&◌, Bool, true, false, List, [], ◌∷◌, Option, Some, None, refl, sym, ap, subst, ◌∙◌, if◌then◌else◌, arith}
-use Rattle.std.proofs.lemmas.Bool.Decides.{nat_tests}
-use Rattle.std.specs.Prelude.{slice_get, nat_lt}
-use Rattle.qs_base.specs.Order.{same_tid, same_member}
-use Rattle.qs_base.specs.declared.identifiers.ClientNo.{ClientNo}
-use Rattle.qs_base.specs.declared.identifiers.Member.{Member}
-use Rattle.qs_base.specs.declared.identifiers.Tid.{Tid}
-use Rattle.qs_base.proofs.Same.{same_member-true}
-use Rattle.qs_ops.specs.Members.{class_of}
-use Rattle.qs_book_journal.specs.declared.entry.Act.{Act}
-use Rattle.qs_book_journal.specs.declared.entry.Act.TheVariants.{Begin, Issue, Serve, Ask, Counted, Decide, Ending, Learn, Answer, Loan, Yield, Tick, Crash, Restart}
+use Rattle.qs_book_laws.proofs.Words.{◌≡◌, ℕ, ◌<◌, ◌==◌, ◌&&◌, Bool, true, false, List, [], ◌∷◌, Option, Some, None, refl, sym, ap, subst, ◌∙◌, if◌then◌else◌, arith, nat_tests, slice_get, nat_lt, same_tid, same_member, ClientNo, Member, Tid, same_member-true, class_of, Act, Begin, Issue, Serve, Ask, Counted, Decide, Ending, Learn, Loan, Yield, Tick, Crash, Restart, Entry, TransactionValue, borrower, serving_part, voted_part, learnt_part, ended_part, made_part, yielded_part, Part, BookValue}
+use Rattle.qs_book_laws.proofs.Words.{find_transaction, inc_at, is_done, borrower_at, broken_ending, may_end, is_in_order, broken_act, broken_at, broken, effect, IsLawful, book_after, NodeValue, restarts}
+use Rattle.qs_book_journal.specs.declared.entry.Act.TheVariants.{Answer}
 use Rattle.qs_book_journal.specs.declared.entry.Act.TheVariants as acts
-use Rattle.qs_book_journal.specs.declared.entry.Entry.{Entry}
-use Rattle.qs_book_machine.specs.Transaction.{TransactionValue, borrower, serving_part, voted_part, learnt_part, ended_part, made_part, yielded_part}
-use Rattle.qs_book_machine.specs.declared.transaction.Part.{Part}
-use Rattle.qs_book_machine.specs.Book.{BookValue, find_transaction, inc_at, is_done}
-use Rattle.qs_book_machine.specs.Clauses.{borrower_at, broken_ending, may_end, is_immediate}
-use Rattle.qs_book_machine.specs.Lawful.{is_in_order, broken_act, broken_at, broken, effect, IsLawful, book_after}
-use Rattle.qs_book_machine.specs.Nodes.{NodeValue}
-use Rattle.qs_book_laws.specs.Lives.{restarts}
+use Rattle.qs_book_machine.specs.Clauses.{is_immediate}
 use Rattle.qs_book_laws.proofs.Begun.{inc_in}
 use Rattle.qs_book_laws.proofs.Holding.{left_of, right_of, same_number, serve_here, vote_here, learn_here}
 use Rattle.qs_book_laws.proofs.Lives.{same_life, inc_is, Reborn, reborn, Restarting, restarting, step_part, none_born, later_born}

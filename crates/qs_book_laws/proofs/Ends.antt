@@ -1,26 +1,12 @@
 -- What a member does with what it has pending: a vote puts it on record, or says that there is nothing; commit applies it.
-use Rattle.std.proofs.Common.{◌≡◌, ℕ, suc, Bool, true, false, not, List, [], ◌∷◌, ◌==◌, Option, Some, None, refl, sym, ap, subst, ◌∙◌, if◌then◌else◌, arith}
-use Rattle.std.proofs.lemmas.Bool.Decides.{nat_tests}
-use Rattle.std.specs.Prelude.{unwrap_or, slice_get, length}
-use Rattle.std.specs.Option.{option_map}
-use Rattle.qs_base.specs.declared.identifiers.Member.{Member}
+use Rattle.qs_book_laws.proofs.Words.{◌≡◌, ℕ, suc, Bool, true, false, not, List, [], ◌∷◌, ◌==◌, Option, Some, None, refl, sym, ap, subst, ◌∙◌, if◌then◌else◌, arith, nat_tests, unwrap_or, slice_get, length, option_map, Member, Tid, Op, Act, Entry, TableValue, share_of, TransactionValue, part_of, is_crossed, BookValue, find_transaction, changed_at, crossed_in, learn_node, doubts_after, broken_vote, is_vote_due, is_server_vote, is_covering, is_in_order, broken_act, broken_node, broken_at, broken}
+use Rattle.qs_book_laws.proofs.Words.{effect_act, effect, NodeValue, pending_at, record_of, voter, voter_cmp, record_at, OnRecord, held_at, crossed_at, keeps_contents}
 use Rattle.qs_base.specs.declared.identifiers.Outcome.TheVariants as outcomes
-use Rattle.qs_base.specs.declared.identifiers.Tid.{Tid}
-use Rattle.qs_ops.specs.declared.operation.Op.{Op}
 use Rattle.qs_ops.specs.declared.vote.Vote.TheVariants as votes
-use Rattle.qs_book_journal.specs.declared.entry.Act.{Act}
 use Rattle.qs_book_journal.specs.declared.entry.Act.TheVariants as acts
-use Rattle.qs_book_journal.specs.declared.entry.Entry.{Entry}
-use Rattle.qs_ops.specs.Table.{TableValue, share_of, has_changes}
-use Rattle.qs_book_machine.specs.Transaction.{TransactionValue, part_of, is_crossed}
-use Rattle.qs_book_machine.specs.Book.{BookValue, find_transaction, changed_at, crossed_in, learn_node, doubts_after}
-use Rattle.qs_book_machine.specs.Clauses.{broken_vote, is_vote_due, is_vote, is_server_vote}
-use Rattle.qs_book_machine.specs.Transaction.{is_covering}
-use Rattle.qs_book_machine.specs.Lawful.{is_in_order, broken_act, broken_node, broken_at, broken, effect_act, effect}
-use Rattle.qs_book_machine.specs.Nodes.{NodeValue, pending_at, record_of, voter, voter_cmp}
-use Rattle.qs_book_machine.specs.Restart.{record_at}
-use Rattle.qs_book_machine.specs.declared.state.OnRecord.{OnRecord}
-use Rattle.qs_book_laws.specs.Served.{held_at, crossed_at, keeps_contents, HasApplied}
+use Rattle.qs_ops.specs.Table.{has_changes}
+use Rattle.qs_book_machine.specs.Clauses.{is_vote}
+use Rattle.qs_book_laws.specs.Served.{HasApplied}
 use Rattle.qs_book_laws.proofs.Alikes.{voter_itself}
 use Rattle.qs_book_laws.proofs.Holding.{vote_here, learn_here, which}
 use Rattle.qs_book_laws.proofs.Maps.{lookup_put, changed_at_here}

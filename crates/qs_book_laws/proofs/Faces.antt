@@ -1,23 +1,7 @@
 -- What the laws see of a book: of each transaction its cell, cause and owner, of each node its incarnation and how many
 -- transactions were begun in it, of each client what it may be told of outcomes. And steps that leave it.
-use Rattle.std.proofs.Common.{◌≡◌, ℕ, Bool, true, false, List, Option, refl, ◌∙◌, if◌then◌else◌}
-use Rattle.std.specs.Prelude.{slice_get}
-use Rattle.std.specs.Option.{option_map}
-use Rattle.std.specs.BTreeMap.{is_at}
-use Rattle.qs_base.specs.Order.{tid_cmp}
-use Rattle.qs_base.specs.declared.identifiers.ClientNo.{ClientNo}
-use Rattle.qs_base.specs.declared.identifiers.Tid.{Tid}
-use Rattle.qs_ops.specs.declared.answer.Cause.{Cause}
-use Rattle.qs_book_machine.specs.Transaction.{TransactionValue}
-use Rattle.qs_book_machine.specs.declared.transaction.Cell.{Cell}
-use Rattle.qs_book_machine.specs.Book.{BookValue, find_transaction, with_node, with_transaction, with_owner, pending_in, crossed_in, inc_at, vote_node}
-use Rattle.qs_book_machine.specs.Nodes.{NodeValue}
-use Rattle.qs_book_machine.specs.declared.state.Owner.{Owner}
+use Rattle.qs_book_laws.proofs.Words.{◌≡◌, ℕ, Bool, true, false, List, Option, refl, ◌∙◌, if◌then◌else◌, slice_get, option_map, is_at, tid_cmp, ClientNo, Tid, Cause, TransactionValue, Cell, BookValue, find_transaction, with_node, with_transaction, with_owner, pending_in, crossed_in, inc_at, vote_node, NodeValue, Owner, Member, Vote, Op, OnRecord}
 use Rattle.qs_book_laws.proofs.Maps.{changed_alike, changed_at_alike}
-use Rattle.qs_base.specs.declared.identifiers.Member.{Member}
-use Rattle.qs_ops.specs.declared.vote.Vote.{Vote}
-use Rattle.qs_ops.specs.declared.operation.Op.{Op}
-use Rattle.qs_book_machine.specs.declared.state.OnRecord.{OnRecord}
 
 pub record Face : Type 0 where
   pub cell : Cell

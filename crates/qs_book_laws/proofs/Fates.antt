@@ -1,21 +1,10 @@
 -- Each Commit that a restart finds is of a transaction whose cell is commit after it, or one that the log held as the run
 -- began.
-use Rattle.std.proofs.Common.{◌≡◌, ◌⊎◌, ℕ, [], ◌∷◌, ◌==◌, ◌&&◌, ◌||◌, Bool, true, false, List, Option, Some, None, fold, inl, inr, refl, sym, ap, subst, ◌∙◌, if◌then◌else◌}
-use Rattle.std.specs.Prelude.{is_some}
-use Rattle.std.specs.List.{list_all, AllByRecursion}
-use Rattle.std.specs.Map.{lookup}
-use Rattle.std.specs.Option.{option_map}
-use Rattle.std.specs.BTreeMap.{is_at}
-use Rattle.qs_base.specs.Order.{tid_cmp}
+use Rattle.qs_book_laws.proofs.Words.{◌≡◌, ◌⊎◌, ℕ, [], ◌∷◌, ◌==◌, ◌&&◌, ◌||◌, Bool, true, false, List, Option, Some, None, fold, inl, inr, refl, sym, ap, subst, ◌∙◌, if◌then◌else◌, is_some, list_all, AllByRecursion, lookup, option_map, is_at, tid_cmp, Tid, TransactionValue, is_open, is_commit, is_unanimous, decided_at, with_learnt, Cell, BookValue, find_transaction, cell_of_transaction, with_transaction, decide, NodeValue, is_among, member_at, record_at, is_open_here, learn_found, decide_found}
+use Rattle.qs_book_laws.proofs.Words.{commit_found, is_found_commit, IsCommitted}
 use Rattle.qs_base.specs.declared.identifiers.Outcome.TheVariants as outcomes
-use Rattle.qs_base.specs.declared.identifiers.Tid.{Tid}
-use Rattle.qs_book_machine.specs.Transaction.{TransactionValue, is_open, is_commit, is_unanimous, decided_at, with_learnt}
-use Rattle.qs_book_machine.specs.declared.transaction.Cell.{Cell}
 use Rattle.qs_book_machine.specs.declared.transaction.Cell.TheVariants as cells
-use Rattle.qs_book_machine.specs.Book.{BookValue, find_transaction, cell_of_transaction, with_transaction, decide}
-use Rattle.qs_book_machine.specs.Nodes.{NodeValue}
-use Rattle.qs_book_machine.specs.Restart.{is_among, member_at, record_at, is_open_here, learn_found, decide_found, commit_found, is_committed, is_found_commit}
-use Rattle.qs_book_laws.specs.Laws.{IsCommitted}
+use Rattle.qs_book_machine.specs.Restart.{is_committed}
 use Rattle.qs_book_laws.proofs.Faces.{Face, face, Alike, alike_self, alike_then, transaction_alike}
 use Rattle.qs_book_laws.proofs.Histories.{stays}
 use Rattle.qs_book_laws.proofs.Maps.{Either, lookup_changed, changed_either}

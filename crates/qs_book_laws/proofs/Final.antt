@@ -1,37 +1,15 @@
 -- Once a member has learnt an outcome, nothing of the transaction is served at its node in that life.
-use Rattle.std.proofs.Common.{◌≡◌, ◌⊎◌, inl, inr, ℕ, ◌==◌, ◌&&◌, ◌||◌, Bool, true, false, List, [], ◌∷◌, ◌++◌, Option, Some, None, refl, sym, ap, subst, ◌∙◌, if◌then◌else◌, arith}
-use Rattle.std.proofs.lemmas.Bool.Decides.{nat_tests}
-use Rattle.std.specs.Prelude.{slice_get}
-use Rattle.std.specs.List.{list_any}
-use Rattle.qs_base.specs.declared.identifiers.Class.{Class}
+use Rattle.qs_book_laws.proofs.Words.{◌≡◌, ◌⊎◌, inl, inr, ℕ, ◌==◌, ◌&&◌, ◌||◌, Bool, true, false, List, [], ◌∷◌, ◌++◌, Option, Some, None, refl, sym, ap, subst, ◌∙◌, if◌then◌else◌, slice_get, list_any, Class, Member, NodeNo, Outcome, Tid, same_tid-self, same_member-self, class_of, Reply, Vote, Act, Serve, Ending, Learn, Loan, Yield, Entry, TransactionValue, part_of, cell_of, serving_part, voted_part, learnt_part, Part, Request, BookValue, find_transaction, cell_of_transaction, inc_at, is_done}
+use Rattle.qs_book_laws.proofs.Words.{borrower_at, broken_serve, broken_learn, broken_act, broken, effect, IsLawful, book_after, NodeValue, opening, Opened, IsCoherent, IsCommitted, is_restart, restarts, and_false, eqb-self}
 use Rattle.qs_base.specs.declared.identifiers.Class.TheVariants as classes
-use Rattle.qs_base.specs.declared.identifiers.Member.{Member}
-use Rattle.qs_base.specs.declared.identifiers.NodeNo.{NodeNo}
-use Rattle.qs_base.specs.declared.identifiers.Outcome.{Outcome}
 use Rattle.qs_base.specs.declared.identifiers.Outcome.TheVariants as outcomes
-use Rattle.qs_base.specs.declared.identifiers.Tid.{Tid}
-use Rattle.qs_base.proofs.Same.{same_tid-self, same_member-self}
-use Rattle.qs_ops.specs.Members.{class_of}
-use Rattle.qs_ops.specs.declared.reply.Reply.{Reply}
-use Rattle.qs_ops.specs.declared.vote.Vote.{Vote}
 use Rattle.qs_ops.specs.declared.vote.Vote.TheVariants as votes
-use Rattle.qs_book_journal.specs.declared.entry.Act.{Act}
-use Rattle.qs_book_journal.specs.declared.entry.Act.TheVariants.{Serve, Ending, Learn, Loan, Yield}
 use Rattle.qs_book_journal.specs.declared.entry.Act.TheVariants as acts
-use Rattle.qs_book_journal.specs.declared.entry.Entry.{Entry}
-use Rattle.qs_book_machine.specs.Transaction.{TransactionValue, part_of, learnt_abort, cell_of, serving_part, voted_part, learnt_part}
+use Rattle.qs_book_machine.specs.Transaction.{learnt_abort}
 use Rattle.qs_book_machine.specs.declared.transaction.Cell.TheVariants as cells
-use Rattle.qs_book_machine.specs.declared.transaction.Part.{Part}
-use Rattle.qs_book_machine.specs.declared.transaction.Request.{Request}
-use Rattle.qs_book_machine.specs.Book.{BookValue, find_transaction, cell_of_transaction, inc_at, is_done}
-use Rattle.qs_book_machine.specs.Clauses.{borrower_at, broken_serve, broken_request, request_here, is_reply, broken_learn}
-use Rattle.qs_book_machine.specs.Lawful.{broken_act, broken, effect, IsLawful, book_after}
-use Rattle.qs_book_machine.specs.Nodes.{NodeValue}
-use Rattle.qs_book_machine.specs.Opening.{opening}
-use Rattle.qs_book_machine.specs.declared.opened.Opened.{Opened}
+use Rattle.qs_book_machine.specs.Clauses.{broken_request, request_here, is_reply}
 use Rattle.qs_book_laws.specs.Endings.{learning_servers, is_learner}
-use Rattle.qs_book_laws.specs.Laws.{IsCoherent, IsCommitted}
-use Rattle.qs_book_laws.specs.Lives.{is_restart, restarts, IsOneLife}
+use Rattle.qs_book_laws.specs.Lives.{IsOneLife}
 use Rattle.qs_book_laws.proofs.Begun.{inc_in}
 use Rattle.qs_book_laws.proofs.Committed.{step_takes, ran_shut}
 use Rattle.qs_book_laws.proofs.Ends.{lawful_node}
@@ -203,11 +181,7 @@ module _ (opened : List Opened) (before more : List Entry) (first : Entry) (tid 
   here = learn_here first.node.0 at.0 (find_transaction book tid) member outcome at.2
 
   pub stays_up : restarts member.node first ≡ false
-  stays_up = ap (λ (a : Act). (first.node.0 == member.node.0) && is_restart a) is ∙ never (first.node.0 == member.node.0)
-    where
-      never : (b : Bool) → (b && false) ≡ false
-      never true = refl
-      never false = refl
+  stays_up = ap (λ (a : Act). (first.node.0 == member.node.0) && is_restart a) is ∙ and_false (first.node.0 == member.node.0)
 
   found : (o : Option TransactionValue) → broken_learn first.node.0 at.0 o member outcome ≡ None → (tx : TransactionValue) × (o ≡ Some tx)
   found None h = absurd (cc h)
@@ -230,15 +204,12 @@ module _ (opened : List Opened) (before more : List Entry) (first : Entry) (tid 
       inr (stays book (effect book first) tid cells.Commit m.kept (record { decided = refl; cell_is = cell })).cell_is
   over outcomes.Abort e =
       let s = part_then member in
-      let own : is_own tid member at.0.inc tid member (inc_at book first.node) ≡ true = rw (same_tid-self tid, same_member-self member, inc_there book first.node.0 at.0 at.1) (equal at.0.inc) in
+      let own : is_own tid member at.0.inc tid member (inc_at book first.node) ≡ true = rw (same_tid-self tid, same_member-self member, inc_there book first.node.0 at.0 at.1) (eqb-self at.0.inc) in
       let part : Part = part_of known.0 member at.0.inc in
       let after : part_after tid member at.0.inc (inc_at book first.node) first.stamp first.node.0 first.act part ≡ learnt_part outcomes.Abort part =
       ap (λ (a : Act). part_after tid member at.0.inc (inc_at book first.node) first.stamp first.node.0 a part) (is ∙ ap (λ (x : Outcome). acts.Learn tid member x) e)
       ∙ ap (λ (b : Bool). if b then learnt_part outcomes.Abort part else part) own in
       inl (record { tx = s.tx; found = s.found; holds = subst HasAborted (sym (s.holds ∙ after)) refl })
-    where
-      equal : (n : ℕ) → (n == n) ≡ true
-      equal n = grind (arith, nat_tests)
 
   pub over_then : IsOver tid member at.0.inc (effect book first)
   over_then = record {

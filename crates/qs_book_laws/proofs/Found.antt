@@ -1,37 +1,13 @@
 -- What a restart makes of what the log of its node holds: pending again, or committed once.
-use Rattle.std.proofs.Common.{◌≡◌, ◌⊎◌, ℕ, Bool, true, false, List, [], ◌∷◌, ◌++◌, ◌==◌, ◌||◌, Option, Some, None, inl, inr, refl, sym, ap, subst, ◌∙◌, fold}
-use Rattle.std.specs.Prelude.{flat_map, length, nat_le}
-use Rattle.std.specs.List.{list_any, list_all}
-use Rattle.std.proofs.lemmas.List.Sums.{fold-append}
-use Rattle.std.specs.Map.{lookup}
-use Rattle.std.specs.BTreeMap.{is_at}
-use Rattle.qs_base.specs.Order.{same_tid}
-use Rattle.qs_base.specs.declared.identifiers.Tid.{Tid}
-use Rattle.qs_base.proofs.Same.{same_tid-true, same_tid-self}
-use Rattle.qs_ops.specs.declared.operation.Op.{Op}
-use Rattle.qs_book_journal.specs.declared.entry.Found.{Found}
-use Rattle.qs_ops.specs.Table.{TableValue, share_of, kept}
-use Rattle.qs_ops.specs.declared.share.Share.{Share}
-use Rattle.qs_ops.specs.declared.share.KeptChanges.{KeptChanges}
-use Rattle.qs_book_machine.specs.Transaction.{TransactionValue}
+use Rattle.qs_book_laws.proofs.Words.{◌≡◌, ◌⊎◌, ℕ, Bool, true, false, List, [], ◌∷◌, ◌++◌, ◌==◌, ◌||◌, Option, Some, None, inl, inr, refl, sym, ap, subst, ◌∙◌, fold, flat_map, length, nat_le, list_any, list_all, fold-append, lookup, is_at, same_tid, Tid, same_tid-true, same_tid-self, Op, Found, TableValue, share_of, kept, Share, Kept, TransactionValue, BookValue, find_transaction, crossed_in, cell_of_transaction, NodeValue, record_of, voter, voter_cmp, without_record, changes_at, keep_found}
+use Rattle.qs_book_laws.proofs.Words.{is_kept_at, is_found_as, is_kept, is_among, without_records, member_at, OnRecord, Voter}
 use Rattle.qs_book_machine.specs.declared.transaction.Cell.TheVariants as cells
-use Rattle.qs_book_machine.specs.Book.{BookValue, find_transaction, crossed_in, cell_of_transaction}
-use Rattle.qs_book_machine.specs.Nodes.{NodeValue, record_of, voter, voter_cmp, without_record}
-use Rattle.qs_book_machine.specs.Restart.{changes_at, keep_found, is_kept_at, is_found_as, is_kept, may_be_lost, is_among, without_records, member_at}
-use Rattle.qs_book_machine.specs.declared.state.OnRecord.{OnRecord}
-use Rattle.qs_book_machine.specs.declared.state.Voter.{Voter}
+use Rattle.qs_book_machine.specs.Restart.{may_be_lost}
 use Rattle.qs_book_laws.proofs.Alikes.{voter_exact}
 use Rattle.qs_book_laws.proofs.Holding.{clash, left_of, right_of}
 use Rattle.qs_book_laws.proofs.Shares.{removed_apart, share_put, share_put_other}
 use Rattle.qs_book_laws.proofs.Takes.{some_same}
-
-or_left_false : (a b : Bool) → (a || b) ≡ false → a ≡ false
-or_left_false true b h = absurd (cc h)
-or_left_false false b h = refl
-
-or_right_false : (a b : Bool) → (a || b) ≡ false → b ≡ false
-or_right_false true b h = absurd (cc h)
-or_right_false false b h = h
+use Rattle.qs_base_lemmas.proofs.Tests.{or_first, or_last}
 
 or_rest : (a b : Bool) → (a || b) ≡ true → a ≡ false → b ≡ true
 or_rest true b h no_a = absurd (cc no_a)
@@ -59,8 +35,8 @@ forgot_one t tid k s v h = removed_apart (is_at (voter_cmp (voter t k))) (is_at 
 pub forgot_others : (done : List Tid) (tid : Tid) (s : ℕ) (v : NodeValue) → is_among done tid ≡ false → record_of (fold without_records v done) tid s ≡ record_of v tid s
 forgot_others [] tid s v h = refl
 forgot_others (t ∷ done) tid s v h =
-    let apart : same_tid tid t ≡ false = or_left_false (same_tid tid t) (is_among done tid) h in
-    forgot_others done tid s (without_records v t) (or_right_false (same_tid tid t) (is_among done tid) h)
+    let apart : same_tid tid t ≡ false = or_first (same_tid tid t) (is_among done tid) h in
+    forgot_others done tid s (without_records v t) (or_last (same_tid tid t) (is_among done tid) h)
     ∙ (forgot_one t tid 6 s (without_record t 1 (without_record t 0 v)) apart
     ∙ (forgot_one t tid 1 s (without_record t 0 v) apart ∙ forgot_one t tid 0 s v apart))
 
@@ -107,7 +83,7 @@ module _ (here : ℕ) (mid : BookValue) (s : ℕ) (done : List Tid) (tid : Tid) 
       → (share_of (fold kept t (keep_found here mid s done f)) tid).changes ≡ logged
   keep_more f true is t had = rw is (by (same_tid f.tid tid) refl had)
     where
-      one : KeptChanges
+      one : Kept
       one = record { tid = f.tid; changes = changes_at here mid s f.tid }
 
       share : Share

@@ -1,17 +1,7 @@
 -- What a restart leaves on record: the votes that were found, and none else.
-use Rattle.std.proofs.Common.{◌≡◌, ℕ, Bool, true, false, List, [], ◌∷◌, ◌==◌, ◌&&◌, ◌||◌, Option, Some, None, refl, sym, ap, subst, ◌∙◌, if◌then◌else◌, arith}
-use Rattle.std.proofs.lemmas.Bool.Decides.{nat_tests}
-use Rattle.std.specs.Prelude.{cond, nat_le}
-use Rattle.std.specs.List.{list_any}
-use Rattle.std.specs.BTreeMap.{is_at}
+use Rattle.qs_book_laws.proofs.Words.{◌≡◌, ℕ, Bool, true, false, List, [], ◌∷◌, ◌==◌, ◌&&◌, ◌||◌, Option, Some, None, refl, sym, ap, subst, ◌∙◌, if◌then◌else◌, arith, nat_tests, cond, nat_le, list_any, is_at, same_tid, Tid, Found, NodeValue, record_of, voter, voter_cmp, is_found, is_found_as, OnRecord, Voter}
 use Rattle.std.proofs.lemmas.Map.Entries.{lookup-filter-keys}
-use Rattle.qs_base.specs.Order.{same_tid}
-use Rattle.qs_base.specs.declared.identifiers.Tid.{Tid}
-use Rattle.qs_book_journal.specs.declared.entry.Found.{Found}
-use Rattle.qs_book_machine.specs.Nodes.{NodeValue, record_of, voter, voter_cmp}
-use Rattle.qs_book_machine.specs.Restart.{found_only, is_found, is_found_as}
-use Rattle.qs_book_machine.specs.declared.state.OnRecord.{OnRecord}
-use Rattle.qs_book_machine.specs.declared.state.Voter.{Voter}
+use Rattle.qs_book_machine.specs.Restart.{found_only}
 use Rattle.qs_book_laws.proofs.Alikes.{voter_exact}
 
 found_by : (pend : List Found) (b : Bool) (at : Voter) → is_found pend at ≡ b → (k : Voter) → is_at (voter_cmp at) k ≡ true → is_found pend k ≡ b

@@ -1,23 +1,6 @@
 -- A vote that a restart finds, and has pending again, is its member's part in the new incarnation; and so is one that an old log holds as a run begins.
-use Rattle.std.proofs.Common.{◌≡◌, ◌==◌, ◌&&◌, ◌||◌, ◌+◌, ℕ, Bool, true, false, List, [], ◌∷◌, Option, Some, None, refl, sym, ap, subst, ◌∙◌, fold, length, zero, suc, arith, if◌then◌else◌}
-use Rattle.std.proofs.lemmas.Bool.Decides.{nat_tests}
-use Rattle.std.specs.Prelude.{⊤, slice_get}
-use Rattle.std.specs.BTreeMap.{insert_entry, is_at}
-use Rattle.std.specs.List.{list_any}
-use Rattle.qs_base.specs.Order.{same_member, same_tid, tid_cmp}
-use Rattle.qs_base.specs.declared.identifiers.Member.{Member}
-use Rattle.qs_base.specs.declared.identifiers.Tid.{Tid}
-use Rattle.qs_base.proofs.Same.{same_member-self, same_tid-true}
-use Rattle.qs_base.proofs.TidOrder.{tid_exact}
-use Rattle.qs_book_journal.specs.declared.entry.Found.{Found}
-use Rattle.qs_book_machine.specs.Book.{BookValue, find_transaction}
-use Rattle.qs_book_machine.specs.Restart.{abort_begun, begun_at, commit_found, count_of, is_among, is_kept_at, member_at, put_new_votes, record_at, restart, up_to, vote_found}
-use Rattle.qs_book_machine.specs.Book.{inc_at, with_transaction}
-use Rattle.qs_book_machine.specs.Transaction.{TransactionValue, found_at, found_part, part_of}
-use Rattle.qs_book_machine.specs.Opening.{name_all, name_from, name_pending, name_transaction, opened_transaction, opening}
-use Rattle.qs_book_machine.specs.declared.opened.Opened.{Opened}
-use Rattle.qs_book_machine.specs.declared.opened.Pending.{Pending}
-use Rattle.qs_book_machine.specs.declared.transaction.Part.{Part}
+use Rattle.qs_book_laws.proofs.Words.{◌≡◌, ◌==◌, ◌&&◌, ◌||◌, ◌+◌, ℕ, Bool, true, false, List, [], ◌∷◌, Option, Some, None, refl, sym, ap, subst, ◌∙◌, fold, length, zero, suc, arith, if◌then◌else◌, ⊤, slice_get, insert_entry, is_at, list_any, same_member, same_tid, tid_cmp, Member, Tid, same_member-self, same_tid-true, tid_exact, Found, BookValue, find_transaction, abort_begun, begun_at, commit_found, count_of, is_among, is_kept_at, member_at, put_new_votes, record_at, restart, up_to, vote_found}
+use Rattle.qs_book_laws.proofs.Words.{inc_at, with_transaction, TransactionValue, found_at, found_part, part_of, name_all, name_from, name_pending, name_transaction, opened_transaction, opening, Opened, Pending, Part, eqb-self, zero_plus}
 use Rattle.qs_book_laws.proofs.Alikes.{at_exact, tid_itself}
 use Rattle.qs_book_laws.proofs.Holding.{left_of, right_of, same_number}
 use Rattle.qs_book_laws.proofs.Lives.{left_survives}
@@ -68,11 +51,8 @@ module _ (tid : Tid) (member : Member) (inc : ℕ) where
       server : found.server.0 ≡ member.server.0
       server = same_number found.server.0 member.server.0 (left_of (found.server.0 == member.server.0) _ kept)
 
-      itself : (n : ℕ) → (n == n) ≡ true
-      itself n = grind (arith, nat_tests)
-
       here : (same_member (member_at member.node.0 found.server.0) member && (inc == inc)) ≡ true
-      here = subst (λ (k : ℕ). (same_member (member_at member.node.0 k) member && (inc == inc)) ≡ true) (sym server) (rw (same_member-self member, itself inc) refl)
+      here = subst (λ (k : ℕ). (same_member (member_at member.node.0 k) member && (inc == inc)) ≡ true) (sym server) (rw (same_member-self member, eqb-self inc) refl)
 
       part_is : (tx : TransactionValue) → OfFound (f tx)
       part_is tx = (found.covers, changes, put_part member inc tx (member_at member.node.0 found.server.0) inc (found_part found.covers changes) ∙ ap (λ (b : Bool). if b then found_part found.covers changes else part_of tx member inc) here)
@@ -167,11 +147,8 @@ module _ (tid : Tid) (member : Member) (inc : ℕ) where
       server : p.server.0 ≡ member.server.0
       server = same_number p.server.0 member.server.0 (right_of (same_tid p.tid tid) _ is)
 
-      itself : (n : ℕ) → (n == n) ≡ true
-      itself n = grind (arith, nat_tests)
-
       here : (same_member (member_at member.node.0 p.server.0) member && (inc == inc)) ≡ true
-      here = subst (λ (k : ℕ). (same_member (member_at member.node.0 k) member && (inc == inc)) ≡ true) (sym server) (rw (same_member-self member, itself inc) refl)
+      here = subst (λ (k : ℕ). (same_member (member_at member.node.0 k) member && (inc == inc)) ≡ true) (sym server) (rw (same_member-self member, eqb-self inc) refl)
 
       part_is : (tx : TransactionValue) → OfFound tid member inc (f tx)
       part_is tx = (p.covers, length p.changes, put_part member inc tx (member_at member.node.0 p.server.0) inc (found_part p.covers (length p.changes)) ∙ ap (λ (b : Bool). if b then found_part p.covers (length p.changes) else part_of tx member inc) here)
@@ -207,7 +184,4 @@ module _ (tid : Tid) (member : Member) (inc : ℕ) where
       next a b e = omega arith
 
   pub found_first : (opened : List Opened) (one : Opened) → slice_get opened member.node.0 ≡ Some one → one.inc ≡ inc → list_any (is_opened_with tid member) one.pending ≡ true → Stands tid (OfFound tid member inc) (opening opened)
-  found_first opened one found its is = from_there opened member.node.0 0 (first_book opened) one (none member.node.0) found its is
-    where
-      none : (n : ℕ) → 0 + n ≡ n
-      none n = omega arith
+  found_first opened one found its is = from_there opened member.node.0 0 (first_book opened) one (zero_plus member.node.0) found its is

@@ -1,29 +1,10 @@
 -- The incarnation of a node that the machine has as the last in which a request to it was open is the last of those moments.
-use Rattle.std.proofs.Common.{◌≡◌, ◌⊎◌, inl, inr, ℕ, ◌+◌, ◌-◌, ◌<◌, ◌≤◌, ◌==◌, ◌&&◌, Bool, true, false, List, [], ◌∷◌, ◌++◌, Option, Some, None, refl, sym, ap, subst, ◌∙◌, if◌then◌else◌, arith}
-use Rattle.std.proofs.lemmas.Bool.Decides.{nat_tests}
-use Rattle.std.specs.Prelude.{slice_get, unwrap_or, nat_lt, length}
-use Rattle.std.specs.Option.{option_map}
-use Rattle.qs_base.specs.Order.{same_tid}
-use Rattle.qs_base.specs.declared.identifiers.Member.{Member}
-use Rattle.qs_base.specs.declared.identifiers.NodeNo.{NodeNo}
-use Rattle.qs_base.specs.declared.identifiers.Tid.{Tid}
-use Rattle.qs_base.proofs.Same.{same_tid-true}
-use Rattle.qs_ops.specs.Servers.{is_client_no}
+use Rattle.qs_book_laws.proofs.Words.{◌≡◌, ◌⊎◌, inl, inr, ℕ, ◌+◌, ◌-◌, ◌<◌, ◌==◌, ◌&&◌, Bool, true, false, List, [], ◌∷◌, ◌++◌, Option, Some, None, refl, sym, ap, subst, ◌∙◌, if◌then◌else◌, arith, nat_tests, slice_get, unwrap_or, nat_lt, length, option_map, same_tid, Member, NodeNo, Tid, same_tid-true, is_client_no, Act, Begin, Issue, Serve, Ask, Counted, Decide, Ending, Learn, Loan, Yield, Tick, Crash, Restart, Entry, Found, TransactionValue, is_gone, is_open_to, issued, Request, RequestNo}
+use Rattle.qs_book_laws.proofs.Words.{BookValue, find_transaction, with_transaction, with_waiting, with_crossing, crosses, loan_to, give_back_from, inc_at, owner_of, link_to, borrower_at, broken_issue, is_in_order, broken_act, broken_at, broken, effect_act, effect, NodeValue, Owner, is_restart, restarts, and_false}
 use Rattle.qs_ops.specs.declared.answer.Answer.{Answer as Said}
-use Rattle.qs_book_journal.specs.declared.entry.Act.{Act}
-use Rattle.qs_book_journal.specs.declared.entry.Act.TheVariants.{Begin, Issue, Serve, Ask, Counted, Decide, Ending, Learn, Answer, Loan, Yield, Tick, Crash, Restart}
+use Rattle.qs_book_journal.specs.declared.entry.Act.TheVariants.{Answer}
 use Rattle.qs_book_journal.specs.declared.entry.Act.TheVariants as acts
-use Rattle.qs_book_journal.specs.declared.entry.Entry.{Entry}
-use Rattle.qs_book_journal.specs.declared.entry.Found.{Found}
-use Rattle.qs_book_machine.specs.Transaction.{TransactionValue, is_gone, is_open_to, issued}
-use Rattle.qs_book_machine.specs.declared.transaction.Request.{Request}
-use Rattle.qs_book_machine.specs.declared.transaction.RequestNo.{RequestNo}
-use Rattle.qs_book_machine.specs.Book.{BookValue, find_transaction, with_transaction, with_waiting, with_crossing, crosses, loan_to, give_back_from, inc_at, owner_of}
-use Rattle.qs_book_machine.specs.Clauses.{link_to, borrower_at, broken_issue, broken_answer}
-use Rattle.qs_book_machine.specs.Lawful.{is_in_order, broken_act, broken_at, broken, effect_act, effect}
-use Rattle.qs_book_machine.specs.Nodes.{NodeValue}
-use Rattle.qs_book_machine.specs.declared.state.Owner.{Owner}
-use Rattle.qs_book_laws.specs.Lives.{is_restart, restarts}
+use Rattle.qs_book_machine.specs.Clauses.{broken_answer}
 use Rattle.qs_book_laws.proofs.Always.{unknown}
 use Rattle.qs_book_laws.proofs.Begun.{inc_in}
 use Rattle.qs_book_laws.proofs.Faces.{Age, age}
@@ -38,6 +19,7 @@ use Rattle.qs_book_laws.proofs.Takes.{some_same}
 use Rattle.qs_book_laws.proofs.Turns.{Stands, Same, Obliged, step_turns, stands_by, stands_as}
 use Rattle.qs_book_laws.proofs.Unanswered.{Waits, times, own_of, without, times_split, times_more}
 use Rattle.qs_book_laws.proofs.Waiting.{waits_after, AreWaiting, asked_waits, answered_waits, still_waiting, owner_told, restart_same}
+use Rattle.qs_base_lemmas.proofs.Tests.{zero_le}
 
 -- ---- clients
 
@@ -152,11 +134,8 @@ module _ (tid : Tid) (node : NodeNo) (gone : ℕ) where
   never : (n : ℕ) → nat_lt n 0 ≡ false
   never n = grind (arith, nat_tests)
 
-  least_of : (n : ℕ) → 0 ≤ n
-  least_of n = omega arith
-
   pub bare_goes : (inc : ℕ) (tx : TransactionValue) → IsBare tx → Goes tid node gone (is_gone tx node inc gone) inc 0 tx
-  bare_goes inc tx bare = rw (bare.0, bare.1) (record { waits = refl; below = least_of inc; has = λ h. absurd (cc h); is = refl })
+  bare_goes inc tx bare = rw (bare.0, bare.1) (record { waits = refl; below = zero_le inc; has = λ h. absurd (cc h); is = refl })
 
   pub bare_past : (inc : ℕ) (tx : TransactionValue) → IsBare tx → is_gone tx node inc gone ≡ false
   bare_past inc tx bare = rw (bare.0, bare.1) (never gone)
@@ -212,11 +191,7 @@ module _ (tid : Tid) (node : NodeNo) (gone : ℕ) where
       same_inc far = inc_as new node ∙ (ap (λ (o : Option ℕ). unwrap_or o 0) (same_life node book entry far h) ∙ sym (inc_as book node))
 
       no_restart : (act : Act) → is_restart act ≡ false → entry.act ≡ act → restarts node entry ≡ false
-      no_restart act plain is = ap (λ (a : Act). (entry.node.0 == node.0) && is_restart a) is ∙ (ap (λ (b : Bool). (entry.node.0 == node.0) && b) plain ∙ off (entry.node.0 == node.0))
-        where
-          off : (b : Bool) → (b && false) ≡ false
-          off true = refl
-          off false = refl
+      no_restart act plain is = ap (λ (a : Act). (entry.node.0 == node.0) && is_restart a) is ∙ (ap (λ (b : Bool). (entry.node.0 == node.0) && b) plain ∙ and_false (entry.node.0 == node.0))
 
       -- the incarnation of the node stayed
       stayed : restarts node entry ≡ false → Stands tid (Went tid node gone g (inc_at book node) (count tid node gone more)) new → Stands tid Q new

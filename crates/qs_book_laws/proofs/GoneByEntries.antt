@@ -1,20 +1,7 @@
 -- A transaction may be aborted because a node is gone exactly where the node ran in that incarnation and a request stood open then.
-use Rattle.std.proofs.Common.{◌≡◌, ◌⊎◌, inl, inr, ℕ, ◌<◌, ◌≤◌, ◌==◌, ◌||◌, Bool, true, false, List, ◌++◌, Some, refl, sym, ap, subst, ◌∙◌, arith}
-use Rattle.std.proofs.lemmas.Bool.Decides.{nat_tests}
-use Rattle.std.specs.Prelude.{slice_get}
-use Rattle.std.specs.List.{list_any}
-use Rattle.qs_base.specs.declared.identifiers.NodeNo.{NodeNo}
-use Rattle.qs_base.specs.declared.identifiers.Tid.{Tid}
-use Rattle.qs_book_journal.specs.declared.entry.Entry.{Entry}
-use Rattle.qs_book_machine.specs.Transaction.{TransactionValue, is_gone}
-use Rattle.qs_book_machine.specs.Book.{BookValue, find_transaction, inc_at}
+use Rattle.qs_book_laws.proofs.Words.{◌≡◌, ◌⊎◌, inl, inr, ℕ, ◌<◌, ◌≤◌, ◌==◌, ◌||◌, Bool, true, false, List, ◌++◌, Some, refl, sym, ap, subst, ◌∙◌, arith, nat_tests, slice_get, list_any, NodeNo, Tid, Entry, TransactionValue, is_gone, BookValue, find_transaction, inc_at, IsLawful, book_after, NodeValue, opening, Opened, ran_as, IsCoherent}
 use Rattle.qs_book_machine.specs.Clauses.{is_gone_cause}
-use Rattle.qs_book_machine.specs.Lawful.{IsLawful, book_after}
-use Rattle.qs_book_machine.specs.Nodes.{NodeValue}
-use Rattle.qs_book_machine.specs.Opening.{opening}
-use Rattle.qs_book_machine.specs.declared.opened.Opened.{Opened}
-use Rattle.qs_book_laws.specs.Gone.{restarts_beyond, ran_as, StoodOpen, IsGone}
-use Rattle.qs_book_laws.specs.Laws.{IsCoherent}
+use Rattle.qs_book_laws.specs.Gone.{restarts_beyond, StoodOpen, IsGone}
 use Rattle.qs_book_laws.proofs.Beyond.{beyond_then, beyond_only, not_before}
 use Rattle.qs_book_laws.proofs.Holding.{left_of}
 use Rattle.qs_book_laws.proofs.OpenByEntries.{open_as}

@@ -1,35 +1,12 @@
 -- A transaction that stands in the book stays there, and one that is crossed at a member stays so.
-use Rattle.std.proofs.Common.{◌≡◌, ℕ, Bool, true, false, List, [], ◌∷◌, Option, Some, None, inl, inr, refl, sym, ap, subst, ◌∙◌, fold, if◌then◌else◌}
-use Rattle.std.specs.Prelude.{slice_get, is_some}
-use Rattle.std.specs.Option.{option_map}
-use Rattle.std.specs.Map.{lookup, set_value}
-use Rattle.std.specs.BTreeMap.{insert_entry, is_at}
-use Rattle.qs_base.specs.Order.{tid_cmp, member_cmp}
-use Rattle.qs_base.specs.declared.identifiers.ClientNo.{ClientNo}
-use Rattle.qs_base.specs.declared.identifiers.Member.{Member}
-use Rattle.qs_base.specs.declared.identifiers.Outcome.{Outcome}
+use Rattle.qs_book_laws.proofs.Words.{◌≡◌, ℕ, Bool, true, false, List, [], ◌∷◌, Option, Some, None, inl, inr, refl, sym, ap, subst, ◌∙◌, fold, if◌then◌else◌, slice_get, is_some, option_map, lookup, set_value, insert_entry, is_at, tid_cmp, member_cmp, ClientNo, Member, Outcome, Tid, Cause, Op, tid_exact, Act, Begin, Issue, Serve, Ask, Counted, Decide, Ending, Learn, Loan, Yield, Tick, Crash, Restart, Entry, Found, TransactionValue, is_crossed, crossed_by, standing_request, issued, begun, asked_at}
+use Rattle.qs_book_laws.proofs.Words.{counted, ended, learnt, lent, given_back, voted, served_in, decided_at, heard, with_learnt, found_at, Request, RequestNo, BookValue, find_transaction, crossed_in, with_node, with_owner, with_transaction, with_waiting, crosses, begin, issue, learn, hear, answer, waiting_of, inc_at, is_done, ticks_at, decide, loan_to, give_back_from, tick_node, crash_node, link_to, borrower_at, is_in_order, broken_act, broken_node, broken_at, broken, effect_act, effect}
+use Rattle.qs_book_laws.proofs.Words.{NodeValue, restart, put_new_votes, up_to, begun_at, abort_begun, vote_found, commit_found, learn_found, decide_found, is_among, is_open_here, begun_tid, record_at, member_at, count_of as pending_of, Asking, Owner, crossed_at}
 use Rattle.qs_base.specs.declared.identifiers.Outcome.TheVariants as outcomes
-use Rattle.qs_base.specs.declared.identifiers.Tid.{Tid}
-use Rattle.qs_ops.specs.declared.answer.Cause.{Cause}
 use Rattle.qs_ops.specs.declared.answer.Cause.TheVariants as causes
-use Rattle.qs_ops.specs.declared.operation.Op.{Op}
-use Rattle.qs_base.proofs.TidOrder.{tid_exact}
-use Rattle.qs_book_journal.specs.declared.entry.Act.{Act}
-use Rattle.qs_book_journal.specs.declared.entry.Act.TheVariants.{Begin, Issue, Serve, Ask, Counted, Decide, Ending, Learn, Answer, Loan, Yield, Tick, Crash, Restart}
+use Rattle.qs_book_journal.specs.declared.entry.Act.TheVariants.{Answer}
 use Rattle.qs_book_journal.specs.declared.entry.Act.TheVariants as acts
-use Rattle.qs_book_journal.specs.declared.entry.Entry.{Entry}
-use Rattle.qs_book_journal.specs.declared.entry.Found.{Found}
-use Rattle.qs_book_machine.specs.Transaction.{TransactionValue, is_crossed, crossed_from, crossed_by, standing_request, issued, begun, asked_at, counted, ended, learnt, lent, given_back, voted, served_in, decided_at, heard, with_learnt, found_at}
-use Rattle.qs_book_machine.specs.declared.transaction.Request.{Request}
-use Rattle.qs_book_machine.specs.declared.transaction.RequestNo.{RequestNo}
-use Rattle.qs_book_machine.specs.Book.{BookValue, find_transaction, crossed_in, with_node, with_owner, with_transaction, with_waiting, crosses, begin, issue, learn, hear, answer, waiting_of, inc_at, is_done, ticks_at, decide, loan_to, give_back_from, tick_node, crash_node}
-use Rattle.qs_book_machine.specs.Clauses.{link_to, borrower_at}
-use Rattle.qs_book_machine.specs.Lawful.{is_in_order, broken_act, broken_node, broken_at, broken, effect_act, effect}
-use Rattle.qs_book_machine.specs.Nodes.{NodeValue}
-use Rattle.qs_book_machine.specs.Restart.{restart, put_new_votes, up_to, begun_at, abort_begun, vote_found, commit_found, learn_found, decide_found, is_among, is_open_here, begun_tid, record_at, member_at, count_of as pending_of}
-use Rattle.qs_book_machine.specs.declared.state.Asking.{Asking}
-use Rattle.qs_book_machine.specs.declared.state.Owner.{Owner}
-use Rattle.qs_book_laws.specs.Served.{crossed_at}
+use Rattle.qs_book_machine.specs.Transaction.{crossed_from}
 use Rattle.qs_book_laws.proofs.Alikes.{at_exact}
 use Rattle.qs_book_laws.proofs.Faces.{face}
 use Rattle.qs_book_laws.proofs.Holding.{settled, crossing_transactions, waiting_transactions}

@@ -1,33 +1,17 @@
 -- The laws of outcomes, from the invariant.
-use Rattle.std.proofs.Common.{◌≡◌, ℕ, ◌∷◌, ◌++◌, ◌&&◌, Bool, true, false, List, Option, Some, None, refl, sym, ap, subst, ◌∙◌, if◌then◌else◌}
-use Rattle.std.specs.Prelude.{slice_get, nat_lt}
-use Rattle.std.specs.Option.{option_map}
-use Rattle.qs_base.specs.declared.identifiers.ClientNo.{ClientNo}
-use Rattle.qs_base.specs.declared.identifiers.Member.{Member}
-use Rattle.qs_base.specs.declared.identifiers.Outcome.{Outcome}
+use Rattle.qs_book_laws.proofs.Words.{◌≡◌, ℕ, ◌∷◌, ◌++◌, true, false, List, Option, Some, None, refl, sym, ap, subst, ◌∙◌, if◌then◌else◌, slice_get, nat_lt, option_map, ClientNo, Member, Outcome, Tid, Cause, Act, Entry, TransactionValue, is_open, is_outcome, cell_of, part_of, Cell, BookValue, find_transaction, cell_of_transaction, broken_learn, may_learn, is_in_order, broken_act, broken_node, broken_at, broken, IsLawful, book_after, NodeValue, opening, Opened, Owner, IsCoherent, IsDecided}
 use Rattle.qs_base.specs.declared.identifiers.Outcome.TheVariants as outcomes
-use Rattle.qs_base.specs.declared.identifiers.Tid.{Tid}
 use Rattle.qs_ops.specs.declared.answer.Answer.{Answer}
 use Rattle.qs_ops.specs.declared.answer.Answer.TheVariants as answers
-use Rattle.qs_ops.specs.declared.answer.Cause.{Cause}
-use Rattle.qs_book_journal.specs.declared.entry.Act.{Act}
 use Rattle.qs_book_journal.specs.declared.entry.Act.TheVariants as acts
-use Rattle.qs_book_journal.specs.declared.entry.Entry.{Entry}
-use Rattle.qs_book_machine.specs.Transaction.{TransactionValue, is_open, is_outcome, cell_of, part_of}
-use Rattle.qs_book_machine.specs.declared.transaction.Cell.{Cell}
 use Rattle.qs_book_machine.specs.declared.transaction.Cell.TheVariants as cells
-use Rattle.qs_book_machine.specs.Book.{BookValue, find_transaction, cell_of_transaction}
-use Rattle.qs_book_machine.specs.Clauses.{broken_learn, may_learn, broken_answer, is_known}
-use Rattle.qs_book_machine.specs.Lawful.{is_in_order, broken_act, broken_node, broken_at, broken, IsLawful, book_after}
-use Rattle.qs_book_machine.specs.Nodes.{NodeValue}
-use Rattle.qs_book_machine.specs.Opening.{opening}
-use Rattle.qs_book_machine.specs.declared.opened.Opened.{Opened}
-use Rattle.qs_book_machine.specs.declared.state.Owner.{Owner}
-use Rattle.qs_book_laws.specs.Laws.{IsCoherent, IsDecided, HasCommitted, HasAborted, IsTrueAnswer}
+use Rattle.qs_book_machine.specs.Clauses.{broken_answer, is_known}
+use Rattle.qs_book_laws.specs.Laws.{HasCommitted, HasAborted, IsTrueAnswer}
 use Rattle.qs_book_laws.proofs.Faces.{Face, face, face_at, told_of}
 use Rattle.qs_book_laws.proofs.Outcomes.{Inv, Moves, Kept, HasCommit, HasAbort}
 use Rattle.qs_book_laws.proofs.Openings.{opening_holds}
 use Rattle.qs_book_laws.proofs.Steps.{held, passed, past, ran, after_both, lawful_front, lawful_rest}
+use Rattle.qs_base_lemmas.proofs.Tests.{and_first}
 
 -- ---- a cell that is decided
 
@@ -76,10 +60,6 @@ lawful_act book entry act is plain h =
 
 -- ---- what members learn
 
-left_of : (a b : Bool) → (a && b) ≡ true → a ≡ true
-left_of true b h = refl
-left_of false b h = absurd (cc h)
-
 outcome_cell : (outcome : Outcome) (cell : Cell) → is_outcome outcome cell ≡ true → cell ≡ cell_of outcome
 outcome_cell outcomes.Commit cells.Commit h = refl
 outcome_cell outcomes.Abort cells.Abort h = refl
@@ -93,7 +73,7 @@ pub learns_cell : (here : ℕ) (node : NodeValue) (o : Option TransactionValue) 
 learns_cell here node None member outcome h = absurd (cc h)
 learns_cell here node (Some tx) member outcome h =
     let may : may_learn here tx member (part_of tx member node.inc) outcome ≡ true = passed (may_learn here tx member (part_of tx member node.inc) outcome) 95 _ h in
-    ap Some (outcome_cell outcome tx.cell (left_of _ _ (left_of _ _ may)))
+    ap Some (outcome_cell outcome tx.cell (and_first _ _ (and_first _ _ may)))
 
 learns_decided : (book : BookValue) (entry : Entry) (tid : Tid) (member : Member) (outcome : Outcome) → entry.act ≡ acts.Learn tid member outcome → broken book entry ≡ None → IsDecided book tid (cell_of outcome)
 learns_decided book entry tid member outcome is h =

@@ -1,41 +1,13 @@
 -- A member holds what it had pending, with what it served at the end, until it lets go.
-use Rattle.std.proofs.Common.{◌≡◌, ℕ, Bool, true, false, List, [], ◌∷◌, ◌++◌, ◌==◌, ◌&&◌, ◌||◌, Option, Some, None, refl, sym, ap, subst, ◌∙◌, fold, nat_lt, arith}
-use Rattle.std.proofs.lemmas.Bool.Decides.{nat_tests}
-use Rattle.std.specs.Prelude.{unwrap_or, slice_get, is_some}
-use Rattle.std.specs.Option.{option_map}
-use Rattle.std.specs.Map.{lookup}
-use Rattle.std.specs.BTreeMap.{insert_entry, is_at}
-use Rattle.std.specs.declared.cmp.Ordering.TheVariants.{Equal}
-use Rattle.std.proofs.lemmas.List.{append-nil, append_assoc}
-use Rattle.std.proofs.lemmas.Map.Lookups.{exact_unsigned, exact_pairs}
-use Rattle.std.proofs.lemmas.Cmp.{tied_itself, nat_cmp_total}
-use Rattle.std.specs.Ordering.{nat_cmp}
-use Rattle.qs_base.specs.Order.{tid_cmp, member_cmp}
-use Rattle.qs_base.specs.declared.identifiers.Member.{Member}
-use Rattle.qs_base.specs.declared.identifiers.NodeNo.{NodeNo}
-use Rattle.qs_base.specs.declared.identifiers.Outcome.{Outcome}
-use Rattle.qs_base.specs.declared.identifiers.Tid.{Tid}
-use Rattle.qs_base.proofs.Same.{same_tid-true, same_member-true}
-use Rattle.qs_ops.specs.declared.operation.Op.{Op}
-use Rattle.qs_ops.specs.declared.reply.Reply.{Reply}
-use Rattle.qs_ops.specs.declared.vote.Vote.{Vote}
+use Rattle.qs_book_laws.proofs.Words.{◌≡◌, ℕ, Bool, true, false, List, [], ◌∷◌, ◌++◌, ◌==◌, ◌&&◌, ◌||◌, Option, Some, None, refl, sym, ap, subst, ◌∙◌, fold, nat_lt, arith, nat_tests, unwrap_or, slice_get, is_some, option_map, lookup, insert_entry, is_at, Equal, append-nil, append_assoc, exact_unsigned, exact_pairs, tied_itself, nat_cmp_total, nat_cmp, tid_cmp, member_cmp, Member, NodeNo, Outcome, Tid, same_tid-true, same_member-true, Op, Reply, Vote, Act, Begin, Issue, Serve, Ask, Counted, Decide}
+use Rattle.qs_book_laws.proofs.Words.{Ending, Learn, Loan, Yield, Tick, Crash, Restart, Entry, Found, class_of, is_two_phase, TransactionValue, standing_request, part_of, issued, crossed_by, is_outcome, Request, RequestNo, BookValue, find_transaction, changed_at, with_owner, with_transaction, with_waiting, with_crossing, crosses, issue, serve_node, vote_node, crossed_in, learn_node, doubts_after, hear, answer, waiting_of, loan_to, give_back_from, inc_at, end_node, tick_node, crash_node}
+use Rattle.qs_book_laws.proofs.Words.{pending_in, link_to, borrower_at, broken_serve, broken_vote, is_vote_due, broken_learn, may_learn, is_in_order, broken_act, broken_node, broken_at, broken, effect_act, effect, IsLawful, book_after, NodeValue, pending_at, restart, put_new_votes, new_votes, with_votes, restarted_node, reopened, abort_begun, vote_found, commit_found, learn_found, decide_found, up_to, begun_at, is_among, is_open_here, begun_tid, record_at, Owner, is_share, change_of_request}
+use Rattle.qs_book_laws.proofs.Words.{standing_at, change_served, changes_served, lets_go, held_at, crossed_at, keeps_contents}
 use Rattle.qs_ops.specs.declared.vote.Vote.TheVariants as votes
-use Rattle.qs_book_journal.specs.declared.entry.Act.{Act}
-use Rattle.qs_book_journal.specs.declared.entry.Act.TheVariants.{Begin, Issue, Serve, Ask, Counted, Decide, Ending, Learn, Answer, Loan, Yield, Tick, Crash, Restart}
+use Rattle.qs_book_journal.specs.declared.entry.Act.TheVariants.{Answer}
 use Rattle.qs_book_journal.specs.declared.entry.Act.TheVariants as acts
-use Rattle.qs_book_journal.specs.declared.entry.Entry.{Entry}
-use Rattle.qs_book_journal.specs.declared.entry.Found.{Found}
-use Rattle.qs_ops.specs.Members.{class_of, is_two_phase}
-use Rattle.qs_book_machine.specs.Transaction.{TransactionValue, standing_request, part_of, issued, crossed_by, crossed_from, is_outcome}
-use Rattle.qs_book_machine.specs.declared.transaction.Request.{Request}
-use Rattle.qs_book_machine.specs.declared.transaction.RequestNo.{RequestNo}
-use Rattle.qs_book_machine.specs.Book.{BookValue, find_transaction, changed_at, with_owner, with_transaction, with_waiting, with_crossing, crosses, issue, serve_node, vote_node, crossed_in, learn_node, doubts_after, hear, answer, waiting_of, loan_to, give_back_from, inc_at, end_node, tick_node, crash_node, pending_in}
-use Rattle.qs_book_machine.specs.Clauses.{link_to, borrower_at, broken_serve, broken_vote, is_vote_due, broken_learn, may_learn}
-use Rattle.qs_book_machine.specs.Lawful.{is_in_order, broken_act, broken_node, broken_at, broken, effect_act, effect, IsLawful, book_after}
-use Rattle.qs_book_machine.specs.Nodes.{NodeValue, pending_at}
-use Rattle.qs_book_machine.specs.Restart.{restart, put_new_votes, new_votes, with_votes, restarted_node, reopened, abort_begun, vote_found, commit_found, learn_found, decide_found, up_to, begun_at, is_among, is_open_here, begun_tid, record_at}
-use Rattle.qs_book_machine.specs.declared.state.Owner.{Owner}
-use Rattle.qs_book_laws.specs.Served.{is_share, change_of_request, standing_at, change_served, changes_served, lets_go, IsHolding, held_at, crossed_at, keeps_contents}
+use Rattle.qs_book_machine.specs.Transaction.{crossed_from}
+use Rattle.qs_book_laws.specs.Served.{IsHolding}
 use Rattle.qs_book_laws.proofs.Faces.{either_way, vote_by}
 use Rattle.qs_book_laws.proofs.Maps.{lookup_changed, lookup_put}
 use Rattle.qs_book_laws.proofs.Shares.{number}

@@ -1,27 +1,10 @@
 -- What a member has pending of a transaction after each act of a node that is up.
-use Rattle.std.proofs.Common.{◌≡◌, ◌⊎◌, ℕ, Bool, true, false, List, [], ◌++◌, ◌==◌, ◌&&◌, Option, Some, None, inl, inr, refl, sym, ap, subst, ◌∙◌, arith, if◌then◌else◌}
-use Rattle.std.proofs.lemmas.Bool.Decides.{nat_tests}
-use Rattle.std.specs.Prelude.{unwrap_or, slice_get, slice_set}
-use Rattle.std.specs.Option.{option_map}
-use Rattle.std.proofs.lemmas.List.{append-nil}
-use Rattle.qs_base.specs.Order.{same_tid}
-use Rattle.qs_base.specs.declared.identifiers.Member.{Member}
-use Rattle.qs_base.specs.declared.identifiers.Outcome.{Outcome}
+use Rattle.qs_book_laws.proofs.Words.{◌≡◌, ◌⊎◌, ℕ, Bool, true, false, List, [], ◌++◌, ◌==◌, ◌&&◌, Option, Some, None, inl, inr, refl, sym, ap, subst, ◌∙◌, arith, if◌then◌else◌, nat_tests, unwrap_or, slice_get, slice_set, option_map, append-nil, same_tid, Member, Outcome, Tid, Op, Reply, Vote, TableValue, share_of, served, released, committed, timer_served, timers_ended, Share, TransactionValue, is_crossed, standing_request, requests_at, Request, RequestNo, changed_at, serve_node, server_serve}
+use Rattle.qs_book_laws.proofs.Words.{crossed_serve, is_done, vote_node, crossed_in, learn_node, doubts_after, NodeValue, with_table, crossed_node, crossed_server, crossed_names, crossed_table, pending_at, is_share, change_of_request, standing_at, eq-eqb}
 use Rattle.qs_base.specs.declared.identifiers.Outcome.TheVariants as outcomes
-use Rattle.qs_base.specs.declared.identifiers.Tid.{Tid}
-use Rattle.qs_ops.specs.declared.operation.Op.{Op}
-use Rattle.qs_ops.specs.declared.reply.Reply.{Reply}
-use Rattle.qs_ops.specs.declared.vote.Vote.{Vote}
 use Rattle.qs_ops.specs.declared.vote.Vote.TheVariants as votes
-use Rattle.qs_ops.specs.Table.{TableValue, share_of, change_by, served, released, committed, with_vote}
-use Rattle.qs_ops.specs.Timers.{timer_served, timers_ended}
-use Rattle.qs_ops.specs.declared.share.Share.{Share}
-use Rattle.qs_book_machine.specs.Transaction.{TransactionValue, is_crossed, standing_request, requests_at}
-use Rattle.qs_book_machine.specs.declared.transaction.Request.{Request}
-use Rattle.qs_book_machine.specs.declared.transaction.RequestNo.{RequestNo}
-use Rattle.qs_book_machine.specs.Book.{changed_at, serve_node, server_serve, crossed_serve, is_done, vote_node, crossed_in, learn_node, doubts_after}
-use Rattle.qs_book_machine.specs.Nodes.{NodeValue, with_table, crossed_node, crossed_server, crossed_names, crossed_table, with_doubts, bound_names, pending_at}
-use Rattle.qs_book_laws.specs.Served.{is_share, change_of_request, standing_at}
+use Rattle.qs_ops.specs.Table.{change_by, with_vote}
+use Rattle.qs_book_machine.specs.Nodes.{with_doubts, bound_names}
 use Rattle.qs_book_laws.proofs.Faces.{either_way}
 use Rattle.qs_book_laws.proofs.Maps.{set_at_either, changed_at_alike, changed_at_here}
 use Rattle.qs_book_laws.proofs.Shares.{share_served, share_served_other, share_released_other, share_voted, number, table, table_mine, table_other}
@@ -131,11 +114,8 @@ at_share b tid member is t other f keeps apart nodes = by (other.node.0 == membe
         split true false z h yes_y yes_z = absurd (cc yes_y)
         split true true false h yes_y yes_z = absurd (cc yes_z)
 
-        equal : (m n : ℕ) → m ≡ n → (m == n) ≡ true
-        equal m n e = grind (arith, nat_tests)
-
         not_both : other.server.0 ≡ number b → same_tid t tid ≡ false
-        not_both e = split (same_tid t tid) (other.node.0 == member.node.0) (other.server.0 == member.server.0) apart near (equal other.server.0 member.server.0 (e ∙ sym is))
+        not_both e = split (same_tid t tid) (other.node.0 == member.node.0) (other.server.0 == member.server.0) apart near (eq-eqb other.server.0 member.server.0 (e ∙ sym is))
 
 pub crossing_holds : (b : Bool) (tid : Tid) (member : Member) → member.server.0 ≡ number b → (t : Tid) (other : Member) → is_share tid member t other ≡ false → (nodes : List NodeValue)
     → held_in b tid member.node.0 (changed_at other.node.0 (crossed_node t other.server.0) nodes) ≡ held_in b tid member.node.0 nodes

@@ -1,28 +1,14 @@
 -- The nodes of the run are the same through any history.
-use Rattle.std.proofs.Common.{◌≡◌, ℕ, zero, suc, ◌<◌, Bool, true, false, List, [], ◌∷◌, Option, Some, None, refl, ap, subst, ◌∙◌, nat_lt, arith}
-use Rattle.std.proofs.lemmas.Bool.Decides.{nat_tests}
+use Rattle.qs_book_laws.proofs.Words.{◌≡◌, ℕ, zero, suc, ◌<◌, Bool, true, false, List, [], ◌∷◌, Option, Some, None, refl, ap, subst, ◌∙◌, nat_lt, slice_get, slice_set, length, Member, Tid, Act, Begin, Issue, Serve, Ask, Counted, Decide, Ending, Learn, Loan, Yield, Tick, Crash, Restart, Entry, issued, BookValue, find_transaction, changed_at, with_owner, with_transaction, with_waiting, with_crossing, crosses, hear, waiting_of, inc_at, serve_node, learn_node, doubts_after, end_node, tick_node}
+use Rattle.qs_book_laws.proofs.Words.{crash_node, link_to, borrower_at, effect_act, effect, book_after, NodeValue, crossed_node, opened_node, opening, restarted_node, reopened, put_new_votes, new_votes, with_votes, Opened, Owner, IsCoherent}
 use Rattle.std.proofs.lemmas.List.{length-map}
 use Rattle.std.proofs.lemmas.Option.{slice_get_within}
-use Rattle.std.specs.Prelude.{slice_get, slice_set, length}
-use Rattle.qs_base.specs.declared.identifiers.Member.{Member}
-use Rattle.qs_base.specs.declared.identifiers.Tid.{Tid}
-use Rattle.qs_book_journal.specs.declared.entry.Act.{Act}
-use Rattle.qs_book_journal.specs.declared.entry.Act.TheVariants.{Begin, Issue, Serve, Ask, Counted, Decide, Ending, Learn, Answer, Loan, Yield, Tick, Crash, Restart}
+use Rattle.qs_book_journal.specs.declared.entry.Act.TheVariants.{Answer}
 use Rattle.qs_book_journal.specs.declared.entry.Act.TheVariants as acts
-use Rattle.qs_book_journal.specs.declared.entry.Entry.{Entry}
-use Rattle.qs_book_machine.specs.Transaction.{issued}
-use Rattle.qs_book_machine.specs.Book.{BookValue, find_transaction, changed_at, with_owner, with_transaction, with_waiting, with_crossing, crosses, hear, waiting_of, inc_at, serve_node, learn_node, doubts_after, end_node, tick_node, crash_node}
-use Rattle.qs_book_machine.specs.Clauses.{link_to, borrower_at}
-use Rattle.qs_book_machine.specs.Lawful.{effect_act, effect, book_after}
-use Rattle.qs_book_machine.specs.Nodes.{NodeValue, crossed_node}
-use Rattle.qs_book_machine.specs.Opening.{opened_node, opening}
-use Rattle.qs_book_machine.specs.Restart.{restarted_node, reopened, put_new_votes, new_votes, with_votes}
-use Rattle.qs_book_machine.specs.declared.opened.Opened.{Opened}
-use Rattle.qs_book_machine.specs.declared.state.Owner.{Owner}
-use Rattle.qs_book_laws.specs.Laws.{IsCoherent}
 use Rattle.qs_book_laws.proofs.Holding.{waiting_nodes, fold_nodes, loan_nodes, yield_nodes, restart_nodes}
 use Rattle.qs_book_laws.proofs.Openings.{opening_names}
 use Rattle.qs_book_laws.proofs.Faces.{vote_by}
+use Rattle.std.proofs.lemmas.Bool.{lt-ltb}
 
 set_length : {X : Type 0} (xs : List X) (i : ℕ) (w : X) → length (slice_set xs i w) ≡ length xs
 set_length [] i w = refl
@@ -78,10 +64,7 @@ ran_run (entry ∷ entries) book = ran_run entries (effect book entry) ∙ act_r
 
 -- a node that is there is one of the run's
 pub in_run : (opened : List Opened) (entries : List Entry) (n : ℕ) (node : NodeValue) → IsCoherent opened → slice_get (book_after (opening opened) entries).nodes n ≡ Some node → nat_lt n (length opened) ≡ true
-in_run opened entries n node coherent at = below n (length opened) (subst (λ (m : ℕ). n < m) same (slice_get_within (book_after (opening opened) entries).nodes n node at))
+in_run opened entries n node coherent at = lt-ltb n (length opened) (subst (λ (m : ℕ). n < m) same (slice_get_within (book_after (opening opened) entries).nodes n node at))
   where
     same : length (book_after (opening opened) entries).nodes ≡ length opened
     same = ran_run entries (opening opened) ∙ (ap length (opening_names opened coherent).nodes ∙ length-map opened opened_node)
-
-    below : (m k : ℕ) → m < k → nat_lt m k ≡ true
-    below m k less = grind (arith, nat_tests)

@@ -1,31 +1,11 @@
 -- What a member has pending and on record of a transaction that may still be committed is what it served, as far as its
 -- votes cover that. Every entry keeps this so but a restart of the member's node, which is treated apart.
-use Rattle.std.proofs.Common.{◌≡◌, ℕ, ◌+◌, ◌<◌, ◌≤◌, ◌==◌, Bool, true, false, not, ◌&&◌, List, [], ◌∷◌, ◌++◌, Option, Some, None, refl, sym, ap, subst, ◌∙◌, arith}
-use Rattle.std.proofs.lemmas.Bool.Decides.{nat_tests}
-use Rattle.std.proofs.lemmas.List.{append-nil}
-use Rattle.std.specs.Prelude.{is_some, slice_get}
-use Rattle.std.specs.Option.{option_map}
-use Rattle.qs_base.specs.declared.identifiers.Member.{Member}
-use Rattle.qs_base.specs.declared.identifiers.Outcome.{Outcome}
+use Rattle.qs_book_laws.proofs.Words.{◌≡◌, ℕ, ◌+◌, ◌<◌, ◌≤◌, ◌==◌, Bool, true, false, not, ◌&&◌, List, [], ◌∷◌, ◌++◌, Option, Some, None, refl, sym, ap, subst, ◌∙◌, arith, nat_tests, append-nil, is_some, slice_get, option_map, Member, Outcome, Tid, same_tid-true, same_member-true, Op, Vote, Act, Entry, Found, TransactionValue, is_open, is_crossed, is_outcome, part_of, Cell, BookValue, find_transaction, crossed_in, broken_learn, may_learn, broken_act, broken, effect, NodeValue, changes_of}
+use Rattle.qs_book_laws.proofs.Words.{OnRecord, held_at, crossed_at, is_share, change_served, keeps_contents, lets_go, votes_on, le_one_more}
 use Rattle.qs_base.specs.declared.identifiers.Outcome.TheVariants as outcomes
-use Rattle.qs_base.specs.declared.identifiers.Tid.{Tid}
-use Rattle.qs_base.proofs.Same.{same_tid-true, same_member-true}
-use Rattle.qs_ops.specs.declared.operation.Op.{Op}
-use Rattle.qs_ops.specs.declared.vote.Vote.{Vote}
 use Rattle.qs_ops.specs.declared.vote.Vote.TheVariants as votes
-use Rattle.qs_book_journal.specs.declared.entry.Act.{Act}
 use Rattle.qs_book_journal.specs.declared.entry.Act.TheVariants as acts
-use Rattle.qs_book_journal.specs.declared.entry.Entry.{Entry}
-use Rattle.qs_book_journal.specs.declared.entry.Found.{Found}
-use Rattle.qs_book_machine.specs.Transaction.{TransactionValue, is_open, is_crossed, is_outcome, part_of}
-use Rattle.qs_book_machine.specs.declared.transaction.Cell.{Cell}
 use Rattle.qs_book_machine.specs.declared.transaction.Cell.TheVariants as cells
-use Rattle.qs_book_machine.specs.Book.{BookValue, find_transaction, crossed_in}
-use Rattle.qs_book_machine.specs.Clauses.{broken_learn, may_learn}
-use Rattle.qs_book_machine.specs.Lawful.{broken_act, broken, effect}
-use Rattle.qs_book_machine.specs.Nodes.{NodeValue, changes_of}
-use Rattle.qs_book_machine.specs.declared.state.OnRecord.{OnRecord}
-use Rattle.qs_book_laws.specs.Served.{held_at, crossed_at, is_share, change_served, keeps_contents, lets_go, votes_on}
 use Rattle.qs_book_laws.proofs.Ballots.{IsEven, Evens, ballot_known, ballot_evens, ballot_mark, against_leaves, not_volatile, recorded_mark, lets_all_go}
 use Rattle.qs_book_laws.proofs.Counts.{Count, count_of, no_count, is_for_commit}
 use Rattle.qs_book_laws.proofs.Covered.{one_more}
@@ -42,6 +22,7 @@ use Rattle.qs_book_laws.proofs.Shares.{number}
 use Rattle.qs_book_laws.proofs.Steps.{passed, stepped}
 use Rattle.qs_book_laws.proofs.Takes.{some_same}
 use Rattle.qs_book_laws.proofs.Tidy.{AllTidy}
+use Rattle.qs_base_lemmas.proofs.Tests.{lt_apart, eqb_turned, eq_le}
 
 -- ---- transactions that may still be committed at a member
 
@@ -92,23 +73,11 @@ live_before tid member old new kept grows live = of (find_transaction old tid) r
 
 -- ---- numbers
 
-apart_below : (m n : ℕ) → m < n → (m == n) ≡ false
-apart_below m n h = grind (arith, nat_tests)
-
 apart_above : (m n : ℕ) → n < m → (m == n) ≡ false
 apart_above m n h = grind (arith, nat_tests)
 
-equal_at : (m n : ℕ) → (m == n) ≡ true → n ≡ m
-equal_at m n h = grind (arith, nat_tests)
-
-one_above : (m n : ℕ) → m ≤ n → m ≤ n + 1
-one_above m n h = omega arith
-
 never : (m n : ℕ) → m ≤ n → m ≡ n + 1 → ⊥
 never m n h k = omega arith
-
-at_most : (m n : ℕ) → m ≡ n → m ≤ n
-at_most m n h = omega arith
 
 front_empty : (xs ys : List Op) → xs ++ ys ≡ [] → xs ≡ []
 front_empty [] ys h = refl
@@ -152,7 +121,7 @@ module _ (tid : Tid) (member : Member) where
   serving_keeps old new changes more serves grows holds k = record {
     mark = k.mark;
     at = serves.mark ∙ k.at;
-    pending = λ even. holds ∙ ap (λ (ops : List Op). ops ++ more) (k.pending (λ i below. subst IsEven (serves.others k.mark k.at i (apart_below i k.mark.inc below)) (even i below)));
+    pending = λ even. holds ∙ ap (λ (ops : List Op). ops ++ more) (k.pending (λ i below. subst IsEven (serves.others k.mark k.at i (lt_apart i k.mark.inc below)) (even i below)));
     on_record = λ even.
         let late : (count_of old tid member k.mark.inc).covered ≡ (count_of old tid member k.mark.inc).served + 1 = subst IsEven (serves.here k.mark k.at) even in
         absurd (never (count_of old tid member k.mark.inc).covered (count_of old tid member k.mark.inc).served (k.most k.mark.inc) late);
@@ -164,8 +133,8 @@ module _ (tid : Tid) (member : Member) where
     where
       most : (i : ℕ) (b : Bool) → (i == k.mark.inc) ≡ b → (count_of new tid member i).covered ≤ (count_of new tid member i).served
       most i true is =
-          subst (λ (n : ℕ). (count_of new tid member n).covered ≤ (count_of new tid member n).served) (equal_at i k.mark.inc is)
-          (subst (λ (c : Count). c.covered ≤ c.served) (sym (serves.here k.mark k.at)) (one_above (count_of old tid member k.mark.inc).covered (count_of old tid member k.mark.inc).served (k.most k.mark.inc)))
+          subst (λ (n : ℕ). (count_of new tid member n).covered ≤ (count_of new tid member n).served) (eqb_turned i k.mark.inc is)
+          (subst (λ (c : Count). c.covered ≤ c.served) (sym (serves.here k.mark k.at)) (le_one_more (count_of old tid member k.mark.inc).covered (count_of old tid member k.mark.inc).served (k.most k.mark.inc)))
       most i false far = subst (λ (c : Count). c.covered ≤ c.served) (sym (serves.others k.mark k.at i far)) (k.most i)
 
   -- a vote to commit, with what is on record after it
@@ -174,7 +143,7 @@ module _ (tid : Tid) (member : Member) where
   voting_keeps old new changes rec k evens known holds marked recorded = record {
     mark = record { inc = k.mark.inc; rec = rec };
     at = marked;
-    pending = λ even. holds ∙ k.pending (λ i below. subst IsEven (evens.others k.mark k.at i (apart_below i k.mark.inc below)) (even i below));
+    pending = λ even. holds ∙ k.pending (λ i below. subst IsEven (evens.others k.mark k.at i (lt_apart i k.mark.inc below)) (even i below));
     on_record = λ even. recorded;
     above = λ i above. evens.others k.mark k.at i (apart_above i k.mark.inc above) ∙ k.above i above;
     most = λ i. most i (i == k.mark.inc) refl;
@@ -184,8 +153,8 @@ module _ (tid : Tid) (member : Member) where
     where
       most : (i : ℕ) (b : Bool) → (i == k.mark.inc) ≡ b → (count_of new tid member i).covered ≤ (count_of new tid member i).served
       most i true is =
-          subst (λ (n : ℕ). (count_of new tid member n).covered ≤ (count_of new tid member n).served) (equal_at i k.mark.inc is)
-          (at_most (count_of new tid member k.mark.inc).covered (count_of new tid member k.mark.inc).served (evens.here k.mark k.at))
+          subst (λ (n : ℕ). (count_of new tid member n).covered ≤ (count_of new tid member n).served) (eqb_turned i k.mark.inc is)
+          (eq_le (count_of new tid member k.mark.inc).covered (count_of new tid member k.mark.inc).served (evens.here k.mark k.at))
       most i false far = subst (λ (c : Count). c.covered ≤ c.served) (sym (evens.others k.mark k.at i far)) (k.most i)
 
   -- ---- a step
@@ -322,6 +291,6 @@ module _ (tid : Tid) (member : Member) where
     step_keeps (acts.Restart inc pend done) act_is restarts = by (entry.node.0 == member.node.0) refl
       where
         by : (b : Bool) → (entry.node.0 == member.node.0) ≡ b → Stays
-        by true near = restarts inc pend done act_is (sym (equal_at entry.node.0 member.node.0 near))
+        by true near = restarts inc pend done act_is (sym (eqb_turned entry.node.0 member.node.0 near))
         by false far = quietly (acts.Restart inc pend done) act_is far refl refl
     step_keeps act act_is restarts = quietly act act_is refl refl refl

@@ -1,19 +1,8 @@
 -- The changes of a committed transaction at files and audit: all that it served is kept as it is committed, until an entry
 -- applies it, once.
-use Rattle.std.proofs.Common.{◌≡◌, true, List, ◌∷◌, ◌++◌, Option, Some, sym, ap, ◌∙◌, nat_lt}
-use Rattle.std.specs.Prelude.{length}
-use Rattle.qs_base.specs.declared.identifiers.Member.{Member}
-use Rattle.qs_base.specs.declared.identifiers.Tid.{Tid}
-use Rattle.qs_book_journal.specs.declared.entry.Entry.{Entry}
-use Rattle.qs_book_machine.specs.Transaction.{TransactionValue, is_open}
+use Rattle.qs_book_laws.proofs.Words.{◌≡◌, true, List, ◌∷◌, ◌++◌, Option, Some, sym, ap, ◌∙◌, nat_lt, length, Member, Tid, Entry, TransactionValue, is_open, find_transaction, cell_of_transaction, effect, IsLawful, book_after, opening, Opened, IsCommitted, IsCoherent, changes_served, keeps_contents}
 use Rattle.qs_book_machine.specs.declared.transaction.Cell.TheVariants as cells
-use Rattle.qs_book_machine.specs.Book.{find_transaction, cell_of_transaction}
-use Rattle.qs_book_machine.specs.Lawful.{effect, IsLawful, book_after}
-use Rattle.qs_book_machine.specs.Opening.{opening}
-use Rattle.qs_book_machine.specs.declared.opened.Opened.{Opened}
 use Rattle.qs_book_laws.specs.Durable.{IsDurable}
-use Rattle.qs_book_laws.specs.Laws.{IsCommitted, IsCoherent}
-use Rattle.qs_book_laws.specs.Served.{changes_served, keeps_contents}
 use Rattle.qs_book_laws.proofs.AtCommit.{kept_at_commit}
 use Rattle.qs_book_laws.proofs.Committed.{ran_shut}
 use Rattle.qs_book_laws.proofs.Durable.{kept_from_commit}

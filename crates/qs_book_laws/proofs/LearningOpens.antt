@@ -1,19 +1,5 @@
 -- As a run begins, what is pending by an old log is still to learn.
-use Rattle.std.proofs.Common.{◌≡◌, ℕ, ◌≤◌, ◌==◌, ◌&&◌, Bool, true, false, List, [], Option, Some, refl, sym, ap, subst, ◌∙◌, arith, length, nat_lt, if◌then◌else◌}
-use Rattle.std.proofs.lemmas.Option.{slice_get-map}
-use Rattle.std.specs.Prelude.{slice_get}
-use Rattle.std.specs.List.{list_any}
-use Rattle.std.specs.Option.{option_map}
-use Rattle.qs_base.specs.Order.{same_member}
-use Rattle.qs_base.specs.declared.identifiers.Member.{Member}
-use Rattle.qs_base.specs.declared.identifiers.Tid.{Tid}
-use Rattle.qs_book_machine.specs.Book.{find_transaction}
-use Rattle.qs_book_machine.specs.Nodes.{NodeValue}
-use Rattle.qs_book_machine.specs.Opening.{opened_node, opening}
-use Rattle.qs_book_machine.specs.Transaction.{TransactionValue, found_part, part_of}
-use Rattle.qs_book_machine.specs.declared.opened.Opened.{Opened}
-use Rattle.qs_book_machine.specs.declared.transaction.Part.{Part}
-use Rattle.qs_book_laws.specs.Served.{held_at, keeps_contents}
+use Rattle.qs_book_laws.proofs.Words.{◌≡◌, ℕ, ◌==◌, ◌&&◌, Bool, true, false, List, [], Option, Some, refl, sym, ap, subst, ◌∙◌, length, nat_lt, if◌then◌else◌, le_refl, slice_get-map, slice_get, list_any, option_map, same_member, Member, Tid, find_transaction, NodeValue, opened_node, opening, TransactionValue, found_part, part_of, Opened, Part, held_at, keeps_contents}
 use Rattle.qs_book_laws.proofs.Always.{opening_so}
 use Rattle.qs_book_laws.proofs.Begun.{inc_in}
 use Rattle.qs_book_laws.proofs.Ends.{held_there}
@@ -36,14 +22,11 @@ module _ (opened : List Opened) (tid : Tid) (member : Member) (keeps : keeps_con
   -- as the run begins
   pub first : Learning tid member (opening opened)
   first = record {
-    most = λ i. opening_so tid (λ (tx : TransactionValue). IsMost (part_of tx member i)) (λ cell cause. none 0)
-        (λ m k covers changes tx p. subst IsMost (sym (put_part member i tx m k (found_part covers changes))) (choose (same_member m member && (k == i)) (found_part covers changes) (part_of tx member i) (none 0) p)) opened;
+    most = λ i. opening_so tid (λ (tx : TransactionValue). IsMost (part_of tx member i)) (λ cell cause. le_refl 0)
+        (λ m k covers changes tx p. subst IsMost (sym (put_part member i tx m k (found_part covers changes))) (choose (same_member m member && (k == i)) (found_part covers changes) (part_of tx member i) (le_refl 0) p)) opened;
     waits = λ tx inc found inc_now unabort plain has. by (list_any (is_opened_with tid member) one.0.pending) refl tx inc found inc_now has;
   }
     where
-      none : (n : ℕ) → n ≤ n
-      none n = omega arith
-
       choose : (b : Bool) (x y : Part) → IsMost x → IsMost y → IsMost (if b then x else y)
       choose true x y p q = p
       choose false x y p q = q
@@ -56,7 +39,7 @@ module _ (opened : List Opened) (tid : Tid) (member : Member) (keeps : keeps_con
 
       by : (b : Bool) → list_any (is_opened_with tid member) one.0.pending ≡ b → (tx : TransactionValue) (inc : ℕ) → find_transaction (opening opened) tid ≡ Some tx → inc_in (opening opened) member.node.0 ≡ Some inc
           → (held_at (opening opened) tid member ≡ [] → ⊥) → IsUnlearnt (part_of tx member inc)
-      by false none tx inc found inc_is has = absurd (has (held_there (opening opened) tid member (opened_node one.0) node_there ∙ none_first side.0 member side.1 one.0 tid none))
+      by false le_refl tx inc found inc_is has = absurd (has (held_there (opening opened) tid member (opened_node one.0) node_there ∙ none_first side.0 member side.1 one.0 tid le_refl))
       by true is tx inc found inc_is has =
           let its : one.0.inc ≡ inc = some_same one.0.inc inc (sym (inc_of_node (opening opened) member.node.0 (opened_node one.0) node_there) ∙ inc_is) in
           let s : Stands tid (OfFound tid member inc) (opening opened) = found_first tid member inc opened one.0 one.1 its is in

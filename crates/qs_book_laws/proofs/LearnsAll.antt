@@ -1,32 +1,11 @@
 -- As the servers of a node learn commit, files and audit commit what is on record, once each, and nothing of it is left on record.
-use Rattle.std.proofs.Common.{◌≡◌, ℕ, ◌==◌, ◌||◌, Bool, true, false, List, [], ◌∷◌, Option, Some, None, refl, sym, ap, subst, ◌∙◌, arith, length, nat_lt, if◌then◌else◌}
-use Rattle.std.proofs.lemmas.Bool.Decides.{nat_tests}
-use Rattle.std.specs.Prelude.{slice_get}
-use Rattle.std.specs.List.{list_any}
-use Rattle.std.specs.BTreeMap.{is_at}
-use Rattle.std.specs.Map.{lookup, remove_entry}
-use Rattle.qs_base.specs.Order.{same_tid}
-use Rattle.qs_base.proofs.Same.{same_tid-self, same_tid-true}
-use Rattle.qs_base.specs.declared.identifiers.Member.{Member}
+use Rattle.qs_book_laws.proofs.Words.{◌≡◌, ℕ, ◌==◌, ◌||◌, Bool, true, false, List, [], ◌∷◌, Option, Some, None, refl, sym, ap, subst, ◌∙◌, length, nat_lt, if◌then◌else◌, slice_get, list_any, is_at, lookup, remove_entry, same_tid, same_tid-self, same_tid-true, Member, Tid, Entry, BookValue, cell_of_transaction, doubts_after, learn_node, IsLawful, book_after, effect, NodeValue, changes_of, pending_at, record_of, voter, voter_cmp, with_table, opening, is_abort, Opened, OnRecord, Voter, TableValue}
+use Rattle.qs_book_laws.proofs.Words.{committed, share_of, Op, IsCoherent, IsCommitted, held_at, keeps_contents}
 use Rattle.qs_base.specs.declared.identifiers.Outcome.TheVariants as outcomes
 use Rattle.qs_base.specs.declared.identifiers.ServerNo.{ServerNo}
-use Rattle.qs_base.specs.declared.identifiers.Tid.{Tid}
 use Rattle.qs_book_journal.specs.declared.entry.Act.TheVariants as acts
-use Rattle.qs_book_journal.specs.declared.entry.Entry.{Entry}
-use Rattle.qs_book_machine.specs.Book.{BookValue, cell_of_transaction, doubts_after, learn_node}
-use Rattle.qs_book_machine.specs.Lawful.{IsLawful, book_after, effect}
-use Rattle.qs_book_machine.specs.Nodes.{NodeValue, changes_of, pending_at, record_of, voter, voter_cmp, with_table}
-use Rattle.qs_book_machine.specs.Opening.{opening}
-use Rattle.qs_book_machine.specs.Transaction.{is_abort}
-use Rattle.qs_book_machine.specs.declared.opened.Opened.{Opened}
-use Rattle.qs_book_machine.specs.declared.state.OnRecord.{OnRecord}
-use Rattle.qs_book_machine.specs.declared.state.Voter.{Voter}
 use Rattle.qs_book_machine.specs.declared.transaction.Cell.TheVariants as cells
-use Rattle.qs_ops.specs.Table.{TableValue, committed, share_of}
-use Rattle.qs_ops.specs.declared.operation.Op.{Op}
-use Rattle.qs_book_laws.specs.Laws.{IsCoherent, IsCommitted}
 use Rattle.qs_book_laws.specs.Learning.{AllLearn, HasCommitted, HasLearnt, is_server, learning}
-use Rattle.qs_book_laws.specs.Served.{held_at, keeps_contents}
 use Rattle.qs_book_laws.proofs.Again.{record_there}
 use Rattle.qs_book_laws.proofs.Alikes.{voter_exact, voter_itself}
 use Rattle.qs_book_laws.proofs.Covers.{voter_apart}
@@ -43,6 +22,7 @@ use Rattle.qs_book_laws.proofs.Shares.{number, removed_apart, table, table_other
 use Rattle.qs_book_laws.proofs.Takes.{some_same}
 use Rattle.qs_book_laws.proofs.Tidy.{AllTidy, IsTidy, opening_tidy, step_tidy}
 use Rattle.qs_book_laws.proofs.Unlearnt.{pending_learns}
+use Rattle.std.proofs.lemmas.Bool.{eqb-false}
 
 -- ---- one server
 
@@ -133,12 +113,9 @@ one_more tid server servers node after tidy rest = record {
     gone b none true is = is
     gone b none false is = is ∙ none
 
-    off : (k m : ℕ) → (k == m) ≡ false → k ≡ m → ⊥
-    off k m far is = let near : (k == m) ≡ true = grind (arith, nat_tests, is) in cc (sym far ∙ near)
-
     records : (b c : Bool) → (server.0 == number b) ≡ c → record_of after tid (number b) ≡ (if c || has b servers then None else record_of node tid (number b))
     records b true is = gone b (gone_here tid server node b (same_number server.0 (number b) is) tidy) (has b servers) (rest.records b)
-    records b false far = subst (λ (o : Option OnRecord). record_of after tid (number b) ≡ (if has b servers then None else o)) (record_apart tid server node tid (number b) (λ is. absurd (off server.0 (number b) far is))) (rest.records b)
+    records b false far = subst (λ (o : Option OnRecord). record_of after tid (number b) ≡ (if has b servers then None else o)) (record_apart tid server node tid (number b) (λ is. absurd (eqb-false server.0 (number b) far is))) (rest.records b)
 
 -- the node after all of them
 abbrev Ran : ℕ → ℕ → Tid → List ServerNo → BookValue → NodeValue → Type 0

@@ -1,36 +1,11 @@
 -- What a member has on record of a transaction, and its counts, stay as they are at an entry at which it does nothing on it.
-use Rattle.std.proofs.Common.{◌≡◌, ℕ, Bool, true, false, List, [], ◌==◌, Option, Some, None, refl, sym, ap, subst, ◌∙◌}
-use Rattle.std.specs.Prelude.{unwrap_or, slice_get}
-use Rattle.std.specs.Option.{option_map}
-use Rattle.std.specs.Map.{lookup}
-use Rattle.std.specs.BTreeMap.{is_at}
-use Rattle.qs_base.specs.Order.{tid_cmp, same_tid}
-use Rattle.qs_base.specs.declared.identifiers.ClientNo.{ClientNo}
-use Rattle.qs_base.specs.declared.identifiers.Member.{Member}
-use Rattle.qs_base.specs.declared.identifiers.NodeNo.{NodeNo}
-use Rattle.qs_base.specs.declared.identifiers.Outcome.{Outcome}
+use Rattle.qs_book_laws.proofs.Words.{◌≡◌, ℕ, Bool, true, false, List, [], ◌==◌, Option, Some, None, refl, sym, ap, subst, ◌∙◌, unwrap_or, slice_get, option_map, lookup, is_at, tid_cmp, same_tid, ClientNo, Member, NodeNo, Outcome, Tid, Op, Reply, Vote, tid_exact, Act, Begin, Issue, Serve, Ask, Counted, Decide, Ending, Learn, Loan, Yield, Tick, Crash, Restart, Found, TransactionValue, begun, issued, asked_at, counted, ended, ended_part, learnt, voted, served_in, life, life_cmp, Request, BookValue}
+use Rattle.qs_book_laws.proofs.Words.{find_transaction, changed_at, with_node, with_owner, with_transaction, with_waiting, crosses, begin, issue, serve, vote, crossed_in, learn, learn_node, doubts_after, answer, waiting_of, inc_at, is_done, ticks_at, end, count, loan, give_back, tick_node, crash_node, link_to, borrower_at, broken_vote, broken_learn, Entry, TableValue, committed, is_in_order, broken_act, broken_node, broken_at, broken, effect_act, effect, NodeValue, with_table, restart}
+use Rattle.qs_book_laws.proofs.Words.{restarted_node, reopened, put_new_votes, with_votes, new_votes, Owner, is_share, lets_go, votes_on}
 use Rattle.qs_base.specs.declared.identifiers.Outcome.TheVariants as outcomes
-use Rattle.qs_base.specs.declared.identifiers.Tid.{Tid}
-use Rattle.qs_ops.specs.declared.operation.Op.{Op}
-use Rattle.qs_ops.specs.declared.reply.Reply.{Reply}
-use Rattle.qs_ops.specs.declared.vote.Vote.{Vote}
 use Rattle.qs_ops.specs.declared.vote.Vote.TheVariants as votes
-use Rattle.qs_base.proofs.TidOrder.{tid_exact}
-use Rattle.qs_book_journal.specs.declared.entry.Act.{Act}
-use Rattle.qs_book_journal.specs.declared.entry.Act.TheVariants.{Begin, Issue, Serve, Ask, Counted, Decide, Ending, Learn, Answer, Loan, Yield, Tick, Crash, Restart}
+use Rattle.qs_book_journal.specs.declared.entry.Act.TheVariants.{Answer}
 use Rattle.qs_book_journal.specs.declared.entry.Act.TheVariants as acts
-use Rattle.qs_book_journal.specs.declared.entry.Found.{Found}
-use Rattle.qs_book_machine.specs.Transaction.{TransactionValue, begun, issued, asked_at, counted, ended, ended_part, learnt, voted, served_in, life, life_cmp}
-use Rattle.qs_book_machine.specs.declared.transaction.Request.{Request}
-use Rattle.qs_book_machine.specs.Book.{BookValue, find_transaction, changed_at, with_node, with_owner, with_transaction, with_waiting, crosses, begin, issue, serve, vote, crossed_in, learn, learn_node, doubts_after, answer, waiting_of, inc_at, is_done, ticks_at, end, count, loan, give_back, tick_node, crash_node}
-use Rattle.qs_book_machine.specs.Clauses.{link_to, borrower_at, broken_vote, broken_learn}
-use Rattle.qs_book_journal.specs.declared.entry.Entry.{Entry}
-use Rattle.qs_ops.specs.Table.{TableValue, committed}
-use Rattle.qs_book_machine.specs.Lawful.{is_in_order, broken_act, broken_node, broken_at, broken, effect_act, effect}
-use Rattle.qs_book_machine.specs.Nodes.{NodeValue, with_table}
-use Rattle.qs_book_machine.specs.Restart.{restart, restarted_node, reopened, put_new_votes, with_votes, new_votes}
-use Rattle.qs_book_machine.specs.declared.state.Owner.{Owner}
-use Rattle.qs_book_laws.specs.Served.{is_share, lets_go, votes_on}
 use Rattle.qs_book_laws.proofs.Acts as alike
 use Rattle.qs_book_laws.proofs.Alikes.{tid_itself, at_exact}
 use Rattle.qs_book_laws.proofs.Counts.{count_of, count_in, no_count, Counted as SameCount, of_transaction, of_decide, of_hear, of_loan, of_yield, of_settled, changed_counts, learnt_counts, put_apart, voted_apart}

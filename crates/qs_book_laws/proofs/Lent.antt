@@ -1,32 +1,13 @@
 -- In each life of its node, as many loans were made to a client as it was asked to take, and as many given back, where in the
 -- end all members agree.
-use Rattle.std.proofs.Common.{◌≡◌, ℕ, ◌+◌, ◌==◌, ◌&&◌, Bool, true, false, Option, Some, None, refl, sym, ap, ◌∙◌, if◌then◌else◌, arith}
-use Rattle.std.proofs.lemmas.Bool.Decides.{nat_tests}
-use Rattle.std.specs.Prelude.{slice_get, nat_lt, is_some}
-use Rattle.qs_base.specs.Order.{same_tid, same_member}
-use Rattle.qs_base.specs.declared.identifiers.Class.{Class}
+use Rattle.qs_book_laws.proofs.Words.{◌≡◌, ℕ, ◌+◌, ◌==◌, ◌&&◌, Bool, true, false, Option, Some, None, refl, sym, ap, ◌∙◌, if◌then◌else◌, slice_get, nat_lt, is_some, same_tid, same_member, Class, ClientNo, Member, Outcome, Tid, same_tid-true, same_member-true, class_of, Reply, Vote, Act, Begin, Issue, Serve, Ask, Counted, Decide, Ending, Learn, Loan, Yield, Tick, Crash, Restart, Entry, TransactionValue, borrower, serving_part, voted_part, learnt_part, made_part, yielded_part, Part, BookValue}
+use Rattle.qs_book_laws.proofs.Words.{find_transaction, inc_at, is_done, borrower_at, broken_serve, is_in_order, broken_act, broken_at, broken, NodeValue, is_share, eq-eqb}
 use Rattle.qs_base.specs.declared.identifiers.Class.TheVariants as classes
-use Rattle.qs_base.specs.declared.identifiers.ClientNo.{ClientNo}
-use Rattle.qs_base.specs.declared.identifiers.Member.{Member}
-use Rattle.qs_base.specs.declared.identifiers.Outcome.{Outcome}
 use Rattle.qs_base.specs.declared.identifiers.Outcome.TheVariants as outcomes
-use Rattle.qs_base.specs.declared.identifiers.Tid.{Tid}
-use Rattle.qs_base.proofs.Same.{same_tid-true, same_member-true}
-use Rattle.qs_ops.specs.Members.{class_of}
-use Rattle.qs_ops.specs.declared.reply.Reply.{Reply}
-use Rattle.qs_ops.specs.declared.vote.Vote.{Vote}
 use Rattle.qs_ops.specs.declared.vote.Vote.TheVariants as votes
-use Rattle.qs_book_journal.specs.declared.entry.Act.{Act}
-use Rattle.qs_book_journal.specs.declared.entry.Act.TheVariants.{Begin, Issue, Serve, Ask, Counted, Decide, Ending, Learn, Answer, Loan, Yield, Tick, Crash, Restart}
+use Rattle.qs_book_journal.specs.declared.entry.Act.TheVariants.{Answer}
 use Rattle.qs_book_journal.specs.declared.entry.Act.TheVariants as acts
-use Rattle.qs_book_journal.specs.declared.entry.Entry.{Entry}
-use Rattle.qs_book_machine.specs.Transaction.{TransactionValue, borrower, serving_part, voted_part, learnt_part, made_part, yielded_part}
-use Rattle.qs_book_machine.specs.declared.transaction.Part.{Part}
-use Rattle.qs_book_machine.specs.Book.{BookValue, find_transaction, inc_at, is_done}
-use Rattle.qs_book_machine.specs.Clauses.{borrower_at, broken_serve, broken_loan, may_lend, broken_yield, may_yield}
-use Rattle.qs_book_machine.specs.Lawful.{is_in_order, broken_act, broken_at, broken}
-use Rattle.qs_book_machine.specs.Nodes.{NodeValue}
-use Rattle.qs_book_laws.specs.Served.{is_share}
+use Rattle.qs_book_machine.specs.Clauses.{broken_loan, may_lend, broken_yield, may_yield}
 use Rattle.qs_book_laws.specs.Unanimity.{Loans, loans_after}
 use Rattle.qs_book_laws.proofs.Begun.{inc_in}
 use Rattle.qs_book_laws.proofs.Ended.{member_of, acts_here}
@@ -120,9 +101,6 @@ module _ (tid : Tid) (member : Member) (inc : ℕ) where
         ∙ ap (λ (b : Bool). if b then record (loans_of part) { returned = part.yielded + 1 } else loans_of part) (same_test t (borrower client (record { 0 = here })) now (near (borrower client (record { 0 = here })) there)))
     acted act h near = refl
 
-  equal : (n m : ℕ) → n ≡ m → (n == m) ≡ true
-  equal n m e = grind (arith, nat_tests)
-
   -- an entry that is no restart of the member's node, in the present life
   pub counted_on : (book : BookValue) (entry : Entry) (part : Part) → broken book entry ≡ None → inc_in book member.node.0 ≡ Some inc
       → loans_of (part_after tid member inc (inc_at book entry.node) entry.stamp entry.node.0 entry.act part) ≡ loans_after tid member (loans_of part) entry.node entry.act
@@ -135,7 +113,7 @@ module _ (tid : Tid) (member : Member) (inc : ℕ) where
       of (Some node) act k =
           let lawful : broken_act book entry.stamp entry.node.0 node act ≡ None = (held node.up 2 (broken_act book entry.stamp entry.node.0 node act) k).1 in
           acted book (inc_at book entry.node) entry.stamp entry.node.0 node part act lawful
-          (λ other is same. equal (inc_at book entry.node) inc
+          (λ other is same. eq-eqb (inc_at book entry.node) inc
           (inc_is book entry.node.0 inc (ap (inc_in book) (sym (acts_here book entry.stamp entry.node.0 node act other lawful is) ∙ ap (λ (x : Member). x.node.0) (same_member-true other member same)) ∙ was)))
 
 -- ---- where the transaction is not known, no entry is of it

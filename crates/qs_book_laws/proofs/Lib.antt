@@ -1,3 +1,4 @@
+pub mod Words
 pub mod Maps
 pub mod Faces
 pub mod Acts

@@ -1,19 +1,8 @@
 -- What is open on a link after some entries stays so through further ones unless its node counts it: step by step of a node.
-use Rattle.std.proofs.Common.{◌≡◌, ℕ, ◌+◌, ◌<◌, ◌≤◌, ◌==◌, ◌&&◌, ◌||◌, Bool, true, false, not, List, [], ◌∷◌, Some, None, refl, sym, ap, subst, ◌∙◌, if◌then◌else◌, arith}
-use Rattle.std.proofs.lemmas.Bool.Decides.{nat_tests}
-use Rattle.std.specs.Prelude.{nat_lt, nat_le}
-use Rattle.qs_base.specs.Order.{same_tid}
-use Rattle.qs_base.specs.declared.identifiers.NodeNo.{NodeNo}
-use Rattle.qs_base.specs.declared.identifiers.Tid.{Tid}
-use Rattle.qs_book_journal.specs.declared.entry.Act.{Act}
-use Rattle.qs_book_journal.specs.declared.entry.Act.TheVariants.{Counted}
-use Rattle.qs_book_journal.specs.declared.entry.Entry.{Entry}
-use Rattle.qs_book_machine.specs.Transaction.{is_by_files, sent_in, sent_more, with_counted}
-use Rattle.qs_book_machine.specs.declared.transaction.Link.{Link}
-use Rattle.qs_book_machine.specs.declared.transaction.Request.{Request}
-use Rattle.qs_book_machine.specs.declared.transaction.Sent.{Sent}
-use Rattle.qs_book_laws.specs.Gone.{is_count_of, counts, is_counted}
-use Rattle.qs_book_laws.specs.Lives.{restarts}
+use Rattle.qs_book_laws.proofs.Words.{◌≡◌, ℕ, ◌+◌, ◌<◌, ◌≤◌, ◌==◌, ◌&&◌, ◌||◌, Bool, true, false, not, List, [], ◌∷◌, Some, None, refl, sym, ap, subst, ◌∙◌, if◌then◌else◌, arith, nat_tests, nat_lt, nat_le, same_tid, NodeNo, Tid, Act, Counted, Entry, is_by_files, sent_in, sent_more, with_counted, Link, Request, Sent, is_count_of, is_counted, restarts, and_false}
+use Rattle.qs_book_laws.specs.Gone.{counts}
+use Rattle.qs_base.proofs.TidOrder.{or-true}
+use Rattle.qs_base_lemmas.proofs.Tests.{le_next}
 
 module _ (tid : Tid) (node : NodeNo) where
   -- it is open to the node, and stays so through these entries; `inc` has the incarnations before them
@@ -77,11 +66,7 @@ module _ (tid : Tid) (node : NodeNo) where
         ap (λ (n : ℕ). (s.inc == n) && is_counted tid node from s.count since) (p.still from far) ∙ ap (λ (b : Bool). (s.inc == inc from) && b) (sym (counted_on from s.count far none))
     live from s below none true near =
         ap (λ (b : Bool). b && is_counted tid node from s.count since) (differs s.inc (inc from) (new from) below (p.later from near))
-        ∙ sym (ap (λ (r : Bool). (s.inc == inc from) && (not r && (counts tid node from s.count entry || is_counted tid node from s.count since))) near ∙ off (s.inc == inc from))
-      where
-        off : (b : Bool) → (b && false) ≡ false
-        off true = refl
-        off false = refl
+        ∙ sym (ap (λ (r : Bool). (s.inc == inc from) && (not r && (counts tid node from s.count entry || is_counted tid node from s.count since))) near ∙ and_false (s.inc == inc from))
 
     pub plain : (k : Link) (s : Sent) → s.inc ≤ inc k.from → counts tid node k.from s.count entry ≡ false → after (k, s) ≡ before (k, s)
     plain k s below none =
@@ -205,11 +190,7 @@ module _ (tid : Tid) (node : NodeNo) where
           joined false l f g c a h = refl
           joined true true f g c a h = refl
           joined true false true g c a h = refl
-          joined true false false g true a h = rw (h refl) (last g)
-            where
-              last : (b : Bool) → (b || true) ≡ true
-              last true = refl
-              last false = refl
+          joined true false false g true a h = rw (h refl) (or-true g)
           joined true false false g false a h = refl
 
           lost_more : (t l m f g a : Bool) → (t && ((l || m) || ((f || g) || a))) ≡ ((t && (l || (f || (m && true)))) || (t && (g || a)))
@@ -227,11 +208,8 @@ module _ (tid : Tid) (node : NodeNo) where
               over a b h = grind (arith, nat_tests)
 
           wider : (nat_lt s.counted s.count && not (C s.count)) ≡ true → not (C (s.count + 1)) ≡ true
-          wider h = of (C s.count) (C (s.count + 1)) (counted_less k.from s.count (s.count + 1) (one s.count) since) (nat_lt s.counted s.count) h
+          wider h = of (C s.count) (C (s.count + 1)) (counted_less k.from s.count (s.count + 1) (le_next s.count) since) (nat_lt s.counted s.count) h
             where
-              one : (n : ℕ) → n ≤ n + 1
-              one n = omega arith
-
               of : (c d : Bool) → (d ≡ true → c ≡ true) → (b : Bool) → (b && not c) ≡ true → not d ≡ true
               of c false f b h = refl
               of true true f true h = absurd (cc h)

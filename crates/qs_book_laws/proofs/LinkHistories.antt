@@ -1,27 +1,11 @@
 -- Through every lawful history: a link to a node is open where it was and is not counted since, or where an issue since is open.
-use Rattle.std.proofs.Common.{◌≡◌, ℕ, ◌≤◌, ◌==◌, ◌&&◌, ◌||◌, Bool, true, false, not, List, [], ◌∷◌, Option, Some, None, refl, sym, ap, subst, ◌∙◌, if◌then◌else◌, arith}
-use Rattle.std.proofs.lemmas.Bool.Decides.{nat_tests}
-use Rattle.std.specs.Prelude.{slice_get, length, nat_lt, nat_le}
-use Rattle.std.specs.List.{list_any}
-use Rattle.qs_base.specs.Order.{same_tid}
-use Rattle.qs_base.specs.declared.identifiers.Member.{Member}
-use Rattle.qs_base.specs.declared.identifiers.NodeNo.{NodeNo}
-use Rattle.qs_base.specs.declared.identifiers.Outcome.{Outcome}
+use Rattle.qs_book_laws.proofs.Words.{◌≡◌, ℕ, ◌≤◌, ◌==◌, ◌&&◌, ◌||◌, Bool, true, false, not, List, [], ◌∷◌, Option, Some, None, refl, sym, ap, subst, ◌∙◌, if◌then◌else◌, arith, nat_tests, slice_get, length, nat_lt, nat_le, list_any, same_tid, Member, NodeNo, Outcome, Tid, same_tid-true, files_no, Op, Act, Begin, Issue, Serve, Ask, Counted, Decide, Ending, Learn, Loan, Yield, Tick, Crash, Restart, Entry, TransactionValue, sent_on, sent_in, is_commit, is_open_link, learnt, lent, given_back}
+use Rattle.qs_book_laws.proofs.Words.{BookValue, find_transaction, inc_at, link_to, borrower_at, broken_issue, is_numbered, broken_issuer, is_in_order, broken_act, broken_at, broken, effect, IsLawful, book_after, NodeValue, is_count_of, is_counted, false-or, or_assoc}
 use Rattle.qs_base.specs.declared.identifiers.Outcome.TheVariants as outcomes
-use Rattle.qs_base.specs.declared.identifiers.Tid.{Tid}
-use Rattle.qs_base.proofs.Same.{same_tid-true}
-use Rattle.qs_ops.specs.Servers.{files_no}
-use Rattle.qs_ops.specs.declared.operation.Op.{Op}
-use Rattle.qs_book_journal.specs.declared.entry.Act.{Act}
-use Rattle.qs_book_journal.specs.declared.entry.Act.TheVariants.{Begin, Issue, Serve, Ask, Counted, Decide, Ending, Learn, Answer, Loan, Yield, Tick, Crash, Restart}
+use Rattle.qs_book_journal.specs.declared.entry.Act.TheVariants.{Answer}
 use Rattle.qs_book_journal.specs.declared.entry.Act.TheVariants as acts
-use Rattle.qs_book_journal.specs.declared.entry.Entry.{Entry}
-use Rattle.qs_book_machine.specs.Transaction.{TransactionValue, sent_on, sent_in, next_number, is_commit, is_open_link, learnt, lent, given_back}
-use Rattle.qs_book_machine.specs.Book.{BookValue, find_transaction, inc_at}
-use Rattle.qs_book_machine.specs.Clauses.{link_to, borrower_at, broken_issue, is_numbered, is_for, broken_issuer, broken_counted, may_count}
-use Rattle.qs_book_machine.specs.Lawful.{is_in_order, broken_act, broken_at, broken, effect, IsLawful, book_after}
-use Rattle.qs_book_machine.specs.Nodes.{NodeValue}
-use Rattle.qs_book_laws.specs.Gone.{is_count_of, is_counted}
+use Rattle.qs_book_machine.specs.Transaction.{next_number}
+use Rattle.qs_book_machine.specs.Clauses.{is_for, broken_counted, may_count}
 use Rattle.qs_book_laws.proofs.Always.{unknown}
 use Rattle.qs_book_laws.proofs.Holding.{left_of, right_of, same_number}
 use Rattle.qs_book_laws.proofs.LinkCounts.{stays}
@@ -203,16 +187,8 @@ module _ (tid : Tid) (node : NodeNo) where
 
   pub through : (entries : List Entry) (book : BookValue) → Inv book → IsLawful book entries → Known book
       → list_any (is_open_link node) (sent_of (find_transaction (book_after book entries) tid)) ≡ (list_any (stays tid node (inc_at book) entries) (sent_of (find_transaction book tid)) || some_last tid node entries)
-  through [] book i lawful known = now (inc_at book) (sent_of (find_transaction book tid)) ∙ or_none (list_any (stays tid node (inc_at book) []) (sent_of (find_transaction book tid)))
-    where
-      or_none : (b : Bool) → b ≡ (b || false)
-      or_none true = refl
-      or_none false = refl
+  through [] book i lawful known = now (inc_at book) (sent_of (find_transaction book tid)) ∙ false-or (list_any (stays tid node (inc_at book) []) (sent_of (find_transaction book tid)))
   through (entry ∷ since) book i lawful known =
       let p : Passed book entry since = passed book entry since i lawful.0 known in
       through since (effect book entry) (stepped book entry i lawful.0).inv lawful.1 p.known
-      ∙ (ap (λ (b : Bool). b || some_last tid node since) p.is ∙ assoc (list_any (stays tid node (inc_at book) (entry ∷ since)) (sent_of (find_transaction book tid))) (is_lasting_issue tid node entry.node entry.act since) (some_last tid node since))
-    where
-      assoc : (a b c : Bool) → ((a || b) || c) ≡ (a || (b || c))
-      assoc true b c = refl
-      assoc false b c = refl
+      ∙ (ap (λ (b : Bool). b || some_last tid node since) p.is ∙ or_assoc (list_any (stays tid node (inc_at book) (entry ∷ since)) (sent_of (find_transaction book tid))) (is_lasting_issue tid node entry.node entry.act since) (some_last tid node since))

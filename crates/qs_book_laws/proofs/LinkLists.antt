@@ -1,19 +1,10 @@
 -- A test of what was sent on links says the same after one link's value was put in or changed, as the list stays in order.
-use Rattle.std.proofs.Common.{◌≡◌, ℕ, ◌≤◌, ◌||◌, Bool, true, false, List, [], ◌∷◌, Option, Some, None, refl, sym, ap, subst, ◌∙◌, arith}
-use Rattle.std.specs.Prelude.{cond, ⊤}
-use Rattle.std.specs.List.{list_any}
-use Rattle.std.specs.Map.{lookup, set_value}
-use Rattle.std.specs.BTreeMap.{is_at, insert_entry}
-use Rattle.std.specs.Ordering.{match_ordering, ordering_reverse}
-use Rattle.std.specs.declared.cmp.Ordering.{Ordering}
-use Rattle.std.specs.declared.cmp.Ordering.TheVariants.{Less, Equal, Greater}
-use Rattle.qs_base.specs.declared.identifiers.NodeNo.{NodeNo}
-use Rattle.qs_book_machine.specs.Transaction.{link_cmp, changed_value}
-use Rattle.qs_book_machine.specs.declared.transaction.Link.{Link}
-use Rattle.qs_book_machine.specs.declared.transaction.Sent.{Sent}
+use Rattle.qs_book_laws.proofs.Words.{◌≡◌, ℕ, ◌≤◌, ◌||◌, Bool, true, false, List, [], ◌∷◌, Option, Some, None, refl, sym, ap, subst, ◌∙◌, arith, cond, ⊤, list_any, lookup, set_value, is_at, insert_entry, match_ordering, Ordering, Less, Equal, Greater, NodeNo, link_cmp, changed_value, Link, Sent, or_left, or_right, or-false}
+use Rattle.std.specs.Ordering.{ordering_reverse}
 use Rattle.qs_book_machine.proofs.Present.{link_total}
 use Rattle.qs_book_laws.proofs.Reaching.{link_exact}
 use Rattle.qs_book_laws.proofs.Takes.{some_same}
+use Rattle.qs_base_lemmas.proofs.Tests.{le_le}
 
 abbrev pub Sents : Type 0
 Sents = List (Link × Sent)
@@ -82,12 +73,9 @@ abbrev pub Fit : (NodeNo → ℕ) → Sents → Type 0
 Fit inc [] = ⊤
 Fit inc (e ∷ es) = Fits inc e.0 e.1 × Fit inc es
 
-chain : (a b c : ℕ) → a ≤ b → b ≤ c → a ≤ c
-chain a b c h k = omega arith
-
 pub fit_later : (inc new : NodeNo → ℕ) → ((n : NodeNo) → inc n ≤ new n) → (es : Sents) → Fit inc es → Fit new es
 fit_later inc new up [] f = tt
-fit_later inc new up (e ∷ es) f = ((chain e.1.inc (inc e.0.from) (new e.0.from) f.0.0 (up e.0.from), f.0.1), fit_later inc new up es f.1)
+fit_later inc new up (e ∷ es) f = ((le_le e.1.inc (inc e.0.from) (new e.0.from) f.0.0 (up e.0.from), f.0.1), fit_later inc new up es f.1)
 
 pub fit_put : (inc : NodeNo → ℕ) (k : Link) (v : Sent) (es : Sents) → Fits inc k v → Fit inc es → Fit inc (insert_entry link_cmp es k v)
 fit_put inc k v [] h f = (h, tt)
@@ -126,10 +114,6 @@ fit_found inc l v (e ∷ es) found f = by (is_at (link_cmp l) e.0) refl found (f
 
 -- ---- a test before, and the test after
 
-or_none : (b : Bool) → (b || false) ≡ b
-or_none true = refl
-or_none false = refl
-
 or_assoc : (a b c : Bool) → (a || (b || c)) ≡ ((a || b) || c)
 or_assoc true b c = refl
 or_assoc false b c = refl
@@ -162,20 +146,12 @@ module _ (inc : NodeNo → ℕ) (q r : Link × Sent → Bool) where
     found_any [] h = absurd (cc h)
     found_any (e ∷ es) h = by (is_at (link_cmp l) e.0) refl h (found_any es)
       where
-        first : (a b : Bool) → a ≡ true → (a || b) ≡ true
-        first true b k = refl
-        first false b k = absurd (cc k)
-
-        last : (a b : Bool) → b ≡ true → (a || b) ≡ true
-        last true b k = refl
-        last false b k = k
-
         by : (b : Bool) → is_at (link_cmp l) e.0 ≡ b → (elim (cond b (Some e.1) (lookup (is_at (link_cmp l)) es)) [ None ↦ false | Some s ↦ q (l, s) ]) ≡ true → (found_of es ≡ true → list_any q es ≡ true) → (q e || list_any q es) ≡ true
-        by true is k more = first (q e) (list_any q es) (subst (λ (x : Link). q (x, e.1) ≡ true) (link_exact l e.0 is) k)
-        by false is k more = last (q e) (list_any q es) (more k)
+        by true is k more = or_left (q e) (list_any q es) (subst (λ (x : Link). q (x, e.1) ≡ true) (link_exact l e.0 is) k)
+        by false is k more = or_right (q e) (list_any q es) (more k)
 
     pub any_put : (es : Sents) (v : Sent) (x : Bool) → Fit inc es → ((k : Link) (s : Sent) → Fits inc k s → r (k, s) ≡ q (k, s)) → r (l, v) ≡ (found_of es || x) → list_any r (insert_entry link_cmp es l v) ≡ (list_any q es || x)
-    any_put [] v x f same new = or_none (r (l, v)) ∙ new
+    any_put [] v x f same new = or-false (r (l, v)) ∙ new
     any_put (e ∷ es) v x f same new = by (link_cmp l e.0) refl (any_put es v x f.1 same)
       where
         all : list_any r (e ∷ es) ≡ list_any q (e ∷ es)

@@ -1,31 +1,8 @@
 -- Through every lawful history: what is open on the links to a node is what stood open before and is not counted since, or issued since.
-use Rattle.std.proofs.Common.{◌≡◌, ℕ, ◌+◌, ◌<◌, ◌≤◌, ◌==◌, ◌&&◌, ◌||◌, Bool, true, false, not, List, [], ◌∷◌, Option, Some, None, refl, sym, ap, subst, ◌∙◌, if◌then◌else◌, arith}
-use Rattle.std.proofs.lemmas.Bool.Decides.{nat_tests}
-use Rattle.std.specs.Prelude.{unwrap_or, nat_lt, nat_le}
-use Rattle.std.specs.List.{list_any}
-use Rattle.std.specs.Map.{lookup}
-use Rattle.std.specs.BTreeMap.{is_at}
-use Rattle.std.proofs.lemmas.Cmp.{tied_itself, nat_cmp_total}
-use Rattle.qs_base.specs.Order.{same_tid}
-use Rattle.qs_base.specs.declared.identifiers.Member.{Member}
-use Rattle.qs_base.specs.declared.identifiers.NodeNo.{NodeNo}
-use Rattle.qs_base.specs.declared.identifiers.Tid.{Tid}
-use Rattle.qs_base.proofs.Same.{same_tid-true}
-use Rattle.qs_ops.specs.Servers.{files_no}
-use Rattle.qs_ops.specs.declared.operation.Op.{Op}
-use Rattle.qs_book_journal.specs.declared.entry.Act.{Act}
-use Rattle.qs_book_journal.specs.declared.entry.Act.TheVariants.{Issue, Counted}
-use Rattle.qs_book_journal.specs.declared.entry.Entry.{Entry}
-use Rattle.qs_book_machine.specs.Transaction.{TransactionValue, link_cmp, sent_on, sent_in, sent_more, next_number, with_counted, issued, counted, is_by_files}
-use Rattle.qs_book_machine.specs.declared.transaction.Link.{Link}
-use Rattle.qs_book_machine.specs.declared.transaction.Request.{Request}
-use Rattle.qs_book_machine.specs.declared.transaction.RequestNo.{RequestNo}
-use Rattle.qs_book_machine.specs.declared.transaction.Sent.{Sent}
-use Rattle.qs_book_machine.specs.Book.{BookValue, find_transaction, inc_at}
-use Rattle.qs_book_machine.specs.Clauses.{link_to}
-use Rattle.qs_book_machine.specs.Lawful.{broken, effect}
-use Rattle.qs_book_laws.specs.Gone.{is_count_of, counts, is_counted}
-use Rattle.qs_book_laws.specs.Lives.{is_restart, restarts}
+use Rattle.qs_book_laws.proofs.Words.{◌≡◌, ℕ, ◌+◌, ◌<◌, ◌≤◌, ◌==◌, ◌&&◌, ◌||◌, Bool, true, false, not, List, [], ◌∷◌, Option, Some, None, refl, sym, ap, subst, ◌∙◌, if◌then◌else◌, arith, nat_tests, unwrap_or, nat_lt, nat_le, list_any, lookup, is_at, tied_itself, nat_cmp_total, same_tid, Member, NodeNo, Tid, same_tid-true, files_no, Op, Act, Issue, Counted, Entry, TransactionValue, link_cmp, sent_on, sent_in, sent_more, with_counted, issued, counted, is_by_files, Link, Request, RequestNo, Sent}
+use Rattle.qs_book_laws.proofs.Words.{BookValue, find_transaction, inc_at, link_to, broken, effect, is_count_of, is_counted, is_restart, restarts, le_one_more, and_false}
+use Rattle.qs_book_machine.specs.Transaction.{next_number}
+use Rattle.qs_book_laws.specs.Gone.{counts}
 use Rattle.qs_book_laws.proofs.Gone.{inc_as}
 use Rattle.qs_book_laws.proofs.LinkCounts.{stays, Paced, plain, elsewhere, count_own, issue_first, issue_more}
 use Rattle.qs_book_laws.proofs.LinkLists.{Sents, Rising, Fits, Fit, rising_put, rising_changed, fit_later, fit_put, fit_changed, fit_found, any_same, found_of, any_put, any_changed}
@@ -33,6 +10,7 @@ use Rattle.qs_book_laws.proofs.Lives.{same_life, Reborn, reborn, Restarting, res
 use Rattle.qs_book_laws.proofs.Outcomes.{Inv}
 use Rattle.qs_book_laws.proofs.Turns.{Gives}
 use Rattle.qs_book_laws.proofs.Unanswered.{same_node}
+use Rattle.qs_base_lemmas.proofs.Tests.{zero_le, eq_ge, lt_le}
 
 -- ---- incarnations through a step
 
@@ -94,15 +72,9 @@ module _ (tid : Tid) (node : NodeNo) where
     rises : (n : NodeNo) → inc n ≤ new n
     rises n = by (restarts n entry) refl
       where
-        equal : (a b : ℕ) → b ≡ a → a ≤ b
-        equal a b e = omega arith
-
-        less : (a b : ℕ) → a < b → a ≤ b
-        less a b e = omega arith
-
         by : (b : Bool) → restarts n entry ≡ b → inc n ≤ new n
-        by false far = equal (inc n) (new n) (pace.still n far)
-        by true near = less (inc n) (new n) (pace.later n near)
+        by false far = eq_ge (inc n) (new n) (pace.still n far)
+        by true near = lt_le (inc n) (new n) (pace.later n near)
 
     or_none : (b : Bool) → b ≡ (b || false)
     or_none true = refl
@@ -118,18 +90,10 @@ module _ (tid : Tid) (node : NodeNo) where
     }
 
     pub uncounted : (act : Act) → entry.act ≡ act → ((n : ℕ) → is_count_of tid node n act ≡ false) → (from : NodeNo) (n : ℕ) → counts tid node from n entry ≡ false
-    uncounted act is none from n = ap (λ (a : Act). (entry.node.0 == from.0) && is_count_of tid node n a) is ∙ (ap (λ (b : Bool). (entry.node.0 == from.0) && b) (none n) ∙ off (entry.node.0 == from.0))
-      where
-        off : (b : Bool) → (b && false) ≡ false
-        off true = refl
-        off false = refl
+    uncounted act is none from n = ap (λ (a : Act). (entry.node.0 == from.0) && is_count_of tid node n a) is ∙ (ap (λ (b : Bool). (entry.node.0 == from.0) && b) (none n) ∙ and_false (entry.node.0 == from.0))
 
     unmoved : (act : Act) → entry.act ≡ act → is_restart act ≡ false → (n : NodeNo) → restarts n entry ≡ false
-    unmoved act is none n = ap (λ (a : Act). (entry.node.0 == n.0) && is_restart a) is ∙ (ap (λ (b : Bool). (entry.node.0 == n.0) && b) none ∙ off (entry.node.0 == n.0))
-      where
-        off : (b : Bool) → (b && false) ≡ false
-        off true = refl
-        off false = refl
+    unmoved act is none n = ap (λ (a : Act). (entry.node.0 == n.0) && is_restart a) is ∙ (ap (λ (b : Bool). (entry.node.0 == n.0) && b) none ∙ and_false (entry.node.0 == n.0))
 
     abbrev pub here : NodeNo
     here = entry.node
@@ -194,20 +158,11 @@ module _ (tid : Tid) (node : NodeNo) where
           v_fits = of (sent_on tx no.link) refl
             where
               more : (s : Sent) → s.inc ≤ new here → s.counted ≤ s.count → (b : Bool) → (s.inc == request.inc) ≡ b → Fits new no.link (sent_more request (Some s))
-              more s at below true e = rw e (at, up s.counted s.count below)
-                where
-                  up : (a b : ℕ) → a ≤ b → a ≤ b + 1
-                  up a b k = omega arith
-              more s at below false e = rw e (rises here, least 1)
-                where
-                  least : (n : ℕ) → 0 ≤ n
-                  least n = omega arith
+              more s at below true e = rw e (at, le_one_more s.counted s.count below)
+              more s at below false e = rw e (rises here, zero_le 1)
 
               of : (o : Option Sent) → sent_on tx no.link ≡ o → Fits new no.link (sent_more request o)
-              of None there = (rises here, least 1)
-                where
-                  least : (n : ℕ) → 0 ≤ n
-                  least n = omega arith
+              of None there = (rises here, zero_le 1)
               of (Some s) there =
                   let f : Fits new no.link s = fit_found new no.link s tx.sent there (fit_later inc new rises tx.sent p.sound.fit) in
                   more s f.0 f.1 (s.inc == request.inc) refl
@@ -236,13 +191,9 @@ module _ (tid : Tid) (node : NodeNo) where
       pub count_gives : ((tx : TransactionValue) → find_transaction book t ≡ Some tx → upto ≤ sent_in (inc here) (sent_on tx link)) → Gives tid P (Q false) book t (counted link (inc here) upto (inc peer))
       count_gives most = record {
         own = λ same tx found p. at tx same (most tx (ap (find_transaction book) (same_tid-true t tid same) ∙ found)) p;
-        other = λ apart. keeps (λ from n. counts_is from n ∙ (ap (λ (b : Bool). (here.0 == from.0) && ((b && (peer.0 == node.0)) && nat_le n upto)) apart ∙ off (here.0 == from.0))) false refl;
+        other = λ apart. keeps (λ from n. counts_is from n ∙ (ap (λ (b : Bool). (here.0 == from.0) && ((b && (peer.0 == node.0)) && nat_le n upto)) apart ∙ and_false (here.0 == from.0))) false refl;
       }
         where
-          off : (b : Bool) → (b && false) ≡ false
-          off true = refl
-          off false = refl
-
           at : (tx : TransactionValue) → same_tid t tid ≡ true → upto ≤ sent_in (inc here) (sent_on tx link) → P tx → Q false (counted link (inc here) upto (inc peer) tx)
           at tx same below p = record {
             sound = record {

@@ -1,28 +1,6 @@
 -- As a run begins, nothing is pending or on record of a transaction that may still be committed, where its home is in the run.
-use Rattle.std.proofs.Common.{◌≡◌, ℕ, ◌≤◌, zero, suc, Bool, true, false, List, [], ◌∷◌, ◌++◌, Option, Some, None, refl, sym, ap, subst, ◌∙◌, fold, map, length, arith, if◌then◌else◌, ◌==◌}
-use Rattle.std.proofs.lemmas.Bool.Decides.{nat_tests}
-use Rattle.std.proofs.lemmas.Option.{slice_get-map}
-use Rattle.std.specs.Prelude.{is_some, slice_get, nat_lt, unwrap_or, flat_map}
-use Rattle.std.specs.List.{AllByRecursion}
-use Rattle.std.specs.Map.{lookup}
-use Rattle.std.specs.Option.{option_map}
-use Rattle.std.specs.BTreeMap.{is_at}
-use Rattle.qs_base.specs.Order.{same_tid}
-use Rattle.qs_base.specs.declared.identifiers.Member.{Member}
-use Rattle.qs_base.specs.declared.identifiers.Tid.{Tid}
-use Rattle.qs_base.proofs.Same.{same_tid-true}
-use Rattle.qs_ops.specs.Table.{TableValue, share_of, kept, applied, no_table}
-use Rattle.qs_ops.specs.declared.share.Share.{Share}
-use Rattle.qs_book_machine.specs.Transaction.{TransactionValue, found_at}
-use Rattle.qs_book_machine.specs.Book.{BookValue, find_transaction}
-use Rattle.qs_book_machine.specs.Nodes.{NodeValue, pending_at, record_of, voter, voter_cmp}
-use Rattle.qs_book_machine.specs.Opening.{opened_node, name_transaction, name_pending, name_all, name_from, put_record, put_of, note_of, keep_pending, opening}
-use Rattle.qs_book_machine.specs.Restart.{member_at}
-use Rattle.qs_book_machine.specs.declared.opened.Opened.{Opened}
-use Rattle.qs_book_machine.specs.declared.opened.Pending.{Pending}
-use Rattle.qs_book_machine.specs.declared.state.OnRecord.{OnRecord}
-use Rattle.qs_book_machine.specs.declared.state.Voter.{Voter}
-use Rattle.qs_book_laws.specs.Served.{held_at, keeps_contents}
+use Rattle.qs_book_laws.proofs.Words.{◌≡◌, ℕ, ◌≤◌, zero, suc, Bool, true, false, List, [], ◌∷◌, ◌++◌, Option, Some, None, refl, sym, ap, subst, ◌∙◌, fold, map, length, arith, if◌then◌else◌, ◌==◌, le_refl, nat_tests, slice_get-map, is_some, slice_get, nat_lt, unwrap_or, flat_map, AllByRecursion, lookup, option_map, is_at, same_tid, Member, Tid, same_tid-true, TableValue, share_of, kept, applied, no_table, Share, TransactionValue, found_at, BookValue, find_transaction, NodeValue, pending_at}
+use Rattle.qs_book_laws.proofs.Words.{record_of, voter, voter_cmp, opened_node, name_transaction, name_pending, name_all, name_from, put_record, put_of, note_of, keep_pending, opening, member_at, Opened, Pending, OnRecord, Voter, held_at, keeps_contents}
 use Rattle.qs_book_laws.proofs.Alikes.{voter_equal}
 use Rattle.qs_book_laws.proofs.Counts.{Count, count_of, count_in, no_count}
 use Rattle.qs_book_laws.proofs.Covers.{mark_in, voter_apart}
@@ -189,11 +167,8 @@ module _ (opened : List Opened) (tid : Tid) (member : Member) (keeps : keeps_con
       pending = λ even. nothing_held;
       on_record = λ even. sym nothing_held;
       above = λ i above. nothing_counted i;
-      most = λ i. subst (λ (c : Count). c.covered ≤ c.served) (sym (nothing_counted i)) (itself 0);
+      most = λ i. subst (λ (c : Count). c.covered ≤ c.served) (sym (nothing_counted i)) (le_refl 0);
       empty = λ none. refl;
       unknown = λ none. refl;
     };
   }
-    where
-      itself : (n : ℕ) → n ≤ n
-      itself n = omega arith

@@ -1,24 +1,8 @@
 -- What an entry leaves of the part of a member in one life of its node, and that a life which has ended is over.
-use Rattle.std.proofs.Common.{◌≡◌, ℕ, ◌<◌, ◌==◌, ◌&&◌, Bool, true, false, List, Option, Some, None, refl, sym, ap, subst, ◌∙◌, if◌then◌else◌, arith}
-use Rattle.std.proofs.lemmas.Bool.Decides.{nat_tests}
-use Rattle.std.specs.Prelude.{slice_get, nat_lt}
-use Rattle.std.specs.Option.{option_map}
-use Rattle.qs_base.specs.Order.{same_member}
-use Rattle.qs_base.specs.declared.identifiers.Member.{Member}
-use Rattle.qs_base.specs.declared.identifiers.NodeNo.{NodeNo}
-use Rattle.qs_base.specs.declared.identifiers.Tid.{Tid}
-use Rattle.qs_book_journal.specs.declared.entry.Act.{Act}
-use Rattle.qs_book_journal.specs.declared.entry.Act.TheVariants.{Begin, Issue, Serve, Ask, Counted, Decide, Ending, Learn, Answer, Loan, Yield, Tick, Crash, Restart}
+use Rattle.qs_book_laws.proofs.Words.{◌≡◌, ℕ, ◌<◌, ◌==◌, ◌&&◌, Bool, true, false, List, Option, Some, None, refl, sym, ap, subst, ◌∙◌, if◌then◌else◌, arith, nat_tests, slice_get, nat_lt, option_map, same_member, Member, NodeNo, Tid, Act, Begin, Issue, Serve, Ask, Counted, Decide, Ending, Learn, Loan, Yield, Tick, Crash, Restart, Entry, Found, TransactionValue, part_of, found_part, found_at, Part, BookValue, inc_at, is_in_order, broken_act, broken_at, broken, effect, NodeValue, broken_restart}
+use Rattle.qs_book_laws.proofs.Words.{member_at, reopened, restarted_node, put_new_votes, with_votes, new_votes, is_restart, restarts, and_false, ltb-true}
+use Rattle.qs_book_journal.specs.declared.entry.Act.TheVariants.{Answer}
 use Rattle.qs_book_journal.specs.declared.entry.Act.TheVariants as acts
-use Rattle.qs_book_journal.specs.declared.entry.Entry.{Entry}
-use Rattle.qs_book_journal.specs.declared.entry.Found.{Found}
-use Rattle.qs_book_machine.specs.Transaction.{TransactionValue, part_of, found_part, found_at}
-use Rattle.qs_book_machine.specs.declared.transaction.Part.{Part}
-use Rattle.qs_book_machine.specs.Book.{BookValue, inc_at}
-use Rattle.qs_book_machine.specs.Lawful.{is_in_order, broken_act, broken_at, broken, effect}
-use Rattle.qs_book_machine.specs.Nodes.{NodeValue}
-use Rattle.qs_book_machine.specs.Restart.{broken_restart, member_at, reopened, restarted_node, put_new_votes, with_votes, new_votes}
-use Rattle.qs_book_laws.specs.Lives.{is_restart, restarts}
 use Rattle.qs_book_laws.proofs.Again.{restart_node, reopened_there, effect_nodes}
 use Rattle.qs_book_laws.proofs.Begun.{inc_in, restarts_at, step_incs}
 use Rattle.qs_book_laws.proofs.Faces.{Age, age}
@@ -27,6 +11,7 @@ use Rattle.qs_book_laws.proofs.Outcomes.{Inv}
 use Rattle.qs_book_laws.proofs.Parts.{IsPart, part_after, starts_life, put_part, owes}
 use Rattle.qs_book_laws.proofs.Steps.{held, passed}
 use Rattle.qs_book_laws.proofs.Turns.{Stands, Survives, Obliged, step_turns}
+use Rattle.qs_base_lemmas.proofs.Tests.{and_true}
 
 -- ---- incarnations
 
@@ -34,17 +19,9 @@ use Rattle.qs_book_laws.proofs.Turns.{Stands, Survives, Obliged, step_turns}
 pub restarts_as : (node : NodeNo) (entry : Entry) → restarts node entry ≡ restarts_at node.0 entry.node.0 entry.act
 restarts_as node entry = of entry.act
   where
-    never : (b : Bool) → (b && false) ≡ false
-    never true = refl
-    never false = refl
-
-    always : (b : Bool) → (b && true) ≡ b
-    always true = refl
-    always false = refl
-
     of : (act : Act) → ((entry.node.0 == node.0) && is_restart act) ≡ restarts_at node.0 entry.node.0 act
-    of (Restart inc pend done) = always (entry.node.0 == node.0)
-    of act = never (entry.node.0 == node.0)
+    of (Restart inc pend done) = and_true (entry.node.0 == node.0)
+    of act = and_false (entry.node.0 == node.0)
 
 -- the incarnation stays through a life
 pub same_life : (node : NodeNo) (book : BookValue) (entry : Entry) → restarts node entry ≡ false → broken book entry ≡ None → inc_in (effect book entry) node.0 ≡ inc_in book node.0
@@ -67,9 +44,6 @@ pub record Reborn (book new : BookValue) (here inc : ℕ) : Type 0 where
   pub now : inc_in new here ≡ Some inc
   pub later : old < inc
 
-less : (a b : ℕ) → nat_lt a b ≡ true → a < b
-less a b h = grind (arith, nat_tests)
-
 pub reborn : (book : BookValue) (entry : Entry) (here inc : ℕ) (pend : List Found) (done : List Tid) → broken book entry ≡ None → entry.act ≡ acts.Restart inc pend done → entry.node.0 ≡ here → Reborn book (effect book entry) here inc
 reborn book entry here inc pend done h is e =
     let at : (node : NodeValue) × (slice_get book.nodes here ≡ Some node) × (broken_restart here book node inc pend done ≡ None) = restart_node book entry here inc pend done h is e in
@@ -79,7 +53,7 @@ reborn book entry here inc pend done h is e =
       old = at.0.inc;
       was = inc_of_node book here at.0 at.1;
       now = inc_of_node (effect book entry) here _ last;
-      later = less at.0.inc inc (passed (nat_lt at.0.inc inc) 110 _ at.2);
+      later = ltb-true at.0.inc inc (passed (nat_lt at.0.inc inc) 110 _ at.2);
     }
 
 -- the restart of an entry that is one

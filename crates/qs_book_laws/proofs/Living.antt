@@ -1,22 +1,7 @@
 -- Through every lawful history: what a member has pending and on record of a transaction that may still be committed is what
 -- it served, as far as its votes cover that.
-use Rattle.std.proofs.Common.{◌≡◌, ℕ, ◌+◌, ◌<◌, Bool, true, false, List, [], ◌∷◌, ◌++◌, Option, Some, None, refl, sym, ap, subst, ◌∙◌, arith}
-use Rattle.std.proofs.lemmas.List.{append-nil, append_assoc}
-use Rattle.std.specs.Prelude.{is_some, slice_get}
-use Rattle.std.specs.Option.{option_map}
-use Rattle.qs_base.specs.declared.identifiers.Member.{Member}
-use Rattle.qs_base.specs.declared.identifiers.Tid.{Tid}
-use Rattle.qs_ops.specs.declared.operation.Op.{Op}
-use Rattle.qs_book_journal.specs.declared.entry.Act.{Act}
+use Rattle.qs_book_laws.proofs.Words.{◌≡◌, ℕ, ◌+◌, ◌<◌, Bool, true, false, List, [], ◌∷◌, ◌++◌, Option, Some, None, refl, sym, ap, subst, ◌∙◌, arith, append-nil, append_assoc, is_some, slice_get, option_map, Member, Tid, Op, Act, Entry, Found, TransactionValue, BookValue, find_transaction, broken_act, broken, effect_act, effect, IsLawful, book_after, NodeValue, restart, broken_restart, change_served, changes_served, keeps_contents}
 use Rattle.qs_book_journal.specs.declared.entry.Act.TheVariants as acts
-use Rattle.qs_book_journal.specs.declared.entry.Entry.{Entry}
-use Rattle.qs_book_journal.specs.declared.entry.Found.{Found}
-use Rattle.qs_book_machine.specs.Transaction.{TransactionValue}
-use Rattle.qs_book_machine.specs.Book.{BookValue, find_transaction}
-use Rattle.qs_book_machine.specs.Lawful.{broken_act, broken, effect_act, effect, IsLawful, book_after}
-use Rattle.qs_book_machine.specs.Nodes.{NodeValue}
-use Rattle.qs_book_machine.specs.Restart.{restart, broken_restart}
-use Rattle.qs_book_laws.specs.Served.{change_served, changes_served, keeps_contents}
 use Rattle.qs_book_laws.proofs.Again.{restart_node}
 use Rattle.qs_book_laws.proofs.Alikes.{at_exact}
 use Rattle.qs_book_laws.proofs.Begun.{IsNative, IsClosed, inc_in, restarts_at, step_incs, home_closes}

@@ -1,13 +1,5 @@
 -- What is found in a map or at a place of a list after a change.
-use Rattle.std.proofs.Common.{◌≡◌, ℕ, Bool, true, false, List, [], ◌∷◌, Option, Some, None, zero, suc, refl, sym, ap, subst, inl, inr, ◌⊎◌}
-use Rattle.std.specs.Prelude.{slice_get, slice_set, is_some}
-use Rattle.std.specs.Option.{option_map}
-use Rattle.std.specs.Map.{lookup, set_value, remove_entry}
-use Rattle.std.specs.BTreeMap.{insert_entry, is_at}
-use Rattle.std.specs.declared.cmp.Ordering.{Ordering}
-use Rattle.std.specs.declared.cmp.Ordering.TheVariants.{Less, Equal, Greater}
-use Rattle.qs_book_machine.specs.Transaction.{changed_value}
-use Rattle.qs_book_machine.specs.Book.{changed_at}
+use Rattle.qs_book_laws.proofs.Words.{◌≡◌, ℕ, Bool, true, false, List, [], ◌∷◌, Option, Some, None, zero, suc, refl, sym, ap, subst, inl, inr, ◌⊎◌, slice_get, slice_set, is_some, option_map, lookup, set_value, remove_entry, insert_entry, is_at, Ordering, Less, Equal, Greater, changed_value, changed_at}
 
 -- a look-up finds what was there, or the value that was written
 abbrev pub Either : {X : Type 0} → Option X → Option X → X → X → Type 0

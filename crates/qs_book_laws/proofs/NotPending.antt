@@ -1,45 +1,20 @@
 -- Of a transaction that no vote is found of, nothing is pending after a restart, nor as a run begins.
-use Rattle.std.proofs.Common.{◌≡◌, ℕ, ◌==◌, ◌&&◌, ◌||◌, Bool, true, false, List, [], ◌∷◌, refl, sym, ap, subst, ◌∙◌, flat_map, fold, map, if◌then◌else◌}
-use Rattle.std.proofs.lemmas.List.Sums.{fold-append}
-use Rattle.std.specs.List.{list_any}
-use Rattle.qs_base.specs.Order.{same_tid}
-use Rattle.qs_base.specs.declared.identifiers.Member.{Member}
-use Rattle.qs_base.specs.declared.identifiers.Tid.{Tid}
-use Rattle.qs_book_journal.specs.declared.entry.Found.{Found}
-use Rattle.qs_book_machine.specs.Book.{BookValue}
-use Rattle.qs_book_machine.specs.Nodes.{NodeValue, pending_at}
-use Rattle.qs_book_machine.specs.Opening.{keep_pending, note_of, opened_node, put_of}
-use Rattle.qs_book_machine.specs.Restart.{changes_at, is_kept_at, keep_found, reopened, restarted_node, without_records}
-use Rattle.qs_book_machine.specs.declared.opened.Opened.{Opened}
-use Rattle.qs_book_machine.specs.declared.opened.Pending.{Pending}
-use Rattle.qs_ops.specs.Table.{TableValue, applied, kept, no_table, share_of}
-use Rattle.qs_ops.specs.declared.share.Share.{Share}
+use Rattle.qs_book_laws.proofs.Words.{◌≡◌, ℕ, ◌==◌, ◌&&◌, Bool, true, false, List, [], ◌∷◌, refl, sym, ap, subst, ◌∙◌, flat_map, fold, map, if◌then◌else◌, fold-append, list_any, same_tid, Member, Tid, Found, BookValue, NodeValue, pending_at, keep_pending, note_of, opened_node, put_of, changes_at, is_kept_at, keep_found, reopened, restarted_node, without_records, Opened, Pending, TableValue, applied, kept, no_table, share_of, Share}
 use Rattle.qs_book_laws.proofs.FoundParts.{is_opened_with, is_pending_again}
 use Rattle.qs_book_laws.proofs.Shares.{number, share_put_other}
+use Rattle.qs_base_lemmas.proofs.Tests.{or_first, or_last, and_rest}
 
 none_again : (mid : BookValue) (tid : Tid) (member : Member) (done : List Tid) (pend : List Found) (t : TableValue) → list_any (is_pending_again mid tid member done) pend ≡ false
     → (share_of (fold kept t (flat_map (keep_found member.node.0 mid member.server.0 done) pend)) tid).changes ≡ (share_of t tid).changes
 none_again mid tid member done [] t none = refl
 none_again mid tid member done (found ∷ pend) t none =
     ap (λ (x : TableValue). (share_of x tid).changes) (fold-append kept t (keep_found member.node.0 mid member.server.0 done found) (flat_map (keep_found member.node.0 mid member.server.0 done) pend))
-    ∙ (none_again mid tid member done pend _ (or_right _ _ none) ∙ one (is_kept_at member.node.0 mid member.server.0 done found) refl (or_left _ _ none))
+    ∙ (none_again mid tid member done pend _ (or_last _ _ none) ∙ one (is_kept_at member.node.0 mid member.server.0 done found) refl (or_first _ _ none))
   where
-    or_left : (a b : Bool) → (a || b) ≡ false → a ≡ false
-    or_left true b e = absurd (cc e)
-    or_left false b e = refl
-
-    or_right : (a b : Bool) → (a || b) ≡ false → b ≡ false
-    or_right true b e = absurd (cc e)
-    or_right false b e = e
-
-    far : (b c : Bool) → b ≡ true → (b && c) ≡ false → c ≡ false
-    far true c e f = f
-    far false c e f = absurd (cc e)
-
     one : (b : Bool) → is_kept_at member.node.0 mid member.server.0 done found ≡ b → is_pending_again mid tid member done found ≡ false
         → (share_of (fold kept t (if b then record { tid = found.tid; changes = changes_at member.node.0 mid member.server.0 found.tid } ∷ [] else [])) tid).changes ≡ (share_of t tid).changes
     one false is none = refl
-    one true is none = ap (λ (x : Share). x.changes) (share_put_other t found.tid tid _ (far (is_kept_at member.node.0 mid member.server.0 done found) (same_tid found.tid tid) is none))
+    one true is none = ap (λ (x : Share). x.changes) (share_put_other t found.tid tid _ (and_rest (is_kept_at member.node.0 mid member.server.0 done found) (same_tid found.tid tid) is none))
 
 pub none_held : (b : Bool) (member : Member) → member.server.0 ≡ number b → (inc : ℕ) (pend : List Found) (done : List Tid) (mid : BookValue) (node : NodeValue) (tid : Tid) → list_any (is_pending_again mid tid member done) pend ≡ false
     → pending_at (restarted_node (reopened member.node.0 inc pend done mid) pend done node) tid member.server.0 ≡ []
@@ -54,16 +29,8 @@ none_opened : (tid : Tid) (member : Member) (pending : List Pending) (t : TableV
 none_opened tid member [] t none = refl
 none_opened tid member (p ∷ pending) t none =
     ap (λ (x : TableValue). (share_of x tid).changes) (fold-append kept t (keep_pending member.server.0 p) (flat_map (keep_pending member.server.0) pending))
-    ∙ (none_opened tid member pending _ (or_right _ _ none) ∙ one (p.server.0 == member.server.0) refl (or_left _ _ none))
+    ∙ (none_opened tid member pending _ (or_last _ _ none) ∙ one (p.server.0 == member.server.0) refl (or_first _ _ none))
   where
-    or_left : (a b : Bool) → (a || b) ≡ false → a ≡ false
-    or_left true b e = absurd (cc e)
-    or_left false b e = refl
-
-    or_right : (a b : Bool) → (a || b) ≡ false → b ≡ false
-    or_right true b e = absurd (cc e)
-    or_right false b e = e
-
     far : (b c : Bool) → c ≡ true → (b && c) ≡ false → b ≡ false
     far true true e f = f
     far false c e f = refl

@@ -1,36 +1,8 @@
 -- What is on record of a committed transaction at files and audit is what they have pending of it, from its commit or the opening on.
-use Rattle.std.proofs.Common.{◌≡◌, ◌⊎◌, inl, inr, ℕ, Bool, true, false, List, [], ◌∷◌, ◌++◌, Option, Some, None, refl, sym, ap, subst, ◌∙◌, append_assoc, nat_lt, arith}
-use Rattle.std.proofs.lemmas.Bool.Decides.{nat_tests}
-use Rattle.std.specs.Prelude.{◌==◌, slice_get, length, flat_map, fold, map, if◌then◌else◌}
-use Rattle.std.specs.Map.{lookup}
-use Rattle.std.specs.BTreeMap.{is_at}
-use Rattle.std.specs.Option.{option_map}
-use Rattle.std.proofs.lemmas.List.{append-nil}
-use Rattle.std.proofs.lemmas.List.Sums.{fold-append}
-use Rattle.std.proofs.lemmas.Option.{slice_get-map}
-use Rattle.qs_base.specs.Order.{same_tid}
-use Rattle.qs_base.proofs.Same.{same_tid-true}
-use Rattle.qs_base.specs.declared.identifiers.Member.{Member}
-use Rattle.qs_base.specs.declared.identifiers.Tid.{Tid}
-use Rattle.qs_book_journal.specs.declared.entry.Entry.{Entry}
-use Rattle.qs_book_machine.specs.Transaction.{TransactionValue, is_open}
-use Rattle.qs_book_machine.specs.declared.transaction.Cell.{Cell}
+use Rattle.qs_book_laws.proofs.Words.{◌≡◌, ◌⊎◌, inl, inr, ℕ, Bool, true, false, List, [], ◌∷◌, ◌++◌, Option, Some, None, refl, sym, ap, subst, ◌∙◌, append_assoc, nat_lt, ◌==◌, slice_get, length, flat_map, fold, map, if◌then◌else◌, lookup, is_at, option_map, append-nil, fold-append, slice_get-map, same_tid, same_tid-true, Member, Tid, Entry, TransactionValue, is_open, Cell, BookValue, find_transaction, cell_of_transaction, broken, effect, IsLawful, book_after, NodeValue, changes_of, pending_at}
+use Rattle.qs_book_laws.proofs.Words.{record_of, voter, voter_cmp, opening, opened_node, keep_pending, put_of, note_of, put_record, record_at, Opened, Pending, OnRecord, Voter, TableValue, share_of, kept, applied, no_table, Share, Op, Applies, IsKept, IsCoherent, IsCommitted, IsDecided, held_at, keeps_contents, changes_served}
 use Rattle.qs_book_machine.specs.declared.transaction.Cell.TheVariants as cells
-use Rattle.qs_book_machine.specs.Book.{BookValue, find_transaction, cell_of_transaction}
-use Rattle.qs_book_machine.specs.Lawful.{broken, effect, IsLawful, book_after}
-use Rattle.qs_book_machine.specs.Nodes.{NodeValue, changes_of, pending_at, record_of, voter, voter_cmp}
-use Rattle.qs_book_machine.specs.Opening.{opening, opened_node, keep_pending, put_of, note_of, put_record}
-use Rattle.qs_book_machine.specs.Restart.{record_at}
-use Rattle.qs_book_machine.specs.declared.opened.Opened.{Opened}
-use Rattle.qs_book_machine.specs.declared.opened.Pending.{Pending}
-use Rattle.qs_book_machine.specs.declared.state.OnRecord.{OnRecord}
-use Rattle.qs_book_machine.specs.declared.state.Voter.{Voter}
-use Rattle.qs_ops.specs.Table.{TableValue, share_of, kept, applied, no_table}
-use Rattle.qs_ops.specs.declared.share.Share.{Share}
-use Rattle.qs_ops.specs.declared.operation.Op.{Op}
-use Rattle.qs_book_laws.specs.Durable.{Applies, IsKept, IsGone}
-use Rattle.qs_book_laws.specs.Laws.{IsCoherent, IsCommitted, IsDecided}
-use Rattle.qs_book_laws.specs.Served.{held_at, keeps_contents, changes_served}
+use Rattle.qs_book_laws.specs.Durable.{IsGone}
 use Rattle.qs_book_laws.proofs.Again.{record_there}
 use Rattle.qs_book_laws.proofs.Alikes.{voter_equal, voter_itself}
 use Rattle.qs_book_laws.proofs.Always.{unknown}
@@ -54,6 +26,7 @@ use Rattle.qs_book_laws.proofs.Steps.{stepped, ran, after_both, lawful_front, la
 use Rattle.qs_book_laws.proofs.Takes.{some_same}
 use Rattle.qs_book_laws.proofs.Tidy.{opening_tidy}
 use Rattle.qs_book_laws.proofs.Unanimous.{Commits, step_commits}
+use Rattle.std.proofs.lemmas.Bool.{eqb-false}
 
 -- ---- as a run begins: each vote that a log holds is pending as it is on record
 
@@ -63,9 +36,6 @@ one_opened tid s p es t same = by (p.server.0 == s) (same_tid p.tid tid) refl re
   where
     rec : OnRecord
     rec = record { changes = p.changes; covers = p.covers; pending = length p.changes }
-
-    off : (k n : ℕ) → (k == n) ≡ false → k ≡ n → ⊥
-    off k n far is = let near : (k == n) ≡ true = grind (arith, nat_tests, is) in cc (sym far ∙ near)
 
     apart : (p.server.0 ≡ s → same_tid p.tid tid ≡ false) → changes_of (lookup (is_at (voter_cmp (voter tid s))) (put_record es p)) ≡ changes_of (lookup (is_at (voter_cmp (voter tid s))) es)
     apart far = ap changes_of (lookup_put_apart voter_cmp (voter p.tid p.server.0) rec (λ x. voter_equal (voter p.tid p.server.0) x) (is_at (voter_cmp (voter tid s))) (voter_apart tid p.tid s p.server.0 far) es)
@@ -80,7 +50,7 @@ one_opened tid s p es t same = by (p.server.0 == s) (same_tid p.tid tid) refl re
     by true true near own = subst (λ (u : Tid). (share_of (kept t (record { tid = p.tid; changes = p.changes })) u).changes ≡ p.changes) (same_tid-true p.tid tid own) (ap (λ (x : Share). x.changes) (share_put t p.tid _))
         ∙ sym (put (same_number p.server.0 s near) (same_tid-true p.tid tid own))
     by true false near other = ap (λ (x : Share). x.changes) (share_put_other t p.tid tid _ other) ∙ (same ∙ sym (apart (λ is. other)))
-    by false c far own = same ∙ sym (apart (λ is. absurd (off p.server.0 s far is)))
+    by false c far own = same ∙ sym (apart (λ is. absurd (eqb-false p.server.0 s far is)))
 
 all_opened : (tid : Tid) (s : ℕ) (pending : List Pending) (es : List (Voter × OnRecord)) (t : TableValue) → (share_of t tid).changes ≡ changes_of (lookup (is_at (voter_cmp (voter tid s))) es)
     → (share_of (fold kept t (flat_map (keep_pending s) pending)) tid).changes ≡ changes_of (lookup (is_at (voter_cmp (voter tid s))) (fold put_record es pending))

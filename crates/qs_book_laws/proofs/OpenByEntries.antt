@@ -1,21 +1,6 @@
 -- A request of a transaction to a node stands open by the entries of a lawful history exactly where the machine has it open.
-use Rattle.std.proofs.Common.{◌≡◌, ℕ, ◌==◌, ◌&&◌, ◌||◌, Bool, true, false, not, List, [], ◌∷◌, Option, Some, None, refl, sym, ap, subst, ◌∙◌}
-use Rattle.std.specs.Prelude.{nat_lt}
-use Rattle.std.specs.List.{list_any}
-use Rattle.qs_base.specs.Order.{same_tid}
-use Rattle.qs_base.specs.declared.identifiers.NodeNo.{NodeNo}
-use Rattle.qs_base.specs.declared.identifiers.Tid.{Tid}
-use Rattle.qs_ops.specs.Servers.{files_no}
-use Rattle.qs_book_journal.specs.declared.entry.Act.{Act}
-use Rattle.qs_book_journal.specs.declared.entry.Act.TheVariants.{Issue}
-use Rattle.qs_book_journal.specs.declared.entry.Entry.{Entry}
-use Rattle.qs_book_machine.specs.Transaction.{TransactionValue, is_open_link}
-use Rattle.qs_book_machine.specs.Book.{BookValue, find_transaction, inc_at}
-use Rattle.qs_book_machine.specs.Lawful.{IsLawful, book_after}
-use Rattle.qs_book_machine.specs.Opening.{opening}
-use Rattle.qs_book_machine.specs.declared.opened.Opened.{Opened}
-use Rattle.qs_book_laws.specs.Gone.{waits_still, is_counted, is_open_issue, stands_open}
-use Rattle.qs_book_laws.specs.Laws.{IsCoherent}
+use Rattle.qs_book_laws.proofs.Words.{◌≡◌, ℕ, ◌==◌, ◌&&◌, ◌||◌, Bool, true, false, not, List, [], ◌∷◌, Option, Some, None, refl, sym, ap, subst, ◌∙◌, nat_lt, list_any, same_tid, NodeNo, Tid, files_no, Act, Issue, Entry, TransactionValue, is_open_link, BookValue, find_transaction, inc_at, IsLawful, book_after, opening, Opened, is_counted, IsCoherent}
+use Rattle.qs_book_laws.specs.Gone.{waits_still, is_open_issue, stands_open}
 use Rattle.qs_book_laws.proofs.Gone.{Keeps}
 use Rattle.qs_book_laws.proofs.LinkCounts.{stays}
 use Rattle.qs_book_laws.proofs.LinkHistories.{sent_of, Known, through}

@@ -1,11 +1,5 @@
 -- That a request stood open as the machine tells it from what it counts: the form in which the steps are followed.
-use Rattle.std.specs.Prelude.{◌≡◌, ℕ, ◌<◌, Bool, true, false, List, ◌++◌, Option, Some, None}
-use Rattle.qs_base.specs.declared.identifiers.NodeNo.{NodeNo}
-use Rattle.qs_base.specs.declared.identifiers.Tid.{Tid}
-use Rattle.qs_book_journal.specs.declared.entry.Entry.{Entry}
-use Rattle.qs_book_machine.specs.Transaction.{TransactionValue, is_open_to}
-use Rattle.qs_book_machine.specs.Book.{BookValue, find_transaction, inc_at}
-use Rattle.qs_book_machine.specs.Lawful.{book_after}
+use Rattle.qs_book_laws.proofs.Words.{◌≡◌, ℕ, ◌<◌, Bool, true, false, List, ◌++◌, Option, Some, None, NodeNo, Tid, Entry, TransactionValue, is_open_to, BookValue, find_transaction, inc_at, book_after}
 
 abbrev pub is_open_in : NodeNo → Option TransactionValue → Bool
 is_open_in node None = false

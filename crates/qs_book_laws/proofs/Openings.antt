@@ -1,23 +1,9 @@
 -- The invariant of outcomes holds as a run begins, from coherent logs.
-use Rattle.std.proofs.Common.{◌≡◌, ℕ, ◌<◌, zero, suc, [], ◌∷◌, Bool, true, false, List, Option, Some, None, fold, map, length, replicate, inl, refl, sym, ap, subst, ◌∙◌, arith}
-use Rattle.std.proofs.lemmas.Option.{slice_get-map}
-use Rattle.std.specs.Prelude.{slice_get}
-use Rattle.std.specs.List.{All, list_any}
-use Rattle.std.specs.Option.{option_map}
-use Rattle.std.specs.BTreeMap.{insert_entry, is_at}
-use Rattle.std.specs.declared.cmp.Ordering.TheVariants.{Equal}
-use Rattle.qs_base.specs.Order.{tid_cmp}
-use Rattle.qs_base.specs.declared.identifiers.Tid.{Tid}
-use Rattle.qs_ops.specs.Alike.{same_cause}
-use Rattle.qs_book_machine.specs.Transaction.{TransactionValue, found_at}
-use Rattle.qs_book_machine.specs.Book.{BookValue, find_transaction, with_transaction}
-use Rattle.qs_book_machine.specs.Nodes.{NodeValue}
-use Rattle.qs_book_machine.specs.Opening.{opened_node, opened_transaction, name_transaction, name_pending, name_all, name_from, no_owner, opening}
-use Rattle.qs_book_machine.specs.Restart.{member_at}
-use Rattle.qs_book_machine.specs.declared.opened.Opened.{Opened}
-use Rattle.qs_book_machine.specs.declared.opened.Pending.{Pending}
-use Rattle.qs_book_machine.specs.declared.state.Owner.{Owner}
-use Rattle.qs_book_laws.specs.Laws.{IsEarlier, IsVoteEarlier, IsSound, IsCoherent}
+use Rattle.qs_book_laws.proofs.Words.{◌≡◌, ℕ, ◌<◌, zero, suc, [], ◌∷◌, Bool, true, false, List, Option, Some, None, fold, map, length, inl, refl, sym, ap, subst, ◌∙◌, arith, slice_get-map, slice_get, All, list_any, option_map, insert_entry, is_at, Equal, tid_cmp, Tid, same_cause, TransactionValue, found_at, BookValue, find_transaction, with_transaction, NodeValue, opened_node, opened_transaction, name_transaction, name_pending, name_all, name_from, opening, member_at, Opened, Pending, Owner}
+use Rattle.qs_book_laws.proofs.Words.{IsCoherent}
+use Rattle.std.proofs.Common.{replicate}
+use Rattle.qs_book_machine.specs.Opening.{no_owner}
+use Rattle.qs_book_laws.specs.Laws.{IsEarlier, IsVoteEarlier, IsSound}
 use Rattle.qs_book_laws.proofs.Alikes.{at_exact}
 use Rattle.qs_book_laws.proofs.Faces.{Face, face, Age, age, Told, told_of, face_at, age_at, told_at, transaction_alike}
 use Rattle.qs_book_laws.proofs.Maps.{lookup_put_apart}

@@ -1,24 +1,11 @@
 -- A vote against commit is never forgotten, and commit is asked for by an entry alone.
-use Rattle.std.proofs.Common.{◌≡◌, ℕ, ◌||◌, Bool, true, false, List, [], ◌∷◌, ◌++◌, Option, Some, None, refl, sym, ap, subst, ◌∙◌}
-use Rattle.std.specs.Prelude.{is_some, slice_get}
-use Rattle.qs_base.specs.Order.{same_tid}
-use Rattle.qs_base.specs.declared.identifiers.Member.{Member}
-use Rattle.qs_base.specs.declared.identifiers.Outcome.{Outcome}
+use Rattle.qs_book_laws.proofs.Words.{◌≡◌, ℕ, ◌||◌, Bool, true, false, List, [], ◌∷◌, ◌++◌, Option, Some, None, refl, sym, ap, subst, ◌∙◌, is_some, slice_get, same_tid, Member, Outcome, Tid, same_tid-true, Vote, Act, Begin, Issue, Serve, Ask, Counted, Decide, Ending, Learn, Loan, Yield, Tick, Crash, Restart, Entry, TransactionValue, is_empty, learnt, lent, given_back, BookValue, find_transaction, inc_at, borrower_at, broken_vote, broken_act, broken, effect, IsLawful, book_after, NodeValue}
 use Rattle.qs_base.specs.declared.identifiers.Outcome.TheVariants as outcomes
-use Rattle.qs_base.specs.declared.identifiers.Tid.{Tid}
-use Rattle.qs_base.proofs.Same.{same_tid-true}
-use Rattle.qs_ops.specs.declared.vote.Vote.{Vote}
 use Rattle.qs_ops.specs.declared.vote.Vote.TheVariants as votes
-use Rattle.qs_book_journal.specs.declared.entry.Act.{Act}
-use Rattle.qs_book_journal.specs.declared.entry.Act.TheVariants.{Begin, Issue, Serve, Ask, Counted, Decide, Ending, Learn, Answer, Loan, Yield, Tick, Crash, Restart}
+use Rattle.qs_book_journal.specs.declared.entry.Act.TheVariants.{Answer}
 use Rattle.qs_book_journal.specs.declared.entry.Act.TheVariants as acts
-use Rattle.qs_book_journal.specs.declared.entry.Entry.{Entry}
-use Rattle.qs_book_machine.specs.Transaction.{TransactionValue, is_empty, learnt, lent, given_back, refusals_after}
+use Rattle.qs_book_machine.specs.Transaction.{refusals_after}
 use Rattle.qs_book_machine.specs.declared.transaction.Refusal.{Refusal}
-use Rattle.qs_book_machine.specs.Book.{BookValue, find_transaction, inc_at}
-use Rattle.qs_book_machine.specs.Clauses.{borrower_at, broken_vote}
-use Rattle.qs_book_machine.specs.Lawful.{broken_act, broken, effect, IsLawful, book_after}
-use Rattle.qs_book_machine.specs.Nodes.{NodeValue}
 use Rattle.qs_book_laws.specs.Unanimity.{asks, asks_in, is_against, votes_against, is_refused_in}
 use Rattle.qs_book_laws.proofs.Always.{IsSo, step_so}
 use Rattle.qs_book_laws.proofs.Ends.{lawful_node}
@@ -27,11 +14,7 @@ use Rattle.qs_book_laws.proofs.Outcomes.{Inv}
 use Rattle.qs_book_laws.proofs.Steps.{stepped}
 use Rattle.qs_book_laws.proofs.Takes.{some_same}
 use Rattle.qs_book_laws.proofs.Turns.{Stands, Same, Gives, GivesFor, Obliged, step_turns}
-
--- the first of a choice was not taken
-neither : (a b : Bool) → (a || b) ≡ false → (a ≡ false) × (b ≡ false)
-neither true b h = absurd (cc h)
-neither false b h = (refl, h)
+use Rattle.std.proofs.lemmas.Bool.{or_parts}
 
 -- ---- refusals
 
@@ -158,7 +141,7 @@ module _ (tid : Tid) where
   unasked_last : (entries : List Entry) (book : BookValue) → Inv book → IsLawful book entries → asks_in tid entries ≡ false → IsSo tid IsUnasked book → IsSo tid IsUnasked (book_after book entries)
   unasked_last [] book i lawful none so = so
   unasked_last (entry ∷ entries) book i lawful none so =
-      let two : (asks tid entry.act ≡ false) × (asks_in tid entries ≡ false) = neither (asks tid entry.act) (asks_in tid entries) none in
+      let two : (asks tid entry.act ≡ false) × (asks_in tid entries ≡ false) = or_parts (asks tid entry.act) (asks_in tid entries) none in
       unasked_last entries (effect book entry) (stepped book entry i lawful.0).inv lawful.1 two.1
       (step_so tid IsUnasked book entry i lawful.0 (λ label client ticks. refl) (step_turns tid IsUnasked IsUnasked book entry i lawful.0 (unasked_owed book entry.stamp entry.node.0 entry.act two.0)) so)
 

@@ -1,37 +1,16 @@
 -- Members of a node learn in order: once windows or scratch have learnt, no member that comes before them learns in that life.
-use Rattle.std.proofs.Common.{◌≡◌, ◌⊎◌, inl, inr, ℕ, ◌==◌, ◌&&◌, ◌||◌, Bool, true, false, not, List, [], ◌∷◌, ◌++◌, Option, Some, None, refl, sym, ap, subst, ◌∙◌, if◌then◌else◌, arith}
-use Rattle.std.proofs.lemmas.Bool.Decides.{nat_tests}
-use Rattle.std.specs.Prelude.{slice_get, nat_lt}
-use Rattle.std.specs.List.{list_any}
-use Rattle.qs_base.specs.Order.{same_tid, same_member}
-use Rattle.qs_base.specs.declared.identifiers.Class.{Class}
+use Rattle.qs_book_laws.proofs.Words.{◌≡◌, ◌⊎◌, inl, inr, ℕ, ◌==◌, ◌&&◌, ◌||◌, Bool, true, false, not, List, [], ◌∷◌, ◌++◌, Option, Some, None, refl, sym, ap, subst, ◌∙◌, if◌then◌else◌, slice_get, nat_lt, list_any, same_tid, same_member, Class, Member, NodeNo, Outcome, Tid, same_tid-true, same_member-true, class_of, files_no, Reply, Vote, Act, Serve, Ending, Learn, Loan, Yield, Entry, TransactionValue, part_of, may_learn_still, serving_part, voted_part, learnt_part, Part, BookValue}
+use Rattle.qs_book_laws.proofs.Words.{find_transaction, inc_at, is_done, borrower_at, broken_vote, is_vote_due, broken_learn, may_learn, broken_act, broken, effect, IsLawful, book_after, NodeValue, opening, Opened, IsCoherent, restarts}
 use Rattle.qs_base.specs.declared.identifiers.Class.TheVariants as classes
-use Rattle.qs_base.specs.declared.identifiers.Member.{Member}
-use Rattle.qs_base.specs.declared.identifiers.NodeNo.{NodeNo}
-use Rattle.qs_base.specs.declared.identifiers.Outcome.{Outcome}
 use Rattle.qs_base.specs.declared.identifiers.Outcome.TheVariants as outcomes
-use Rattle.qs_base.specs.declared.identifiers.Tid.{Tid}
-use Rattle.qs_base.proofs.Same.{same_tid-true, same_member-true}
-use Rattle.qs_ops.specs.Members.{class_of, learns_outcome}
-use Rattle.qs_ops.specs.Servers.{files_no, audit_no, names_no, windows_no, scratch_no, extra_no}
-use Rattle.qs_ops.specs.declared.reply.Reply.{Reply}
-use Rattle.qs_ops.specs.declared.vote.Vote.{Vote}
+use Rattle.qs_ops.specs.Members.{learns_outcome}
+use Rattle.qs_ops.specs.Servers.{audit_no, names_no, windows_no, scratch_no, extra_no}
 use Rattle.qs_ops.specs.declared.vote.Vote.TheVariants as votes
-use Rattle.qs_book_journal.specs.declared.entry.Act.{Act}
-use Rattle.qs_book_journal.specs.declared.entry.Act.TheVariants.{Serve, Ending, Learn, Loan, Yield}
 use Rattle.qs_book_journal.specs.declared.entry.Act.TheVariants as acts
-use Rattle.qs_book_journal.specs.declared.entry.Entry.{Entry}
-use Rattle.qs_book_machine.specs.Transaction.{TransactionValue, part_of, is_let_go, may_learn_still, serving_part, voted_part, learnt_part}
-use Rattle.qs_book_machine.specs.declared.transaction.Part.{Part}
-use Rattle.qs_book_machine.specs.Book.{BookValue, find_transaction, inc_at, is_done}
-use Rattle.qs_book_machine.specs.Clauses.{borrower_at, broken_vote, is_vote_due, broken_learn, may_learn, waits_for, earlier_servers}
-use Rattle.qs_book_machine.specs.Lawful.{broken_act, broken, effect, IsLawful, book_after}
-use Rattle.qs_book_machine.specs.Nodes.{NodeValue}
-use Rattle.qs_book_machine.specs.Opening.{opening}
-use Rattle.qs_book_machine.specs.declared.opened.Opened.{Opened}
+use Rattle.qs_book_machine.specs.Transaction.{is_let_go}
+use Rattle.qs_book_machine.specs.Clauses.{waits_for, earlier_servers}
 use Rattle.qs_book_laws.specs.Endings.{is_learner, learns_before}
-use Rattle.qs_book_laws.specs.Laws.{IsCoherent}
-use Rattle.qs_book_laws.specs.Lives.{restarts, IsOneLife}
+use Rattle.qs_book_laws.specs.Lives.{IsOneLife}
 use Rattle.qs_book_laws.proofs.Begun.{inc_in}
 use Rattle.qs_book_laws.proofs.Ends.{lawful_node}
 use Rattle.qs_book_laws.proofs.Final as final
@@ -43,6 +22,7 @@ use Rattle.qs_book_laws.proofs.Serves.{inc_there}
 use Rattle.qs_book_laws.proofs.Steps.{passed, past, lawful_front, lawful_rest}
 use Rattle.qs_book_laws.proofs.Takes.{some_same}
 use Rattle.qs_book_laws.proofs.Turns.{Stands}
+use Rattle.qs_base_lemmas.proofs.Tests.{ltb_apart}
 
 -- ---- the clause
 
@@ -152,12 +132,9 @@ choose_for : (tid : Tid) (member : Member) (inc : ℕ) (t : Tid) (o : Option Mem
 choose_for tid member inc t None now f part p q = q
 choose_for tid member inc t (Some other) now f part p q = choose (is_own tid member inc t other now) (f part) part (λ own. p) q
 
-apart : (m n : ℕ) → nat_lt m n ≡ true → (m == n) ≡ false
-apart m n h = grind (arith, nat_tests)
-
 -- one that votes lawfully has been told nothing, and let nothing go
 voted_quiet : (ballot : Vote) (part : Part) → nat_lt part.voted part.served ≡ true → IsQuiet part → IsQuiet (voted_part ballot part)
-voted_quiet ballot part less quiet = of ballot (undue part.due part.read_only (part.voted == part.served) (apart part.voted part.served less) quiet)
+voted_quiet ballot part less quiet = of ballot (undue part.due part.read_only (part.voted == part.served) (ltb_apart part.voted part.served less) quiet)
   where
     undue : (a b c : Bool) → c ≡ false → (a && not (b && c)) ≡ false → a ≡ false
     undue false b c e h = refl

@@ -1,25 +1,9 @@
 -- The invariant of outcomes, and that steps which leave what the laws see, a begin and a decision keep it.
-use Rattle.std.proofs.Common.{◌≡◌, ◌⊎◌, ℕ, ◌+◌, ◌<◌, ◌≤◌, Bool, true, false, List, Option, Some, None, inl, inr, refl, sym, ap, subst, ◌∙◌, arith}
-use Rattle.std.proofs.lemmas.Bool.Decides.{nat_tests}
-use Rattle.std.specs.Prelude.{slice_get, slice_set}
-use Rattle.std.specs.List.{list_any}
-use Rattle.std.specs.Option.{option_map}
-use Rattle.std.specs.BTreeMap.{is_at}
-use Rattle.std.specs.declared.cmp.Ordering.TheVariants.{Equal}
-use Rattle.qs_base.specs.Order.{tid_cmp}
-use Rattle.qs_base.specs.declared.identifiers.ClientNo.{ClientNo}
-use Rattle.qs_base.specs.declared.identifiers.Outcome.{Outcome}
+use Rattle.qs_book_laws.proofs.Words.{◌≡◌, ◌⊎◌, ℕ, ◌+◌, ◌<◌, ◌≤◌, Bool, true, false, List, Option, Some, None, inl, inr, refl, sym, ap, subst, ◌∙◌, arith, le_refl, nat_tests, slice_get, slice_set, list_any, option_map, is_at, Equal, tid_cmp, ClientNo, Outcome, Tid, same_cause, Cause, TransactionValue, is_open, begun, decided_at, cell_of, Cell, BookValue, find_transaction, decide, begin, changed_at, owner_of, ticks_at, NodeValue, Owner}
 use Rattle.qs_base.specs.declared.identifiers.Outcome.TheVariants as outcomes
-use Rattle.qs_base.specs.declared.identifiers.Tid.{Tid}
-use Rattle.qs_ops.specs.Alike.{same_cause}
-use Rattle.qs_ops.specs.declared.answer.Cause.{Cause}
-use Rattle.qs_book_machine.specs.Transaction.{TransactionValue, is_open, begun, decided_at, cell_of}
-use Rattle.qs_book_machine.specs.declared.transaction.Cell.{Cell}
 use Rattle.qs_book_machine.specs.declared.transaction.Cell.TheVariants as cells
-use Rattle.qs_book_machine.specs.Book.{BookValue, find_transaction, decide, begin, changed_at, told, told_owner, owner_of, ticks_at}
+use Rattle.qs_book_machine.specs.Book.{told, told_owner}
 use Rattle.qs_book_machine.specs.Clauses.{is_next_tid}
-use Rattle.qs_book_machine.specs.Nodes.{NodeValue}
-use Rattle.qs_book_machine.specs.declared.state.Owner.{Owner}
 use Rattle.qs_book_laws.proofs.Alikes.{same_cause-true, at_exact}
 use Rattle.qs_book_machine.proofs.CauseOrder.{among_more}
 use Rattle.qs_book_laws.proofs.Faces.{Face, face, Age, age, Told, told_of, face_at, age_at, told_at, Alike}
@@ -247,9 +231,6 @@ next_is here node tid h = grind (arith, nat_tests)
 not_begun : (inc begun : ℕ) (tid : Tid) → tid.inc ≡ inc → tid.seq ≡ begun + 1 → IsBegun tid (record { inc = inc; begun = begun }) → ⊥
 not_begun inc begun tid a b c = grind arith
 
-at_most : (n : ℕ) → n ≤ n
-at_most n = omega arith
-
 begun_later : (inc begun seq : ℕ) (q : Tid) → seq ≡ begun + 1 → IsBegun q (record { inc = inc; begun = begun }) → IsBegun q (record { inc = inc; begun = seq })
 begun_later inc begun seq q a b = grind arith
 
@@ -304,7 +285,7 @@ module _ (book : BookValue) (here : ℕ) (node : NodeValue) (tid : Tid) (label :
       of_new same =
           let at_home : age_at started here ≡ Some at = sym (ap (age_at started) (ap (λ (t : Tid). t.home.0) same ∙ n.0)) ∙ is_aged in
           let at_is : at ≡ age (grown node) = cc (at_home, here_now) in
-          rw (same, at_is) (inr (n.1, at_most tid.seq))
+          rw (same, at_is) (inr (n.1, le_refl tid.seq))
 
       by : (b : Bool) → is_at (tid_cmp q) tid ≡ b → ((q.home.0 ≡ here) × (at ≡ record { inc = node.inc; begun = tid.seq })) ⊎ (age_at book q.home.0 ≡ Some at) → IsBegun q at
       by true same h = of_new (at_exact q tid same)

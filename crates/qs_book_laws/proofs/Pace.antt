@@ -1,23 +1,12 @@
 -- What is known of a transaction towards a node, through each act: what waits, which incarnation was reached, and whether a
 -- request was open when the node restarted from an incarnation, or later.
-use Rattle.std.proofs.Common.{◌≡◌, ◌⊎◌, inl, inr, ℕ, ◌+◌, ◌-◌, ◌<◌, ◌≤◌, ◌==◌, ◌&&◌, ◌||◌, Bool, true, false, List, Option, Some, None, refl, sym, ap, subst, ◌∙◌, if◌then◌else◌, arith}
-use Rattle.std.proofs.lemmas.Bool.Decides.{nat_tests}
-use Rattle.std.specs.Prelude.{is_some, nat_lt}
-use Rattle.std.specs.List.{list_any}
-use Rattle.std.specs.Option.{option_map}
-use Rattle.std.specs.Map.{lookup}
-use Rattle.std.specs.BTreeMap.{is_at, insert_entry}
-use Rattle.qs_base.specs.declared.identifiers.NodeNo.{NodeNo}
-use Rattle.qs_book_machine.specs.Transaction.{TransactionValue, at_first, changed_value, peer_of, node_cmp, heard, heard_by, reached_by, is_by_client, is_by_files, is_open_link, is_open_to, reached, is_gone, issued, counted, with_reached}
-use Rattle.qs_book_machine.specs.declared.transaction.Link.{Link}
-use Rattle.qs_book_machine.specs.declared.transaction.Peer.{Peer}
-use Rattle.qs_book_machine.specs.declared.transaction.Request.{Request}
-use Rattle.qs_book_machine.specs.declared.transaction.RequestNo.{RequestNo}
-use Rattle.qs_book_machine.specs.declared.transaction.Sent.{Sent}
+use Rattle.qs_book_laws.proofs.Words.{◌≡◌, ◌⊎◌, inl, inr, ℕ, ◌+◌, ◌-◌, ◌<◌, ◌≤◌, ◌==◌, ◌&&◌, ◌||◌, Bool, true, false, List, Option, Some, None, refl, sym, ap, subst, ◌∙◌, if◌then◌else◌, arith, le_refl, nat_tests, is_some, nat_lt, list_any, option_map, lookup, is_at, insert_entry, NodeNo, TransactionValue, changed_value, peer_of, node_cmp, heard, heard_by, is_by_client, is_by_files, is_open_link, is_open_to, is_gone, issued, counted, Link, Peer, Request, RequestNo, Sent, or_left}
+use Rattle.qs_book_machine.specs.Transaction.{at_first, reached_by, reached, with_reached}
 use Rattle.qs_book_laws.proofs.Holding.{clash}
 use Rattle.qs_book_laws.proofs.Maps.{changed_alike, lookup_put, put_known}
 use Rattle.qs_book_laws.proofs.Reaching.{has_peer, issued_peer, issued_opens, issued_apart, counted_closes, counted_peer, counted_apart, heard_peer}
 use Rattle.qs_book_laws.proofs.Unanswered.{same_node, node_itself}
+use Rattle.qs_base_lemmas.proofs.Tests.{le_lt_le}
 
 -- a transaction of which only that is seen
 abbrev pub ways : List (Link × Sent) → List (NodeNo × Peer) → TransactionValue
@@ -25,9 +14,6 @@ ways sent peers = record at_first { sent = sent; peers = peers }
 
 below_inc : (gone r inc : ℕ) → nat_lt gone r ≡ true → r ≤ inc → nat_lt gone inc ≡ true
 below_inc gone r inc h k = grind (arith, nat_tests)
-
-same_size : (n : ℕ) → n ≤ n
-same_size n = omega arith
 
 module _ (node : NodeNo) (gone : ℕ) where
   pub record Before (g : Bool) (inc w : ℕ) (sent : List (Link × Sent)) (peers : List (NodeNo × Peer)) : Type 0 where
@@ -51,7 +37,7 @@ module _ (node : NodeNo) (gone : ℕ) where
   pub restarted : (g : Bool) (inc new w : ℕ) (sent : List (Link × Sent)) (peers : List (NodeNo × Peer)) → inc < new → Before g inc w sent peers → After g new w sent peers
   restarted g inc new w sent peers less b = record {
     waits = b.waits;
-    below = over r inc new b.below less;
+    below = le_lt_le r inc new b.below less;
     has = b.has;
     kept = λ h. rises (is_open_to (ways sent peers) node) (b.is ∙ h);
     back = falls (is_open_to (ways sent peers) node) refl;
@@ -59,9 +45,6 @@ module _ (node : NodeNo) (gone : ℕ) where
     where
       r : ℕ
       r = (peer_of (ways sent peers) node).reached
-
-      over : (a b c : ℕ) → a ≤ b → b < c → a ≤ c
-      over a b c h k = omega arith
 
       more : (a b c : ℕ) → nat_lt a b ≡ true → b < c → nat_lt a c ≡ true
       more a b c h k = grind (arith, nat_tests)
@@ -92,7 +75,7 @@ module _ (node : NodeNo) (gone : ℕ) where
         → After g inc (if is_by_client request then w + 1 else w) (issued at request inc place tx).sent (issued at request inc place tx).peers
     issued_near at request place near who = record {
       waits = ap (λ (q : Peer). q.waiting) peer ∙ more (is_by_client request);
-      below = subst (λ (q : Peer). q.reached ≤ inc) (sym peer) (same_size inc);
+      below = subst (λ (q : Peer). q.reached ≤ inc) (sym peer) (le_refl inc);
       has = λ h. known;
       kept = λ h. ap (λ (o : Bool). nat_lt gone (if o then inc else (peer_of new node).reached)) opens ∙ gone_below h;
       back = λ h. inr opens;
@@ -182,7 +165,7 @@ module _ (node : NodeNo) (gone : ℕ) where
         reached_of o is = ap (λ (x : Bool). if x then inc else r) is
 
         at_most : (o : Bool) → (if o then inc else r) ≤ inc
-        at_most true = same_size inc
+        at_most true = le_refl inc
         at_most false = b.below
 
         gone_same : (o x : Bool) → is_open_to tx node ≡ o → is_open_to new node ≡ x → (o ≡ false → x ≡ false) → (k : ℕ) → k ≡ (if o then inc else r) → nat_lt gone (if x then inc else k) ≡ g
@@ -221,7 +204,7 @@ module _ (node : NodeNo) (gone : ℕ) where
     pub heard_near : (to : NodeNo) (less : ℕ) → (to.0 == node.0) ≡ true → w ≡ 1 + less → Before g inc less (heard to inc tx).sent (heard to inc tx).peers
     heard_near to less near one = record {
       waits = ap (λ (q : Peer). q.waiting) peer ∙ (ap (λ (n : ℕ). n - 1) (b.waits ∙ one) ∙ minus less);
-      below = subst (λ (q : Peer). q.reached ≤ inc) (sym peer) (same_size inc);
+      below = subst (λ (q : Peer). q.reached ≤ inc) (sym peer) (le_refl inc);
       has = λ h. still_known to (heard_by inc) (b.has opens);
       is = last (is_open_to new node) ∙ (sym (ap (λ (o : Bool). nat_lt gone (if o then inc else r)) opens) ∙ b.is);
     }
@@ -235,12 +218,8 @@ module _ (node : NodeNo) (gone : ℕ) where
         some : (n : ℕ) → nat_lt 0 (1 + n) ≡ true
         some n = grind (arith, nat_tests)
 
-        first : (a c : Bool) → a ≡ true → (a || c) ≡ true
-        first true c h = refl
-        first false c h = absurd (cc h)
-
         opens : is_open_to tx node ≡ true
-        opens = first (nat_lt 0 (peer_of tx node).waiting) (list_any (is_open_link node) tx.sent) (ap (λ (n : ℕ). nat_lt 0 n) (b.waits ∙ one) ∙ some less)
+        opens = or_left (nat_lt 0 (peer_of tx node).waiting) (list_any (is_open_link node) tx.sent) (ap (λ (n : ℕ). nat_lt 0 n) (b.waits ∙ one) ∙ some less)
 
         peer : peer_of new node ≡ heard_by inc (peer_of tx node)
         peer =

@@ -1,55 +1,29 @@
 -- Through every lawful step: what waits, what is open and what was reached towards a node, of a transaction.
-use Rattle.std.proofs.Common.{◌≡◌, ℕ, ◌+◌, ◌-◌, ◌==◌, ◌&&◌, ◌||◌, Bool, true, false, List, [], ◌∷◌, ◌++◌, Option, Some, None, refl, sym, ap, subst, ◌∙◌, fold, if◌then◌else◌, arith}
-use Rattle.std.specs.Prelude.{slice_get, length}
-use Rattle.qs_base.specs.Order.{same_tid}
-use Rattle.qs_base.specs.declared.identifiers.ClientNo.{ClientNo}
-use Rattle.qs_base.specs.declared.identifiers.Member.{Member}
-use Rattle.qs_base.specs.declared.identifiers.NodeNo.{NodeNo}
-use Rattle.qs_base.specs.declared.identifiers.Outcome.{Outcome}
+use Rattle.qs_book_laws.proofs.Words.{◌≡◌, ℕ, ◌+◌, ◌-◌, ◌==◌, ◌&&◌, ◌||◌, Bool, true, false, List, [], ◌∷◌, ◌++◌, Option, Some, None, refl, sym, ap, subst, ◌∙◌, fold, if◌then◌else◌, arith, slice_get, length, same_tid, ClientNo, Member, NodeNo, Outcome, Tid, same_tid-true, files_no, is_client_no, Op, Act, Begin, Issue, Serve, Ask, Counted, Decide, Ending, Learn, Loan, Yield, Tick, Crash, Restart, TransactionValue, heard, learnt, lent, given_back, issued, is_by_client, counted, Link, Request}
+use Rattle.qs_book_laws.proofs.Words.{RequestNo, BookValue, find_transaction, with_owner, answer, hear, waiting_of, inc_at, link_to, borrower_at, broken_issue, is_numbered, broken_issuer, broken_act, NodeValue, Asking, Owner, zero_plus, or_left, or_right}
 use Rattle.qs_base.specs.declared.identifiers.Outcome.TheVariants as outcomes
-use Rattle.qs_base.specs.declared.identifiers.Tid.{Tid}
-use Rattle.qs_base.proofs.Same.{same_tid-true}
-use Rattle.qs_ops.specs.Servers.{files_no, is_client_no}
 use Rattle.qs_ops.specs.declared.answer.Answer.{Answer as Said}
-use Rattle.qs_ops.specs.declared.operation.Op.{Op}
-use Rattle.qs_book_journal.specs.declared.entry.Act.{Act}
-use Rattle.qs_book_journal.specs.declared.entry.Act.TheVariants.{Begin, Issue, Serve, Ask, Counted, Decide, Ending, Learn, Answer, Loan, Yield, Tick, Crash, Restart}
+use Rattle.qs_book_journal.specs.declared.entry.Act.TheVariants.{Answer}
 use Rattle.qs_book_journal.specs.declared.entry.Act.TheVariants as acts
-use Rattle.qs_book_machine.specs.Transaction.{TransactionValue, heard, learnt, lent, given_back, issued, is_by_client, counted}
-use Rattle.qs_book_machine.specs.declared.transaction.Link.{Link}
-use Rattle.qs_book_machine.specs.declared.transaction.Request.{Request}
-use Rattle.qs_book_machine.specs.declared.transaction.RequestNo.{RequestNo}
-use Rattle.qs_book_machine.specs.Book.{BookValue, find_transaction, with_owner, answer, hear, waiting_of, inc_at}
-use Rattle.qs_book_machine.specs.Clauses.{link_to, borrower_at, broken_issue, is_numbered, broken_issuer, is_files_here, is_client_here, may_issue}
-use Rattle.qs_book_machine.specs.Lawful.{broken_act}
-use Rattle.qs_book_machine.specs.Nodes.{NodeValue}
-use Rattle.qs_book_machine.specs.declared.state.Asking.{Asking}
-use Rattle.qs_book_machine.specs.declared.state.Owner.{Owner}
+use Rattle.qs_book_machine.specs.Clauses.{is_files_here, is_client_here, may_issue}
 use Rattle.qs_book_laws.proofs.Holding.{left_of, right_of}
 use Rattle.qs_book_laws.proofs.Pace.{Before, After, stay, issued_near, issued_far, counted_near, counted_far, heard_near, heard_far}
 use Rattle.qs_book_laws.proofs.Steps.{held}
 use Rattle.qs_book_laws.proofs.Turns.{Stands, Gives, GivesFor, Obliged, turn, stands_as, stands_by}
 use Rattle.qs_book_laws.proofs.Unanswered.{Waits, is_to, times, all_of, own_of, without, times_split, times_more, same_node}
 use Rattle.qs_book_laws.proofs.Waiting.{waits_after}
+use Rattle.qs_base_lemmas.proofs.Tests.{plus_zero}
 
 -- ---- who issues
 
 issuer_is : (here : ℕ) (node : NodeValue) (nodes : ℕ) (tid : Tid) (tx : TransactionValue) (issuer member : Member) (n : ℕ) (op : Op) → broken_issue here node nodes tid (Some tx) issuer member n op ≡ None → ((issuer.server.0 == files_no) || is_client_no issuer.server.0) ≡ true
 issuer_is here node nodes tid tx issuer member n op h = by (is_files_here here issuer) refl (held (is_numbered here node nodes tx member n op) 20 (broken_issuer here node tid tx issuer op) h).1
   where
-    first : (a b : Bool) → a ≡ true → (a || b) ≡ true
-    first true b h = refl
-    first false b h = absurd (cc h)
-
-    last : (a b : Bool) → b ≡ true → (a || b) ≡ true
-    last true b h = refl
-    last false b h = h
-
     by : (b : Bool) → is_files_here here issuer ≡ b → broken_issuer here node tid tx issuer op ≡ None → ((issuer.server.0 == files_no) || is_client_no issuer.server.0) ≡ true
-    by true is k = first (issuer.server.0 == files_no) (is_client_no issuer.server.0) (right_of (issuer.node.0 == here) (issuer.server.0 == files_no) is)
+    by true is k = or_left (issuer.server.0 == files_no) (is_client_no issuer.server.0) (right_of (issuer.node.0 == here) (issuer.server.0 == files_no) is)
     by false is k =
         let may : may_issue here node tid tx issuer ≡ true = allowed (may_issue here node tid tx issuer) (unfiled is k) in
-        last (issuer.server.0 == files_no) (is_client_no issuer.server.0) (right_of (issuer.node.0 == here) (is_client_no issuer.server.0) (left_of (is_client_here here issuer) _ may))
+        or_right (issuer.server.0 == files_no) (is_client_no issuer.server.0) (right_of (issuer.node.0 == here) (is_client_no issuer.server.0) (left_of (is_client_here here issuer) _ may))
       where
         clause : Bool → Option ℕ
         clause b = if b then None else Some 21
@@ -99,12 +73,9 @@ module _ (tid : Tid) (node : NodeNo) (gone : ℕ) where
         new : Waits
         new = record { client = issuer.server.0 - 32; asking = record { tid = t; node = member.node } }
 
-        plus_none : (k : ℕ) → k + 0 ≡ k
-        plus_none k = omega arith
-
         by : (b c : Bool) → is_to tid node new.asking ≡ b → count (if c then ws ++ new ∷ [] else ws) ≡ (if b then (if c then w + 1 else w) else w)
         by true true e = times_more tid node ws new ∙ ap (λ (x : Bool). w + (if x then 1 else 0)) e
-        by false true e = times_more tid node ws new ∙ (ap (λ (x : Bool). w + (if x then 1 else 0)) e ∙ plus_none w)
+        by false true e = times_more tid node ws new ∙ (ap (λ (x : Bool). w + (if x then 1 else 0)) e ∙ plus_zero w)
         by true false e = refl
         by false false e = refl
 
@@ -165,10 +136,7 @@ module _ (tid : Tid) (node : NodeNo) (gone : ℕ) where
   -- ---- an answer
 
   hear_all : (g : Bool) (inc rest : ℕ) (asks : List Asking) (book : BookValue) → inc_at book node ≡ inc → Stands tid (Goes g inc (times tid node asks + rest)) book → Stands tid (Goes g inc rest) (fold hear book asks)
-  hear_all g inc rest [] book at_node s = stands_by tid (Goes g inc (0 + rest)) (Goes g inc rest) book (λ tx p. subst (λ (k : ℕ). Goes g inc k tx) (nothing rest) p) s
-    where
-      nothing : (k : ℕ) → 0 + k ≡ k
-      nothing k = omega arith
+  hear_all g inc rest [] book at_node s = stands_by tid (Goes g inc (0 + rest)) (Goes g inc rest) book (λ tx p. subst (λ (k : ℕ). Goes g inc k tx) (zero_plus rest) p) s
   hear_all g inc rest (ask ∷ asks) book at_node s = hear_all g inc rest asks (hear book ask) at_node (turn tid (Goes g inc first) (Goes g inc left) book ask.tid (heard ask.node (inc_at book ask.node)) gives s)
     where
       first : ℕ

@@ -1,29 +1,12 @@
 -- What an entry does to the part of a member in an incarnation of its node: what the act says, where it is one of that member
 -- in that incarnation, and nothing else.
-use Rattle.std.proofs.Common.{◌≡◌, ℕ, ◌==◌, ◌&&◌, Bool, true, false, List, Option, Some, None, refl, sym, ap, subst, ◌∙◌, if◌then◌else◌, arith}
-use Rattle.std.proofs.lemmas.Bool.Decides.{nat_tests}
-use Rattle.std.specs.Prelude.{slice_get, unwrap_or, nat_lt}
-use Rattle.std.specs.Map.{lookup}
-use Rattle.std.specs.BTreeMap.{insert_entry, is_at}
-use Rattle.qs_base.specs.Order.{same_tid, same_member}
-use Rattle.qs_base.specs.declared.identifiers.ClientNo.{ClientNo}
-use Rattle.qs_base.specs.declared.identifiers.Member.{Member}
-use Rattle.qs_base.specs.declared.identifiers.Outcome.{Outcome}
+use Rattle.qs_book_laws.proofs.Words.{◌≡◌, ℕ, ◌==◌, ◌&&◌, Bool, true, false, List, Option, Some, None, refl, sym, ap, subst, ◌∙◌, if◌then◌else◌, arith, nat_tests, slice_get, unwrap_or, nat_lt, lookup, insert_entry, is_at, same_tid, same_member, ClientNo, Member, Outcome, Tid, same_tid-true, same_member-true, same_member-self, class_of, Vote, Act, Begin, Issue, Serve, Ask, Counted, Decide, Ending, Learn, Loan, Yield, Tick, Crash, Restart, TransactionValue, changed_value, part_of, no_part, life}
+use Rattle.qs_book_laws.proofs.Words.{life_cmp, serving_part, voted_part, learnt, learnt_part, ended_part, made_part, yielded_part, lent, given_back, Life, Part, BookValue, find_transaction, inc_at, is_done, borrower_at, broken_vote, is_vote_due, broken_learn, may_learn, broken_ending, may_end, broken_act, NodeValue}
 use Rattle.qs_base.specs.declared.identifiers.Outcome.TheVariants as outcomes
-use Rattle.qs_base.specs.declared.identifiers.Tid.{Tid}
-use Rattle.qs_base.proofs.Same.{same_tid-true, same_member-true, same_member-self}
-use Rattle.qs_ops.specs.Members.{class_of}
-use Rattle.qs_ops.specs.declared.vote.Vote.{Vote}
-use Rattle.qs_book_journal.specs.declared.entry.Act.{Act}
-use Rattle.qs_book_journal.specs.declared.entry.Act.TheVariants.{Begin, Issue, Serve, Ask, Counted, Decide, Ending, Learn, Answer, Loan, Yield, Tick, Crash, Restart}
+use Rattle.qs_book_journal.specs.declared.entry.Act.TheVariants.{Answer}
 use Rattle.qs_book_journal.specs.declared.entry.Act.TheVariants as acts
-use Rattle.qs_book_machine.specs.Transaction.{TransactionValue, changed_value, part_of, no_part, life, life_cmp, serving_part, voted_part, learnt, learnt_part, ended_part, made_part, yielded_part, has_loan, is_loan_due, lent, given_back}
-use Rattle.qs_book_machine.specs.declared.transaction.Life.{Life}
-use Rattle.qs_book_machine.specs.declared.transaction.Part.{Part}
-use Rattle.qs_book_machine.specs.Book.{BookValue, find_transaction, inc_at, is_done}
-use Rattle.qs_book_machine.specs.Clauses.{borrower_at, broken_vote, is_vote_due, broken_learn, may_learn, broken_ending, may_end, broken_loan, may_lend, broken_yield, may_yield}
-use Rattle.qs_book_machine.specs.Lawful.{broken_act}
-use Rattle.qs_book_machine.specs.Nodes.{NodeValue}
+use Rattle.qs_book_machine.specs.Transaction.{has_loan, is_loan_due}
+use Rattle.qs_book_machine.specs.Clauses.{broken_loan, may_lend, broken_yield, may_yield}
 use Rattle.qs_book_laws.proofs.Counts.{life_equal, life_exact, life_itself, life_other, life_later}
 use Rattle.qs_book_laws.proofs.Holding.{left_of, right_of, same_number, clash}
 use Rattle.qs_book_laws.proofs.Maps.{changed_apart, lookup_changed, lookup_put, lookup_put_apart}

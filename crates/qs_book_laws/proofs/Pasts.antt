@@ -1,50 +1,25 @@
 -- A node ran in an incarnation of this run exactly where it opened in it, or an entry restarted it into it.
-use Rattle.std.proofs.Common.{◌≡◌, ℕ, ◌<◌, ◌≤◌, ◌==◌, ◌&&◌, ◌||◌, Bool, true, false, List, [], ◌∷◌, Option, Some, None, refl, sym, ap, subst, ◌∙◌, fold, if◌then◌else◌, arith}
-use Rattle.std.specs.Prelude.{slice_get, unwrap_or}
-use Rattle.std.specs.List.{list_any}
-use Rattle.std.specs.Option.{option_map}
-use Rattle.std.specs.Ordering.{nat_cmp, match_ordering}
+use Rattle.qs_book_laws.proofs.Words.{◌≡◌, ℕ, ◌<◌, ◌≤◌, ◌==◌, ◌&&◌, ◌||◌, Bool, true, false, List, [], ◌∷◌, Option, Some, None, refl, sym, ap, subst, ◌∙◌, fold, if◌then◌else◌, arith, le_refl, slice_get, unwrap_or, list_any, option_map, nat_cmp, match_ordering, Ordering, Less, Equal, Greater, exact_unsigned, Member, NodeNo, Outcome, Tid, TableValue, released, served, committed, files_no, timer_served, timers_ended, Op, Reply, Vote, Act, Begin, Issue, Serve, Ask, Counted, Decide, Ending, Learn}
+use Rattle.qs_book_laws.proofs.Words.{Loan, Yield, Tick, Crash, Restart, Entry, TransactionValue, issued, is_crossed, standing_request, Request, RequestNo, BookValue, find_transaction, changed_at, with_owner, with_transaction, with_waiting, with_crossing, crosses, serve_node, server_serve, is_done, vote_node, learn_node, doubts_after, hear, waiting_of, tick_node, crash_node, end_node, inc_at, link_to, borrower_at, is_in_order, broken_act, broken_at, broken, effect_act, effect, IsLawful}
+use Rattle.qs_book_laws.proofs.Words.{book_after, NodeValue, with_table, crossed_node, crossed_server, crossed_names, crossed_table, restarted_node, reopened, put_new_votes, with_votes, new_votes, without_records, broken_restart, OnRecord, Voter, restarts_into, is_restart, restarts, Owner, and_false, false-or, or_assoc}
 use Rattle.std.specs.BTreeSet.{insert_key}
-use Rattle.std.specs.declared.cmp.Ordering.{Ordering}
-use Rattle.std.specs.declared.cmp.Ordering.TheVariants.{Less, Equal, Greater}
-use Rattle.std.proofs.lemmas.Map.Lookups.{exact_unsigned}
-use Rattle.qs_base.specs.declared.identifiers.Member.{Member}
-use Rattle.qs_base.specs.declared.identifiers.NodeNo.{NodeNo}
-use Rattle.qs_base.specs.declared.identifiers.Outcome.{Outcome}
 use Rattle.qs_base.specs.declared.identifiers.Outcome.TheVariants as outcomes
-use Rattle.qs_base.specs.declared.identifiers.Tid.{Tid}
-use Rattle.qs_ops.specs.Table.{TableValue, released, served, committed, with_vote as voted_table}
-use Rattle.qs_ops.specs.Servers.{files_no, audit_no, names_no, timers_no, windows_no, scratch_no}
-use Rattle.qs_ops.specs.Timers.{timer_served, timers_ended}
-use Rattle.qs_ops.specs.declared.operation.Op.{Op}
-use Rattle.qs_ops.specs.declared.reply.Reply.{Reply}
-use Rattle.qs_ops.specs.declared.vote.Vote.{Vote}
+use Rattle.qs_ops.specs.Table.{with_vote as voted_table}
+use Rattle.qs_ops.specs.Servers.{audit_no, names_no, timers_no, windows_no, scratch_no}
 use Rattle.qs_ops.specs.declared.vote.Vote.TheVariants as votes
-use Rattle.qs_book_journal.specs.declared.entry.Act.{Act}
-use Rattle.qs_book_journal.specs.declared.entry.Act.TheVariants.{Begin, Issue, Serve, Ask, Counted, Decide, Ending, Learn, Answer, Loan, Yield, Tick, Crash, Restart}
+use Rattle.qs_book_journal.specs.declared.entry.Act.TheVariants.{Answer}
 use Rattle.qs_book_journal.specs.declared.entry.Act.TheVariants as acts
-use Rattle.qs_book_journal.specs.declared.entry.Entry.{Entry}
-use Rattle.qs_book_machine.specs.Transaction.{TransactionValue, issued, is_crossed, standing_request}
-use Rattle.qs_book_machine.specs.declared.transaction.Request.{Request}
-use Rattle.qs_book_machine.specs.declared.transaction.RequestNo.{RequestNo}
-use Rattle.qs_book_machine.specs.Book.{BookValue, find_transaction, changed_at, with_owner, with_transaction, with_waiting, with_crossing, crosses, serve_node, server_serve, is_done, vote_node, learn_node, doubts_after, hear, waiting_of, tick_node, crash_node, end_node, inc_at}
-use Rattle.qs_book_machine.specs.Clauses.{link_to, borrower_at}
-use Rattle.qs_book_machine.specs.Lawful.{is_in_order, broken_act, broken_at, broken, effect_act, effect, IsLawful, book_after}
-use Rattle.qs_book_machine.specs.Nodes.{NodeValue, with_table, crossed_node, crossed_server, crossed_names, crossed_table}
-use Rattle.qs_book_machine.specs.Restart.{restarted_node, reopened, put_new_votes, with_votes, with_vote, new_votes, without_records, broken_restart}
-use Rattle.qs_book_machine.specs.declared.state.OnRecord.{OnRecord}
-use Rattle.qs_book_machine.specs.declared.state.Voter.{Voter}
-use Rattle.qs_book_laws.specs.Gone.{is_restart_into, restarts_into}
-use Rattle.qs_book_laws.specs.Lives.{is_restart, restarts}
+use Rattle.qs_book_machine.specs.Restart.{with_vote}
+use Rattle.qs_book_laws.specs.Gone.{is_restart_into}
 use Rattle.qs_book_laws.proofs.Again.{restart_node, reopened_there, effect_nodes}
 use Rattle.qs_book_laws.proofs.Gone.{inc_as}
 use Rattle.qs_book_laws.proofs.Lives.{same_life, Reborn, reborn, Restarting, restarting}
-use Rattle.qs_book_machine.specs.declared.state.Owner.{Owner}
 use Rattle.qs_book_laws.proofs.Faces.{either_way, vote_by}
 use Rattle.qs_book_laws.proofs.Holding.{left_of, fold_nodes, loan_nodes, yield_nodes, waiting_nodes, restart_nodes}
 use Rattle.qs_book_laws.proofs.Holds.{elsewhere}
 use Rattle.qs_book_laws.proofs.Maps.{changed_at_alike}
 use Rattle.qs_book_laws.proofs.Steps.{held}
+use Rattle.qs_base_lemmas.proofs.Tests.{le_le, eq_ge}
 
 pub record Run : Type 0 where
   pub inc : ℕ
@@ -193,17 +168,9 @@ module _ (node : NodeNo) (gone : ℕ) where
           less true c h = absurd (cc h)
           less false c h = refl
 
-          never : (b : Bool) → (b && false) ≡ false
-          never true = refl
-          never false = refl
-
           of : (act : Act) → ((entry.node.0 == node.0) && is_restart act) ≡ false → ((entry.node.0 == node.0) && is_restart_into gone act) ≡ false
           of (Restart inc pend done) h = less (entry.node.0 == node.0) (inc == gone) h
-          of act h = never (entry.node.0 == node.0)
-
-      or_none : (b : Bool) → b ≡ (b || false)
-      or_none true = refl
-      or_none false = refl
+          of act h = and_false (entry.node.0 == node.0)
 
       swap : (a b : Bool) → (a || b) ≡ (b || a)
       swap true true = refl
@@ -214,7 +181,7 @@ module _ (node : NodeNo) (gone : ℕ) where
       by : (b : Bool) → restarts node entry ≡ b → ran_at (effect book entry) ≡ (ran_at book || restarts_into node gone entry)
       by false far =
           ap has_run (stepped_run node.0 book entry.stamp entry.node.0 (slice_get book.nodes entry.node.0) entry.act far (held (is_in_order book entry) 1 _ h).1)
-          ∙ (or_none (ran_at book) ∙ ap (λ (b : Bool). ran_at book || b) (sym (none_into far)))
+          ∙ (false-or (ran_at book) ∙ ap (λ (b : Bool). ran_at book || b) (sym (none_into far)))
       by true near =
           let r : Restarting node entry = restarting node entry near in
           let at : (v : NodeValue) × (slice_get book.nodes node.0 ≡ Some v) × (broken_restart node.0 book v r.inc r.pend r.done ≡ None) = restart_node book entry node.0 r.inc r.pend r.done h r.act r.here in
@@ -239,38 +206,21 @@ module _ (node : NodeNo) (gone : ℕ) where
           voted (x ∷ vs) v = voted vs (with_vote v x)
 
   pub ran_through : (entries : List Entry) (book : BookValue) → IsLawful book entries → ran_at (book_after book entries) ≡ (ran_at book || list_any (restarts_into node gone) entries)
-  ran_through [] book lawful = or_none (ran_at book)
-    where
-      or_none : (b : Bool) → b ≡ (b || false)
-      or_none true = refl
-      or_none false = refl
+  ran_through [] book lawful = false-or (ran_at book)
   ran_through (entry ∷ entries) book lawful =
       ran_through entries (effect book entry) lawful.1
-      ∙ (ap (λ (b : Bool). b || list_any (restarts_into node gone) entries) (step_ran book entry lawful.0) ∙ assoc (ran_at book) (restarts_into node gone entry) (list_any (restarts_into node gone) entries))
-    where
-      assoc : (a b c : Bool) → ((a || b) || c) ≡ (a || (b || c))
-      assoc true b c = refl
-      assoc false b c = refl
-
-  same_size : (a : ℕ) → a ≤ a
-  same_size a = omega arith
+      ∙ (ap (λ (b : Bool). b || list_any (restarts_into node gone) entries) (step_ran book entry lawful.0) ∙ or_assoc (ran_at book) (restarts_into node gone entry) (list_any (restarts_into node gone) entries))
 
   -- its incarnation does not fall
   pub inc_rises : (entries : List Entry) (book : BookValue) → IsLawful book entries → inc_at book node ≤ inc_at (book_after book entries) node
-  inc_rises [] book lawful = same_size (inc_at book node)
-  inc_rises (entry ∷ entries) book lawful = chain (inc_at book node) (inc_at (effect book entry) node) _ (by (restarts node entry) refl) (inc_rises entries (effect book entry) lawful.1)
+  inc_rises [] book lawful = le_refl (inc_at book node)
+  inc_rises (entry ∷ entries) book lawful = le_le (inc_at book node) (inc_at (effect book entry) node) _ (by (restarts node entry) refl) (inc_rises entries (effect book entry) lawful.1)
     where
-      chain : (a b c : ℕ) → a ≤ b → b ≤ c → a ≤ c
-      chain a b c h k = omega arith
-
-      equal : (a b : ℕ) → b ≡ a → a ≤ b
-      equal a b e = omega arith
-
       lower : (a b c d : ℕ) → a ≡ b → b < c → d ≡ c → a ≤ d
       lower a b c d e k f = omega arith
 
       by : (b : Bool) → restarts node entry ≡ b → inc_at book node ≤ inc_at (effect book entry) node
-      by false far = equal (inc_at book node) (inc_at (effect book entry) node) (inc_as (effect book entry) node ∙ (ap (λ (o : Option ℕ). unwrap_or o 0) (same_life node book entry far lawful.0) ∙ sym (inc_as book node)))
+      by false far = eq_ge (inc_at book node) (inc_at (effect book entry) node) (inc_as (effect book entry) node ∙ (ap (λ (o : Option ℕ). unwrap_or o 0) (same_life node book entry far lawful.0) ∙ sym (inc_as book node)))
       by true near =
           let r : Restarting node entry = restarting node entry near in
           let x : Reborn book (effect book entry) node.0 r.inc = reborn book entry node.0 r.inc r.pend r.done lawful.0 r.act r.here in

@@ -1,23 +1,10 @@
 -- What an issue, a count and an answer do to what is open towards a node, and to the last incarnation in which it was.
-use Rattle.std.proofs.Common.{◌≡◌, ℕ, ◌+◌, ◌==◌, ◌&&◌, ◌||◌, Bool, true, false, List, [], ◌∷◌, Option, Some, None, refl, sym, ap, subst, ◌∙◌, if◌then◌else◌, arith}
-use Rattle.std.proofs.lemmas.Bool.Decides.{nat_tests}
-use Rattle.std.specs.Prelude.{is_some, nat_lt, cond}
-use Rattle.std.specs.List.{list_any}
-use Rattle.std.specs.Map.{lookup, set_value}
-use Rattle.std.specs.BTreeMap.{is_at, insert_entry}
-use Rattle.std.specs.Ordering.{nat_cmp, match_ordering}
-use Rattle.std.specs.declared.cmp.Ordering.{Ordering}
-use Rattle.std.specs.declared.cmp.Ordering.TheVariants.{Less, Equal, Greater}
-use Rattle.std.proofs.lemmas.Map.Lookups.{exact_unsigned, exact_pairs}
-use Rattle.qs_base.specs.declared.identifiers.NodeNo.{NodeNo}
-use Rattle.qs_book_machine.specs.Transaction.{TransactionValue, changed_value, peer_of, node_cmp, link_cmp, heard, heard_by, reached_by, is_by_client, is_by_files, is_open_link, is_open_to, reached, sent_more, sent_on, issued, counted, with_counted, with_reached}
-use Rattle.qs_book_machine.specs.declared.transaction.Link.{Link}
-use Rattle.qs_book_machine.specs.declared.transaction.Peer.{Peer}
-use Rattle.qs_book_machine.specs.declared.transaction.Request.{Request}
-use Rattle.qs_book_machine.specs.declared.transaction.RequestNo.{RequestNo}
-use Rattle.qs_book_machine.specs.declared.transaction.Sent.{Sent}
+use Rattle.qs_book_laws.proofs.Words.{◌≡◌, ℕ, ◌+◌, ◌==◌, ◌&&◌, ◌||◌, Bool, true, false, List, [], ◌∷◌, Option, Some, None, refl, sym, ap, subst, ◌∙◌, if◌then◌else◌, arith, nat_tests, is_some, nat_lt, cond, list_any, lookup, set_value, is_at, insert_entry, nat_cmp, match_ordering, Ordering, Less, Equal, Greater, exact_unsigned, exact_pairs, NodeNo, TransactionValue, changed_value, peer_of, node_cmp, link_cmp, heard, heard_by, is_by_client, is_by_files, is_open_link, is_open_to, sent_more, sent_on}
+use Rattle.qs_book_laws.proofs.Words.{issued, counted, with_counted, Link, Peer, Request, RequestNo, Sent, and_last, or_left, or_right}
+use Rattle.qs_book_machine.specs.Transaction.{reached_by, reached, with_reached}
 use Rattle.qs_book_laws.proofs.Takes.{some_same}
 use Rattle.qs_book_laws.proofs.Unanswered.{put_peer, change_peer}
+use Rattle.qs_base.proofs.TidOrder.{or-true}
 
 -- ---- links
 
@@ -32,27 +19,19 @@ link_exact l m = by (link_cmp l m) refl
     by Equal is h = ap made (exact_pairs nat_cmp nat_cmp exact_unsigned exact_unsigned (l.from.0, l.to.0) (m.from.0, m.to.0) is)
     by Greater is h = absurd (cc (rw is at h))
 
-or_first : (a b : Bool) → a ≡ true → (a || b) ≡ true
-or_first true b h = refl
-or_first false b h = absurd (cc h)
-
-or_last : (a b : Bool) → b ≡ true → (a || b) ≡ true
-or_last true b h = refl
-or_last false b h = h
-
 either_of : (a b c d : Bool) → (a ≡ true → c ≡ true) → (b ≡ true → d ≡ true) → (a || b) ≡ true → (c || d) ≡ true
-either_of true b c d p q h = or_first c d (p refl)
-either_of false b c d p q h = or_last c d (q h)
+either_of true b c d p q h = or_left c d (p refl)
+either_of false b c d p q h = or_right c d (q h)
 
 module _ (p : Link × Sent → Bool) where
   any_put : (es : List (Link × Sent)) (k : Link) (v : Sent) → p (k, v) ≡ true → list_any p (insert_entry link_cmp es k v) ≡ true
-  any_put [] k v h = or_first (p (k, v)) false h
+  any_put [] k v h = or_left (p (k, v)) false h
   any_put (e ∷ es) k v h = by (link_cmp k e.0) refl (any_put es k v h)
     where
       by : (o : Ordering) → link_cmp k e.0 ≡ o → list_any p (insert_entry link_cmp es k v) ≡ true → list_any p (match_ordering o ((k, v) ∷ e ∷ es) ((e.0, v) ∷ es) (e ∷ insert_entry link_cmp es k v)) ≡ true
-      by Less is more = or_first (p (k, v)) (list_any p (e ∷ es)) h
-      by Equal is more = or_first (p (e.0, v)) (list_any p es) (subst (λ (l : Link). p (l, v) ≡ true) (link_exact k e.0 (rw is refl)) h)
-      by Greater is more = or_last (p e) (list_any p (insert_entry link_cmp es k v)) more
+      by Less is more = or_left (p (k, v)) (list_any p (e ∷ es)) h
+      by Equal is more = or_left (p (e.0, v)) (list_any p es) (subst (λ (l : Link). p (l, v) ≡ true) (link_exact k e.0 (rw is refl)) h)
+      by Greater is more = or_right (p e) (list_any p (insert_entry link_cmp es k v)) more
 
   any_put_off : (es : List (Link × Sent)) (k : Link) (v : Sent) → ((w : Sent) → p (k, w) ≡ false) → list_any p (insert_entry link_cmp es k v) ≡ list_any p es
   any_put_off [] k v off = ap (λ (b : Bool). b || false) (off v)
@@ -120,11 +99,8 @@ module _ (node : NodeNo) where
         lost = sent.lost || nat_lt sent.counted sent.count;
         by_files = sent.by_files || is_by_files request;
       }).by_files ≡ true
-      by true = or_last sent.by_files (is_by_files request) h
-      by false = or_last sent.by_files (is_by_files request) h
-
-  equal : (n : ℕ) → (n == n) ≡ true
-  equal n = grind (arith, nat_tests)
+      by true = or_right sent.by_files (is_by_files request) h
+      by false = or_right sent.by_files (is_by_files request) h
 
   pub issued_peer : (at : RequestNo) (request : Request) (inc place : ℕ) (tx : TransactionValue) → peer_of (issued at request inc place tx) node ≡ (if at.link.to.0 == node.0 then reached_by request inc (peer_of tx at.link.to) else peer_of tx node)
   issued_peer at request inc place tx = put_peer node tx.peers at.link.to (reached_by request inc (peer_of tx at.link.to))
@@ -140,16 +116,12 @@ module _ (node : NodeNo) where
 
       by : (b : Bool) → is_by_files request ≡ b → (b || is_by_client request) ≡ true → is_open_to new node ≡ true
       by true files h =
-          or_last (nat_lt 0 (peer_of new node).waiting) (links new)
+          or_right (nat_lt 0 (peer_of new node).waiting) (links new)
           (any_put (is_open_link node) tx.sent at.link (sent_more request (sent_on tx at.link))
           (ap (λ (b : Bool). (at.link.to.0 == node.0) && ((sent_more request (sent_on tx at.link)).lost || (b || nat_lt (sent_more request (sent_on tx at.link)).counted (sent_more request (sent_on tx at.link)).count))) (files_sent request (sent_on tx at.link) files)
-          ∙ (ap (λ (b : Bool). b && ((sent_more request (sent_on tx at.link)).lost || true)) near ∙ last (sent_more request (sent_on tx at.link)).lost)))
-        where
-          last : (b : Bool) → (b || true) ≡ true
-          last true = refl
-          last false = refl
+          ∙ (ap (λ (b : Bool). b && ((sent_more request (sent_on tx at.link)).lost || true)) near ∙ or-true (sent_more request (sent_on tx at.link)).lost)))
       by false files h =
-          or_first (nat_lt 0 (peer_of new node).waiting) (links new)
+          or_left (nat_lt 0 (peer_of new node).waiting) (links new)
           (ap (λ (q : Peer). nat_lt 0 q.waiting) (issued_peer at request inc place tx)
           ∙ (ap (λ (b : Bool). nat_lt 0 (if b then reached_by request inc (peer_of tx at.link.to) else peer_of tx node).waiting) near ∙ waits_more request inc (peer_of tx at.link.to) h))
 
@@ -167,10 +139,6 @@ module _ (node : NodeNo) where
       rises : (a b c : ℕ) → nat_lt a b ≡ true → nat_lt b c ≡ true → nat_lt a c ≡ true
       rises a b c h g = grind (arith, nat_tests)
 
-      second : (a b : Bool) → (a && b) ≡ true → b ≡ true
-      second true b h = h
-      second false b h = absurd (cc h)
-
       both : (a b c : Bool) → (b ≡ true → c ≡ true) → (a && b) ≡ true → (a && c) ≡ true
       both true b c f h = f h
       both false b c f h = h
@@ -180,7 +148,7 @@ module _ (node : NodeNo) where
       by true is h =
           both (k.to.0 == node.0) (s.lost || (s.by_files || nat_lt upto s.count)) (s.lost || (s.by_files || nat_lt s.counted s.count))
           (either_of s.lost (s.by_files || nat_lt upto s.count) s.lost (s.by_files || nat_lt s.counted s.count) (λ x. x)
-          (either_of s.by_files (nat_lt upto s.count) s.by_files (nat_lt s.counted s.count) (λ x. x) (λ x. rises s.counted upto s.count (second (s.inc == inc) (nat_lt s.counted upto) is) x))) h
+          (either_of s.by_files (nat_lt upto s.count) s.by_files (nat_lt s.counted s.count) (λ x. x) (λ x. rises s.counted upto s.count (and_last (s.inc == inc) (nat_lt s.counted upto) is) x))) h
 
   pub counted_closes : (link : Link) (inc upto peer_inc : ℕ) (tx : TransactionValue) → (peer_of (counted link inc upto peer_inc tx) node).waiting ≡ (peer_of tx node).waiting → is_open_to (counted link inc upto peer_inc tx) node ≡ true → is_open_to tx node ≡ true
   counted_closes link inc upto peer_inc tx same h =

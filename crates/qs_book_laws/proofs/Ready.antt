@@ -1,43 +1,14 @@
 -- A transaction of which every request was served, and that isn't crossed at a member, stays so once it is committed.
-use Rattle.std.proofs.Common.{◌≡◌, ℕ, Bool, true, false, not, List, [], ◌∷◌, ◌==◌, ◌&&◌, Option, Some, None, refl, sym, ap, subst, ◌∙◌, fold, nat_lt, if◌then◌else◌}
-use Rattle.std.specs.Prelude.{slice_get, length, unwrap_or, is_some}
-use Rattle.std.specs.List.{list_all, find}
-use Rattle.std.specs.Option.{option_map}
-use Rattle.std.specs.Map.{lookup}
-use Rattle.std.specs.BTreeMap.{is_at}
-use Rattle.std.specs.declared.cmp.Ordering.TheVariants.{Equal}
-use Rattle.qs_base.specs.Order.{tid_cmp, same_tid, member_cmp, same_member}
-use Rattle.qs_base.specs.declared.identifiers.ClientNo.{ClientNo}
-use Rattle.qs_base.specs.declared.identifiers.Member.{Member}
-use Rattle.qs_base.specs.declared.identifiers.NodeNo.{NodeNo}
-use Rattle.qs_base.specs.declared.identifiers.Outcome.{Outcome}
+use Rattle.qs_book_laws.proofs.Words.{◌≡◌, ℕ, Bool, true, false, not, List, [], ◌∷◌, ◌==◌, ◌&&◌, Option, Some, None, refl, sym, ap, subst, ◌∙◌, fold, nat_lt, if◌then◌else◌, slice_get, length, unwrap_or, is_some, list_all, find, option_map, lookup, is_at, Equal, tid_cmp, same_tid, member_cmp, same_member, ClientNo, Member, NodeNo, Outcome, Tid, same_tid-true, Cause, Op, Reply, Vote, class_of, is_two_phase, Act, Begin, Issue, Serve, Ask, Counted, Decide, Ending, Learn, Loan, Yield, Tick, Crash}
+use Rattle.qs_book_laws.proofs.Words.{Restart, Entry, Found, TransactionValue, is_commit, is_crossed, is_empty, is_unanimous, all_served, is_standing, standing_request, request_cmp, part_of, learnt, with_learnt, found_at, decided_at, issued, served_in, begun, agrees, Part, Request, RequestNo, BookValue, find_transaction, crossed_in, cell_of_transaction, with_transaction, with_waiting, crosses, decide, begin, ticks_at, issue, serve, hear, waiting_of, loan_to, give_back_from, inc_at, is_done}
+use Rattle.qs_book_laws.proofs.Words.{with_owner, link_to, borrower_at, broken_issue, is_numbered, broken_issuer, broken_serve, broken_vote, is_vote_due, is_in_order, broken_act, broken_node, broken_at, broken, effect_act, effect, NodeValue, is_among, member_at, record_at, is_open_here, learn_found, decide_found, commit_found, vote_found, begun_tid, abort_begun, up_to, begun_at, put_new_votes, restart, count_of as pending_of, Owner, IsCommitted, crossed_at}
 use Rattle.qs_base.specs.declared.identifiers.Outcome.TheVariants as outcomes
-use Rattle.qs_base.specs.declared.identifiers.Tid.{Tid}
-use Rattle.qs_base.proofs.Same.{same_tid-true}
-use Rattle.qs_ops.specs.declared.answer.Cause.{Cause}
 use Rattle.qs_ops.specs.declared.answer.Cause.TheVariants as causes
-use Rattle.qs_ops.specs.declared.operation.Op.{Op}
-use Rattle.qs_ops.specs.declared.reply.Reply.{Reply}
-use Rattle.qs_ops.specs.declared.vote.Vote.{Vote}
-use Rattle.qs_ops.specs.Members.{class_of, is_two_phase}
-use Rattle.qs_book_journal.specs.declared.entry.Act.{Act}
-use Rattle.qs_book_journal.specs.declared.entry.Act.TheVariants.{Begin, Issue, Serve, Ask, Counted, Decide, Ending, Learn, Answer, Loan, Yield, Tick, Crash, Restart}
+use Rattle.qs_book_journal.specs.declared.entry.Act.TheVariants.{Answer}
 use Rattle.qs_book_journal.specs.declared.entry.Act.TheVariants as acts
-use Rattle.qs_book_journal.specs.declared.entry.Entry.{Entry}
-use Rattle.qs_book_journal.specs.declared.entry.Found.{Found}
-use Rattle.qs_book_machine.specs.Transaction.{TransactionValue, is_commit, is_crossed, is_empty, is_unanimous, all_served, is_served, is_standing, standing_request, request_cmp, part_of, learnt, with_learnt, found_at, decided_at, issued, served_in, begun, agrees}
+use Rattle.qs_book_machine.specs.Transaction.{is_served}
 use Rattle.qs_book_machine.specs.declared.transaction.Cell.TheVariants as cells
-use Rattle.qs_book_machine.specs.declared.transaction.Part.{Part}
-use Rattle.qs_book_machine.specs.declared.transaction.Request.{Request}
-use Rattle.qs_book_machine.specs.declared.transaction.RequestNo.{RequestNo}
-use Rattle.qs_book_machine.specs.Book.{BookValue, find_transaction, crossed_in, cell_of_transaction, with_transaction, with_waiting, crosses, decide, begin, ticks_at, issue, serve, hear, waiting_of, loan_to, give_back_from, inc_at, is_done, with_owner}
-use Rattle.qs_book_machine.specs.Clauses.{link_to, borrower_at, broken_issue, is_numbered, broken_issuer, broken_serve, broken_request, request_here, broken_vote, is_vote_due}
-use Rattle.qs_book_machine.specs.Lawful.{is_in_order, broken_act, broken_node, broken_at, broken, effect_act, effect}
-use Rattle.qs_book_machine.specs.Nodes.{NodeValue}
-use Rattle.qs_book_machine.specs.Restart.{is_among, member_at, record_at, is_open_here, learn_found, decide_found, commit_found, vote_found, begun_tid, abort_begun, up_to, begun_at, put_new_votes, restart, count_of as pending_of}
-use Rattle.qs_book_machine.specs.declared.state.Owner.{Owner}
-use Rattle.qs_book_laws.specs.Laws.{IsCommitted}
-use Rattle.qs_book_laws.specs.Served.{crossed_at}
+use Rattle.qs_book_machine.specs.Clauses.{broken_request, request_here}
 use Rattle.qs_book_laws.proofs.Acts as alike
 use Rattle.qs_book_laws.proofs.Alikes.{at_exact}
 use Rattle.qs_book_laws.proofs.Faces.{face}

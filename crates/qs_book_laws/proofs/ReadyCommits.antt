@@ -1,16 +1,6 @@
 -- Each committed transaction has all its requests served, and is crossed nowhere.
-use Rattle.std.proofs.Common.{◌≡◌, List, [], ◌∷◌, Option, Some, None, refl, sym, ◌∙◌}
-use Rattle.qs_base.specs.declared.identifiers.Member.{Member}
-use Rattle.qs_base.specs.declared.identifiers.Tid.{Tid}
-use Rattle.qs_book_journal.specs.declared.entry.Entry.{Entry}
-use Rattle.qs_book_machine.specs.Transaction.{TransactionValue}
-use Rattle.qs_book_machine.specs.declared.transaction.Cell.{Cell}
+use Rattle.qs_book_laws.proofs.Words.{◌≡◌, List, [], ◌∷◌, Option, Some, None, refl, sym, ◌∙◌, Member, Tid, Entry, TransactionValue, Cell, BookValue, find_transaction, cell_of_transaction, broken, effect, IsLawful, book_after, opening, Opened, IsCoherent, IsDecided, IsCommitted}
 use Rattle.qs_book_machine.specs.declared.transaction.Cell.TheVariants as cells
-use Rattle.qs_book_machine.specs.Book.{BookValue, find_transaction, cell_of_transaction}
-use Rattle.qs_book_machine.specs.Lawful.{broken, effect, IsLawful, book_after}
-use Rattle.qs_book_machine.specs.Opening.{opening}
-use Rattle.qs_book_machine.specs.declared.opened.Opened.{Opened}
-use Rattle.qs_book_laws.specs.Laws.{IsCoherent, IsDecided, IsCommitted}
 use Rattle.qs_book_laws.proofs.Always.{unknown, opening_so}
 use Rattle.qs_book_laws.proofs.Committed.{step_takes}
 use Rattle.qs_book_laws.proofs.Histories.{stays}

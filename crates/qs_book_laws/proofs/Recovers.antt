@@ -1,32 +1,12 @@
 -- What a restart makes of the changes of a committed transaction at files and audit of its node: kept, or committed once and
 -- gone; and what was gone stays so.
-use Rattle.std.proofs.Common.{◌≡◌, ◌⊎◌, inl, inr, ℕ, Bool, true, false, not, List, [], ◌∷◌, ◌==◌, ◌&&◌, ◌||◌, Option, Some, None, refl, sym, ap, subst, ◌∙◌, fold, nat_lt, if◌then◌else◌}
-use Rattle.std.specs.Prelude.{slice_get, flat_map, is_some, length}
-use Rattle.std.proofs.lemmas.List.Sums.{fold-append}
-use Rattle.std.specs.Map.{lookup}
-use Rattle.std.specs.BTreeMap.{is_at}
-use Rattle.qs_base.specs.Order.{member_cmp, same_tid}
-use Rattle.qs_base.specs.declared.identifiers.Member.{Member}
-use Rattle.qs_base.specs.declared.identifiers.Tid.{Tid}
-use Rattle.qs_base.proofs.Same.{same_tid-true}
-use Rattle.qs_ops.specs.declared.operation.Op.{Op}
-use Rattle.qs_book_journal.specs.declared.entry.Act.{Act}
+use Rattle.qs_book_laws.proofs.Words.{◌≡◌, ◌⊎◌, inl, inr, ℕ, Bool, true, false, not, List, [], ◌∷◌, ◌==◌, ◌&&◌, ◌||◌, Option, Some, None, refl, sym, ap, subst, ◌∙◌, fold, nat_lt, if◌then◌else◌, slice_get, flat_map, is_some, length, fold-append, lookup, is_at, member_cmp, same_tid, Member, Tid, same_tid-true, Op, Act, Entry, Found, TableValue, share_of, kept, applied, Share, Kept, TransactionValue, is_empty, is_covering, part_of, BookValue, find_transaction, cell_of_transaction, crossed_in, broken}
+use Rattle.qs_book_laws.proofs.Words.{effect_act, effect, NodeValue, pending_at, record_of, changes_of, voter, voter_cmp, without_record, restart, reopened, restarted_node, put_new_votes, new_vote, is_new_vote, new_votes, new_votes_at, with_votes, record_at, changes_at, is_among, member_at, without_records, keep_found, is_kept_at, broken_restart, vote_as_stopped, OnRecord, Voter, IsKept, Applies, IsCommitted, crossed_at, keeps_contents, has_vote}
 use Rattle.qs_book_journal.specs.declared.entry.Act.TheVariants as acts
-use Rattle.qs_book_journal.specs.declared.entry.Entry.{Entry}
-use Rattle.qs_book_journal.specs.declared.entry.Found.{Found}
-use Rattle.qs_ops.specs.Table.{TableValue, share_of, kept, applied}
-use Rattle.qs_ops.specs.declared.share.Share.{Share}
-use Rattle.qs_ops.specs.declared.share.KeptChanges.{KeptChanges}
-use Rattle.qs_book_machine.specs.Transaction.{TransactionValue, was_crossed, is_before, is_empty, was_in_commit, is_covering, part_of}
-use Rattle.qs_book_machine.specs.Book.{BookValue, find_transaction, cell_of_transaction, crossed_in}
-use Rattle.qs_book_machine.specs.Lawful.{broken, effect_act, effect}
-use Rattle.qs_book_machine.specs.Nodes.{NodeValue, pending_at, record_of, changes_of, voter, voter_cmp, without_record}
-use Rattle.qs_book_machine.specs.Restart.{restart, reopened, restarted_node, put_new_votes, new_vote, is_new_vote, new_votes, new_votes_at, with_votes, with_vote, record_at, changes_at, is_among, member_at, without_records, keep_found, is_kept_at, is_on_record, broken_restart, vote_as_stopped}
-use Rattle.qs_book_machine.specs.declared.state.OnRecord.{OnRecord}
-use Rattle.qs_book_machine.specs.declared.state.Voter.{Voter}
-use Rattle.qs_book_laws.specs.Durable.{IsKept, IsGone, Applies}
-use Rattle.qs_book_laws.specs.Laws.{IsCommitted}
-use Rattle.qs_book_laws.specs.Served.{crossed_at, keeps_contents, logged_at, IsLogged, PendsAgain}
+use Rattle.qs_book_machine.specs.Transaction.{was_crossed, is_before, was_in_commit}
+use Rattle.qs_book_machine.specs.Restart.{with_vote, is_on_record}
+use Rattle.qs_book_laws.specs.Durable.{IsGone}
+use Rattle.qs_book_laws.specs.Served.{logged_at, IsLogged, PendsAgain}
 use Rattle.qs_book_laws.proofs.FoundOnly.{none_stays_none}
 use Rattle.qs_book_laws.proofs.Again.{restart_node, effect_nodes, logged_there, record_there, reopened_there, is_logged, pends_again, commits_once}
 use Rattle.qs_book_laws.proofs.Alikes.{voter_exact, voter_equal}
@@ -38,7 +18,6 @@ use Rattle.qs_book_laws.proofs.Shares.{number, share_put, share_put_other}
 use Rattle.qs_book_laws.proofs.Tidy.{IsTidy, AllTidy, without_tidy, votes_tidy}
 use Rattle.qs_book_laws.proofs.Unanimous.{Decides, restart_back}
 use Rattle.qs_ops.specs.declared.vote.Vote.TheVariants as votes
-use Rattle.qs_book_machine.specs.Clauses.{has_vote}
 
 -- ---- no vote is new of a member that has nothing pending
 
@@ -133,7 +112,7 @@ module _ (here : ℕ) (mid : BookValue) (s : ℕ) (done : List Tid) (tid : Tid)
   keeps_none : (found : Found) (t : TableValue) → (share_of t tid).changes ≡ [] → (share_of (fold kept t (keep_found here mid s done found)) tid).changes ≡ []
   keeps_none found t nothing = by (is_kept_at here mid s done found) refl
     where
-      one : KeptChanges
+      one : Kept
       one = record { tid = found.tid; changes = changes_at here mid s found.tid }
 
       share : Share

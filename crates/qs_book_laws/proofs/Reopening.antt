@@ -1,21 +1,10 @@
 -- What a server holds after a restart, and after a tick, is what the machine has there.
-use Rattle.std.proofs.Common.{◌≡◌, ℕ, Bool, true, false, List, [], ◌∷◌, Some, None, refl, sym, ap, subst, ◌∙◌, fold, if◌then◌else◌}
-use Rattle.std.specs.Prelude.{slice_get}
-use Rattle.qs_base.specs.declared.identifiers.Tid.{Tid}
+use Rattle.qs_book_laws.proofs.Words.{◌≡◌, ℕ, Bool, true, false, List, [], ◌∷◌, Some, None, refl, sym, ap, subst, ◌∙◌, fold, if◌then◌else◌, slice_get, Tid, TableValue, kept, restarted, Kept, Entry, Found, BookValue, tick_node, broken, effect, NodeValue, restarted_node, reopened, without_records, put_new_votes, with_votes, new_votes, broken_restart, Reopened}
 use Rattle.qs_ops.specs.Server.{ServerValue, is_logged, cleared}
-use Rattle.qs_ops.specs.Table.{TableValue, kept, restarted}
 use Rattle.qs_ops.specs.Timers.{TimersValue, ticked}
-use Rattle.qs_ops.specs.declared.share.KeptChanges.{KeptChanges}
 use Rattle.qs_ops.specs.declared.server.ServerKind.{ServerKind}
 use Rattle.qs_ops.specs.declared.server.ServerKind.TheVariants.{Files, Audit, Names, Timers, Windows, Scratch, Nothing}
 use Rattle.qs_book_journal.specs.declared.entry.Act.TheVariants as acts
-use Rattle.qs_book_journal.specs.declared.entry.Entry.{Entry}
-use Rattle.qs_book_journal.specs.declared.entry.Found.{Found}
-use Rattle.qs_book_machine.specs.Book.{BookValue, tick_node}
-use Rattle.qs_book_machine.specs.Lawful.{broken, effect}
-use Rattle.qs_book_machine.specs.Nodes.{NodeValue}
-use Rattle.qs_book_machine.specs.Restart.{restarted_node, reopened, without_records, put_new_votes, with_votes, new_votes, broken_restart}
-use Rattle.qs_book_machine.specs.declared.state.Reopened.{Reopened}
 use Rattle.qs_book_laws.specs.Endings.{BeginsEmpty}
 use Rattle.qs_book_laws.specs.Standing.{StandsAs, StandsFor, commits_of, kept_of, with_commits, keep_each}
 use Rattle.qs_book_laws.proofs.Again.{restart_node, reopened_there, effect_nodes}
@@ -45,7 +34,7 @@ clearing_stands left pend done node server h = cleared_as server.kind left pend 
 
 -- ---- what it keeps
 
-keeps_each : (keeps : List KeptChanges) (server : ServerValue) → is_logged server.kind ≡ true → (keep_each server keeps).table ≡ fold kept server.table keeps
+keeps_each : (keeps : List Kept) (server : ServerValue) → is_logged server.kind ≡ true → (keep_each server keeps).table ≡ fold kept server.table keeps
 keeps_each [] server h = refl
 keeps_each (k ∷ keeps) server h = ap (λ (s : ServerValue). (keep_each s keeps).table) one ∙ keeps_each keeps next h
   where

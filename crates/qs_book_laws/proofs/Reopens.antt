@@ -1,27 +1,12 @@
 -- What a restart does to the committed files and notes of its node.
-use Rattle.std.proofs.Common.{◌≡◌, ◌⊎◌, ℕ, [], ◌∷◌, ◌++◌, true, false, Bool, ◌&&◌, not, if◌then◌else◌, List, Option, Some, None, fold, inl, inr, refl, sym, ap, subst, ◌∙◌}
+use Rattle.qs_book_laws.proofs.Words.{◌≡◌, ◌⊎◌, ℕ, [], ◌∷◌, ◌++◌, true, false, Bool, ◌&&◌, not, if◌then◌else◌, List, Option, Some, None, fold, inl, inr, refl, sym, ap, subst, ◌∙◌, slice_get, is_some, flat_map, nat_lt, All, AllByRecursion, list_all, option_map, is_at, Outcome, Cause, Tid, Op, Found, TableValue, apply_change, apply_note, restarted, kept, applied, Kept as KeptShare, TransactionValue, decided_at, with_learnt, found_at, BookValue, find_transaction, with_node, with_transaction, decide}
+use Rattle.qs_book_laws.proofs.Words.{inc_at, NodeValue, without_record, record_of, pending_at, changes_of, voter, voter_cmp, is_among, member_at, record_at, changes_at, is_kept, is_found_commit, broken_restart, commit_found, vote_found, abort_begun, up_to, begun_at, restarted_node, reopened, restart, with_votes, new_votes, new_votes_at, is_open_here, learn_found, decide_found, begun_tid, without_records, count_of as pending_of, OnRecord, Reopened, Voter, IsCommitted, TakesCommitted}
+use Rattle.qs_book_laws.proofs.Words.{LeavesCommitted}
 use Rattle.std.proofs.lemmas.List.Elements.{All-cons, All-nil}
-use Rattle.std.specs.Prelude.{slice_get, is_some, flat_map, nat_lt}
-use Rattle.std.specs.List.{All, AllByRecursion, list_all}
-use Rattle.std.specs.Option.{option_map}
-use Rattle.std.specs.BTreeMap.{is_at}
-use Rattle.qs_base.specs.declared.identifiers.Outcome.{Outcome}
 use Rattle.qs_base.specs.declared.identifiers.Outcome.TheVariants as outcomes
-use Rattle.qs_ops.specs.declared.answer.Cause.{Cause}
-use Rattle.qs_base.specs.declared.identifiers.Tid.{Tid}
 use Rattle.qs_ops.specs.declared.answer.Cause.TheVariants as causes
-use Rattle.qs_ops.specs.declared.operation.Op.{Op}
-use Rattle.qs_book_journal.specs.declared.entry.Found.{Found}
-use Rattle.qs_ops.specs.Table.{TableValue, apply_change, apply_note, restarted, kept, applied}
-use Rattle.qs_ops.specs.declared.share.KeptChanges.{KeptChanges as KeptShare}
-use Rattle.qs_book_machine.specs.Transaction.{TransactionValue, decided_at, with_learnt, found_at}
-use Rattle.qs_book_machine.specs.Book.{BookValue, find_transaction, with_node, with_transaction, decide, inc_at}
-use Rattle.qs_book_machine.specs.Nodes.{NodeValue, without_record, record_of, pending_at, changes_of, voter, voter_cmp}
-use Rattle.qs_book_machine.specs.Restart.{is_among, member_at, record_at, changes_at, has_record, add_commit, commits_found, votes_once, is_found_vote, is_kept, is_found_commit, broken_restart, commit_found, vote_found, abort_begun, up_to, begun_at, restarted_node, reopened, restart, with_votes, new_votes, new_votes_at, is_open_here, learn_found, decide_found, begun_tid, without_records, count_of as pending_of}
-use Rattle.qs_book_machine.specs.declared.state.OnRecord.{OnRecord}
-use Rattle.qs_book_machine.specs.declared.state.Reopened.{Reopened}
-use Rattle.qs_book_machine.specs.declared.state.Voter.{Voter}
-use Rattle.qs_book_laws.specs.Laws.{Given, IsCommitted, IsGiven, TakesCommitted, LeavesCommitted, changes_given}
+use Rattle.qs_book_machine.specs.Restart.{has_record, add_commit, commits_found, votes_once, is_found_vote}
+use Rattle.qs_book_laws.specs.Laws.{Given, IsGiven, changes_given}
 use Rattle.qs_book_laws.proofs.Faces.{node_alike}
 use Rattle.qs_book_laws.proofs.Fates.{AllDid, all_may, did_all, did_over}
 use Rattle.qs_book_laws.proofs.Maps.{changed_at_here, changed_at_either}

@@ -1,20 +1,6 @@
 -- A request that stands is served, before another of its number is issued, where in the end all are served and none crossed.
-use Rattle.std.proofs.Common.{◌≡◌, ℕ, ◌&&◌, Bool, true, false, not, List, [], ◌∷◌, ◌++◌, Option, Some, None, refl, sym, ap, subst, ◌∙◌}
-use Rattle.std.specs.Prelude.{is_some, unwrap_or}
-use Rattle.std.specs.List.{find}
-use Rattle.std.specs.Map.{lookup}
-use Rattle.std.specs.BTreeMap.{insert_entry, is_at}
-use Rattle.std.proofs.lemmas.Map.Lookups.{exact_unsigned, exact_pairs}
-use Rattle.std.proofs.lemmas.Cmp.{tied_itself, nat_cmp_total}
-use Rattle.std.specs.Ordering.{nat_cmp}
-use Rattle.std.specs.declared.cmp.Ordering.{Ordering}
-use Rattle.std.specs.declared.cmp.Ordering.TheVariants.{Less, Equal, Greater}
-use Rattle.qs_base.specs.Order.{same_member, member_cmp}
-use Rattle.qs_base.specs.declared.identifiers.Member.{Member}
-use Rattle.qs_base.proofs.Same.{same_member-true}
-use Rattle.qs_book_machine.specs.Transaction.{TransactionValue, changed_value, requests_in, requests_at, request_cmp, link_cmp, is_standing, standing_request, mark_served, crossed_by}
-use Rattle.qs_book_machine.specs.declared.transaction.Request.{Request}
-use Rattle.qs_book_machine.specs.declared.transaction.RequestNo.{RequestNo}
+use Rattle.qs_book_laws.proofs.Words.{◌≡◌, ℕ, Bool, true, false, not, List, [], ◌∷◌, ◌++◌, Option, Some, None, refl, sym, ap, subst, ◌∙◌, is_some, unwrap_or, find, lookup, insert_entry, is_at, exact_unsigned, exact_pairs, tied_itself, nat_cmp_total, nat_cmp, Ordering, Less, Equal, Greater, same_member, member_cmp, Member, same_member-true, TransactionValue, changed_value, requests_at, request_cmp, link_cmp, is_standing, standing_request, crossed_by, Request, RequestNo, and_false}
+use Rattle.qs_book_machine.specs.Transaction.{requests_in, mark_served}
 use Rattle.qs_book_laws.proofs.Holding.{left_of, clash}
 use Rattle.qs_book_laws.proofs.Maps.{changed_apart, lookup_changed, lookup_put, lookup_put_apart}
 
@@ -84,12 +70,8 @@ module _ (at : RequestNo) (member : Member) where
       by : (b : Bool) → is_standing other r ≡ b → stands_in (r ∷ requests) ≡ true → (stands_in requests ≡ true → stands_in (mark_served other requests) ≡ true) → stands_in (mark_served other (r ∷ requests)) ≡ true
       by true is k rest =
           let no : is_standing member r ≡ false = not_mine is in
-          let still : is_standing member (record r { served = true }) ≡ false = off (same_member r.member member) in
+          let still : is_standing member (record r { served = true }) ≡ false = and_false (same_member r.member member) in
           rw (is, still) (rw no at k)
-        where
-          off : (b : Bool) → (b && false) ≡ false
-          off true = refl
-          off false = refl
       by false is k rest = mine (is_standing member r) refl k
         where
           mine : (c : Bool) → is_standing member r ≡ c → stands_in (r ∷ requests) ≡ true → stands_in (mark_served other (r ∷ requests)) ≡ true

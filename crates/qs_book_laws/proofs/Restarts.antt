@@ -1,19 +1,9 @@
 -- A restart keeps the invariant of outcomes: what it finds decides open cells alone, and its incarnation is new.
-use Rattle.std.proofs.Common.{◌≡◌, ◌⊎◌, ℕ, ◌<◌, [], ◌∷◌, ◌==◌, ◌&&◌, Bool, true, false, List, Option, Some, None, fold, inl, inr, refl, sym, ap, subst, ◌∙◌, arith, if◌then◌else◌}
-use Rattle.std.specs.Prelude.{slice_get, is_some}
-use Rattle.std.specs.Option.{option_map}
-use Rattle.qs_base.specs.declared.identifiers.Outcome.{Outcome}
+use Rattle.qs_book_laws.proofs.Words.{◌≡◌, ◌⊎◌, ℕ, ◌<◌, [], ◌∷◌, ◌==◌, Bool, true, false, List, Option, Some, None, fold, inl, inr, refl, sym, ap, subst, ◌∙◌, arith, if◌then◌else◌, slice_get, is_some, option_map, Outcome, Tid, Cause, Found, TransactionValue, is_open, with_learnt, found_at, BookValue, find_transaction, with_node, with_transaction, decide, inc_at, changed_at, NodeValue, is_among, member_at, record_at, is_open_here, learn_found, decide_found, commit_found, vote_found, begun_tid}
+use Rattle.qs_book_laws.proofs.Words.{abort_begun, up_to, begun_at, restarted_node, reopened, restart, with_votes, new_votes, count_of as pending_of, OnRecord, Voter, and_last}
 use Rattle.qs_base.specs.declared.identifiers.Outcome.TheVariants as outcomes
-use Rattle.qs_base.specs.declared.identifiers.Tid.{Tid}
-use Rattle.qs_ops.specs.declared.answer.Cause.{Cause}
 use Rattle.qs_ops.specs.declared.answer.Cause.TheVariants as causes
-use Rattle.qs_book_journal.specs.declared.entry.Found.{Found}
-use Rattle.qs_book_machine.specs.Transaction.{TransactionValue, is_open, with_learnt, found_at}
-use Rattle.qs_book_machine.specs.Book.{BookValue, find_transaction, with_node, with_transaction, decide, inc_at, changed_at}
-use Rattle.qs_book_machine.specs.Nodes.{NodeValue}
-use Rattle.qs_book_machine.specs.Restart.{is_among, member_at, record_at, is_open_here, learn_found, decide_found, commit_found, vote_found, begun_tid, abort_begun, up_to, begun_at, restarted_node, reopened, restart_found, restart, with_votes, with_vote, new_votes, count_of as pending_of}
-use Rattle.qs_book_machine.specs.declared.state.OnRecord.{OnRecord}
-use Rattle.qs_book_machine.specs.declared.state.Voter.{Voter}
+use Rattle.qs_book_machine.specs.Restart.{restart_found, with_vote}
 use Rattle.qs_book_laws.proofs.Faces.{Face, face, Age, age, face_at, age_at, Alike, transaction_alike, node_alike}
 use Rattle.qs_book_laws.proofs.Maps.{changed_at_either}
 use Rattle.qs_book_laws.proofs.Outcomes.{Inv, IsBegun, Moves, moves_then, untold, by_alike, by_decide}
@@ -46,13 +36,9 @@ transaction_settles tid f keeps book i = record { nodes = refl; moves = by_alike
 decides_open : (here : ℕ) (tid : Tid) (outcome : Outcome) (cause : Option Cause) (book : BookValue) → Inv book → is_open_here here tid (find_transaction book tid) ≡ true → Settles book (decide tid outcome cause book)
 decides_open here tid outcome cause book i opened = by (find_transaction book tid) refl opened
   where
-    both : (a b : Bool) → (a && b) ≡ true → b ≡ true
-    both true b h = h
-    both false b h = absurd (cc h)
-
     by : (o : Option TransactionValue) → find_transaction book tid ≡ o → is_open_here here tid o ≡ true → Settles book (decide tid outcome cause book)
     by None is h = absurd (cc h)
-    by (Some tx) is h = record { nodes = refl; moves = by_decide book tid tx outcome cause i is (both (tid.home.0 == here) (is_open tx.cell) h) }
+    by (Some tx) is h = record { nodes = refl; moves = by_decide book tid tx outcome cause i is (and_last (tid.home.0 == here) (is_open tx.cell) h) }
 
 pub learn_settles : (here : ℕ) (tid : Tid) (server : ℕ) (book : BookValue) → Inv book → Settles book (learn_found here tid server book)
 learn_settles here tid server book i =

@@ -1,28 +1,10 @@
 -- A restart of a member's node keeps what its log holds of a transaction that may still be committed, or takes up what was
 -- pending as the node stopped.
-use Rattle.std.proofs.Common.{◌≡◌, ◌⊎◌, ℕ, ◌<◌, ◌≤◌, ◌==◌, Bool, true, false, ◌&&◌, ◌||◌, List, [], ◌∷◌, ◌++◌, Option, Some, None, inl, inr, refl, sym, ap, subst, ◌∙◌, fold, arith, if◌then◌else◌}
-use Rattle.std.proofs.lemmas.Bool.Decides.{nat_tests}
-use Rattle.std.specs.Prelude.{is_some, slice_get, flat_map, nat_lt, nat_le, unwrap_or}
-use Rattle.std.specs.List.{list_any}
-use Rattle.std.specs.Option.{option_map}
-use Rattle.std.specs.BTreeMap.{is_at}
-use Rattle.qs_base.specs.Order.{tid_cmp, same_member}
-use Rattle.qs_base.specs.declared.identifiers.Member.{Member}
-use Rattle.qs_base.specs.declared.identifiers.Tid.{Tid}
-use Rattle.qs_base.proofs.Same.{same_tid-self, same_member-true}
-use Rattle.qs_ops.specs.declared.operation.Op.{Op}
-use Rattle.qs_book_journal.specs.declared.entry.Found.{Found}
-use Rattle.qs_ops.specs.Table.{TableValue, share_of, applied, kept}
-use Rattle.qs_ops.specs.declared.share.Share.{Share}
-use Rattle.qs_book_machine.specs.Transaction.{TransactionValue, is_open, is_abort, found_at}
-use Rattle.qs_book_machine.specs.declared.transaction.Cell.{Cell}
+use Rattle.qs_book_laws.proofs.Words.{◌≡◌, ◌⊎◌, ℕ, ◌<◌, ◌≤◌, ◌==◌, Bool, true, false, ◌&&◌, ◌||◌, List, [], ◌∷◌, ◌++◌, Option, Some, None, inl, inr, refl, sym, ap, subst, ◌∙◌, fold, arith, if◌then◌else◌, nat_tests, is_some, slice_get, flat_map, nat_lt, nat_le, unwrap_or, list_any, option_map, is_at, tid_cmp, same_member, Member, Tid, same_tid-self, same_member-true, Op, Found, TableValue, share_of, applied, kept, Share, TransactionValue, is_open, is_abort, found_at, Cell, BookValue}
+use Rattle.qs_book_laws.proofs.Words.{find_transaction, crossed_in, with_transaction, inc_at, cell_of_transaction, NodeValue, pending_at, record_of, changes_of, voter, voter_cmp, restart, reopened, restarted_node, put_new_votes, new_votes, new_votes_at, new_vote, is_new_vote, with_votes, changes_at, keep_found, is_found_as, broken_restart, is_among, member_at, without_records, vote_found, commit_found, abort_begun, up_to, begun_at, record_at, count_of as pending_of, vote_as_stopped, OnRecord}
+use Rattle.qs_book_laws.proofs.Words.{Voter, held_at, or_right, ltb-true, lt_lt}
 use Rattle.qs_book_machine.specs.declared.transaction.Cell.TheVariants as cells
-use Rattle.qs_book_machine.specs.Book.{BookValue, find_transaction, crossed_in, with_transaction, inc_at, cell_of_transaction}
-use Rattle.qs_book_machine.specs.Nodes.{NodeValue, pending_at, record_of, changes_of, voter, voter_cmp}
-use Rattle.qs_book_machine.specs.Restart.{restart, reopened, restarted_node, put_new_votes, new_votes, new_votes_at, new_vote, is_new_vote, with_votes, with_vote, changes_at, keep_found, is_found_as, may_be_lost, broken_restart, is_among, member_at, found_only, without_records, vote_found, commit_found, abort_begun, up_to, begun_at, record_at, count_of as pending_of, vote_as_stopped}
-use Rattle.qs_book_machine.specs.declared.state.OnRecord.{OnRecord}
-use Rattle.qs_book_machine.specs.declared.state.Voter.{Voter}
-use Rattle.qs_book_laws.specs.Served.{held_at}
+use Rattle.qs_book_machine.specs.Restart.{with_vote, may_be_lost, found_only}
 use Rattle.qs_book_laws.proofs.Again.{kept_rule, votes_new, reopened_there}
 use Rattle.qs_book_laws.proofs.Alikes.{all_among, at_exact, voter_exact, voter_equal}
 use Rattle.qs_book_laws.proofs.Ballots.{IsEven}
@@ -42,7 +24,7 @@ use Rattle.qs_book_laws.proofs.Reopens.{did, restart_commits}
 use Rattle.qs_book_laws.proofs.Serves.{inc_marked}
 use Rattle.qs_book_laws.proofs.Shares.{number}
 use Rattle.qs_book_laws.proofs.Shut.{Shut, commit_closed}
-use Rattle.qs_book_laws.proofs.Steps.{passed, rises}
+use Rattle.qs_book_laws.proofs.Steps.{passed}
 use Rattle.qs_book_laws.proofs.Stills.{facet}
 use Rattle.qs_book_laws.proofs.Takes.{some_same}
 use Rattle.qs_book_laws.proofs.Votes.{IsHeld, votes_held}
@@ -104,10 +86,6 @@ module _ (tid : Tid) (member : Member) (here inc : ℕ) (done : List Tid) where
 
 -- ---- what was found
 
-or_right : (a b : Bool) → b ≡ true → (a || b) ≡ true
-or_right true b h = refl
-or_right false b h = h
-
 -- what is on record with the new votes was so, or is one of them
 module _ (here : ℕ) (book : BookValue) (node : NodeValue) (tid : Tid) (s : ℕ) where
   abbrev IsFound : List Found → Type 0
@@ -161,9 +139,6 @@ module _ (here : ℕ) (book : BookValue) (node : NodeValue) (tid : Tid) (s : ℕ
 
 -- ---- the restart
 
-less_then : (a b c : ℕ) → a < b → b < c → a < c
-less_then a b c h k = omega arith
-
 committed_not_live : (o : Option TransactionValue) (member : Member) → cell_of_transaction o ≡ Some cells.Commit → is_live o member ≡ true → ⊥
 committed_not_live None member is live = absurd (cc is)
 committed_not_live (Some tx) member is live = clash (live_open (Some tx) member tx live refl) (ap is_open (some_same tx.cell cells.Commit is))
@@ -204,7 +179,7 @@ module _ (tid : Tid) (member : Member) (b : Bool) (is : member.server.0 ≡ numb
   recorded = record_of v tid member.server.0
 
   rising : node.inc < inc
-  rising = rises node.inc inc (passed (nat_lt node.inc inc) 110 _ lawful)
+  rising = ltb-true node.inc inc (passed (nat_lt node.inc inc) 110 _ lawful)
 
   mark_is : k.mark ≡ mark_in tid member.server.0 node
   mark_is = inc_marked tid member book node k.mark at k.at
@@ -322,7 +297,7 @@ module _ (tid : Tid) (member : Member) (b : Bool) (is : member.server.0 ≡ numb
       by (votes_held book node (new_votes member.node.0 book pend) (votes_new book member.node.0 node pend at) node tid member.server.0 (inr refl))
     where
       held_all : held_at book tid member ≡ changes
-      held_all = k.pending (λ n below. subst IsEven (count_same n) (even n (less_then n k.mark.inc inc below below_new)))
+      held_all = k.pending (λ n below. subst IsEven (count_same n) (even n (lt_lt n k.mark.inc inc below below_new)))
 
       rec_all : changes_of k.mark.rec ≡ held_at book tid member
       rec_all = k.on_record (subst IsEven (count_same k.mark.inc) (even k.mark.inc below_new))
@@ -369,7 +344,7 @@ module _ (tid : Tid) (member : Member) (b : Bool) (is : member.server.0 ≡ numb
         ∙ ap (λ (o : Option OnRecord). Some (made o)) still_recorded;
     pending = λ even. held_after ∙ logged_all even;
     on_record = λ even. sym held_after;
-    above = λ n above. count_same n ∙ k.above n (less_then k.mark.inc inc n below_new above);
+    above = λ n above. count_same n ∙ k.above n (lt_lt k.mark.inc inc n below_new above);
     most = λ n. subst (λ (c : Count). c.covered ≤ c.served) (sym (count_same n)) (k.most n);
     empty = λ none. sym held_after ∙ none;
     unknown = unknown_after;

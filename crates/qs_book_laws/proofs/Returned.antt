@@ -1,27 +1,7 @@
 -- Each loan that a client was asked to take was made and given back in its life, where in the end all members agree.
-use Rattle.std.proofs.Common.{◌≡◌, ℕ, ◌<◌, ◌==◌, ◌&&◌, Bool, true, false, List, [], ◌∷◌, Option, Some, None, refl, sym, ap, subst, ◌∙◌, if◌then◌else◌, arith}
-use Rattle.std.proofs.lemmas.Bool.Decides.{nat_tests}
-use Rattle.std.specs.Prelude.{slice_get, is_some}
-use Rattle.std.specs.List.{list_all}
-use Rattle.std.specs.Option.{option_map}
-use Rattle.qs_base.specs.Order.{same_tid, same_member}
+use Rattle.qs_book_laws.proofs.Words.{◌≡◌, ℕ, ◌<◌, ◌==◌, ◌&&◌, Bool, true, false, List, [], ◌∷◌, Option, Some, None, refl, sym, ap, subst, ◌∙◌, if◌then◌else◌, slice_get, is_some, list_all, option_map, same_tid, same_member, Class, Member, Tid, same_member-true, class_of, Act, Serve, Loan, Yield, Entry, TransactionValue, part_of, agrees, agrees_in, borrower, found_part, Part, BookValue, find_transaction, inc_at, is_in_order, broken_act, broken_at, broken, effect, IsLawful, book_after, NodeValue}
+use Rattle.qs_book_laws.proofs.Words.{opening, Opened, is_restart, restarts, lt_lt}
 use Rattle.qs_base.specs.declared.identifiers.Class.TheVariants as classes
-use Rattle.qs_base.specs.declared.identifiers.Class.{Class}
-use Rattle.qs_base.specs.declared.identifiers.Member.{Member}
-use Rattle.qs_base.specs.declared.identifiers.Tid.{Tid}
-use Rattle.qs_base.proofs.Same.{same_member-true}
-use Rattle.qs_ops.specs.Members.{class_of}
-use Rattle.qs_book_journal.specs.declared.entry.Act.{Act}
-use Rattle.qs_book_journal.specs.declared.entry.Act.TheVariants.{Serve, Loan, Yield}
-use Rattle.qs_book_journal.specs.declared.entry.Entry.{Entry}
-use Rattle.qs_book_machine.specs.Transaction.{TransactionValue, part_of, agrees, agrees_in, borrower, found_part}
-use Rattle.qs_book_machine.specs.declared.transaction.Part.{Part}
-use Rattle.qs_book_machine.specs.Book.{BookValue, find_transaction, inc_at}
-use Rattle.qs_book_machine.specs.Lawful.{is_in_order, broken_act, broken_at, broken, effect, IsLawful, book_after}
-use Rattle.qs_book_machine.specs.Nodes.{NodeValue}
-use Rattle.qs_book_machine.specs.Opening.{opening}
-use Rattle.qs_book_machine.specs.declared.opened.Opened.{Opened}
-use Rattle.qs_book_laws.specs.Lives.{is_restart, restarts}
 use Rattle.qs_book_laws.specs.Unanimity.{Loans, no_loans, loans_after, are_even, are_returned}
 use Rattle.qs_book_laws.proofs.Always.{IsSo, so_of, step_so, opening_so}
 use Rattle.qs_book_laws.proofs.Begun.{inc_in}
@@ -37,16 +17,11 @@ use Rattle.qs_book_laws.proofs.Steps.{held, stepped}
 use Rattle.qs_book_laws.proofs.Takes.{some_same}
 use Rattle.qs_book_laws.proofs.Turns.{Stands, Obliged, step_turns}
 use Rattle.qs_book_laws.proofs.Voted.{agreed}
+use Rattle.qs_base_lemmas.proofs.Tests.{lt_apart}
 
 -- no loan in that life
 abbrev IsUnlent : Member → ℕ → TransactionValue → Type 0
 IsUnlent member inc tx = loans_of (part_of tx member inc) ≡ no_loans
-
-rises_over : (a b c : ℕ) → a < b → b < c → a < c
-rises_over a b c h k = omega arith
-
-apart : (a b : ℕ) → a < b → (a == b) ≡ false
-apart a b h = grind (arith, nat_tests)
 
 module _ (tid : Tid) (member : Member) where
   -- the loans of the present life, and none of a later one
@@ -70,7 +45,7 @@ module _ (tid : Tid) (member : Member) where
         keeps s =
             let p : Part = part_of s.tx member k in
             let last = step_part tid member k p book entry i h (none_born member k entry far) (record { tx = s.tx; found = s.found; holds = refl }) in
-            record { tx = last.tx; found = last.found; holds = ap loans_of (last.holds ∙ unchanged tid member k book entry inc p h l.now (apart inc k less)) ∙ s.holds }
+            record { tx = last.tx; found = last.found; holds = ap loans_of (last.holds ∙ unchanged tid member k book entry inc p h l.now (lt_apart inc k less)) ∙ s.holds }
 
     lends_on : restarts member.node entry ≡ false → Lends (effect book entry) inc after
     lends_on far = by (find_transaction book tid) refl
@@ -104,7 +79,7 @@ module _ (tid : Tid) (member : Member) where
       now = x.now;
       counts = unlent r.inc later;
       unknown = λ none. refl;
-      later = λ k less. unlent k (rises_over inc r.inc k later less);
+      later = λ k less. unlent k (lt_lt inc r.inc k later less);
     }
       where
         later : inc < r.inc

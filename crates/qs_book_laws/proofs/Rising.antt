@@ -1,17 +1,9 @@
 -- Entries whose keys rise, as those of each map do: they stay so, some alone too, and a key that was removed is not found.
-use Rattle.std.proofs.Common.{◌≡◌, Bool, true, false, List, [], ◌∷◌, None, refl, sym, ap, subst, ◌∙◌}
-use Rattle.std.specs.Prelude.{cond, ⊤}
+use Rattle.qs_book_laws.proofs.Words.{◌≡◌, Bool, true, false, List, [], ◌∷◌, None, refl, sym, ap, subst, ◌∙◌, cond, ⊤, AllByRecursion, lookup, remove_entry, match_ordering, insert_entry, is_at, Ordering, Less, Equal, Greater, nat_cmp_total, tid_total, voter_cmp, Voter}
 use Rattle.std.specs.Cmp.{IsTotalOrder}
-use Rattle.std.specs.List.{AllByRecursion, filter}
-use Rattle.std.specs.Map.{lookup, remove_entry}
-use Rattle.std.specs.Ordering.{match_ordering, ordering_reverse}
-use Rattle.std.specs.BTreeMap.{insert_entry, is_at}
-use Rattle.std.specs.declared.cmp.Ordering.{Ordering}
-use Rattle.std.specs.declared.cmp.Ordering.TheVariants.{Less, Equal, Greater}
-use Rattle.std.proofs.lemmas.Cmp.{nat_cmp_total, on_total, then_total}
-use Rattle.qs_base.proofs.TidOrder.{tid_total}
-use Rattle.qs_book_machine.specs.Nodes.{voter_cmp}
-use Rattle.qs_book_machine.specs.declared.state.Voter.{Voter}
+use Rattle.std.specs.List.{filter}
+use Rattle.std.specs.Ordering.{ordering_reverse}
+use Rattle.std.proofs.lemmas.Cmp.{on_total, then_total}
 
 pub voter_total : IsTotalOrder voter_cmp
 voter_total = then_total (on_total (λ (v : Voter). v.tid) tid_total) (on_total (λ (v : Voter). v.server.0) nat_cmp_total)

@@ -1,26 +1,6 @@
 -- A serve of a member's own: what it has on record stays, and it served one more in this incarnation.
-use Rattle.std.proofs.Common.{◌≡◌, ℕ, ◌+◌, ◌==◌, Bool, true, false, Option, Some, None, refl, sym, ap, subst, ◌∙◌}
-use Rattle.std.specs.Prelude.{unwrap_or, slice_get, is_some}
-use Rattle.std.specs.Option.{option_map}
-use Rattle.std.specs.Map.{lookup}
-use Rattle.std.specs.BTreeMap.{is_at}
-use Rattle.qs_base.specs.Order.{tid_cmp}
-use Rattle.qs_base.specs.declared.identifiers.Member.{Member}
-use Rattle.qs_base.specs.declared.identifiers.NodeNo.{NodeNo}
-use Rattle.qs_base.specs.declared.identifiers.Tid.{Tid}
-use Rattle.qs_base.proofs.Same.{same_tid-true, same_member-true}
-use Rattle.qs_ops.specs.declared.reply.Reply.{Reply}
-use Rattle.qs_ops.specs.Members.{class_of}
-use Rattle.qs_book_journal.specs.declared.entry.Act.{Act}
+use Rattle.qs_book_laws.proofs.Words.{◌≡◌, ℕ, ◌+◌, ◌==◌, Bool, true, false, Option, Some, None, refl, sym, ap, subst, ◌∙◌, unwrap_or, slice_get, is_some, option_map, lookup, is_at, tid_cmp, Member, NodeNo, Tid, same_tid-true, same_member-true, Reply, class_of, Act, Entry, TransactionValue, served_in, serving_part, Part, RequestNo, BookValue, find_transaction, inc_at, is_done, broken_serve, broken_act, broken, effect_act, effect, NodeValue}
 use Rattle.qs_book_journal.specs.declared.entry.Act.TheVariants as acts
-use Rattle.qs_book_journal.specs.declared.entry.Entry.{Entry}
-use Rattle.qs_book_machine.specs.Transaction.{TransactionValue, served_in, serving_part}
-use Rattle.qs_book_machine.specs.declared.transaction.Part.{Part}
-use Rattle.qs_book_machine.specs.declared.transaction.RequestNo.{RequestNo}
-use Rattle.qs_book_machine.specs.Book.{BookValue, find_transaction, inc_at, is_done}
-use Rattle.qs_book_machine.specs.Clauses.{broken_serve}
-use Rattle.qs_book_machine.specs.Lawful.{broken_act, broken, effect_act, effect}
-use Rattle.qs_book_machine.specs.Nodes.{NodeValue}
 use Rattle.qs_book_laws.proofs.Counts.{Count, counts, count_of, count_in, no_count, served_count, served_later}
 use Rattle.qs_book_laws.proofs.Covers.{Mark, mark_in, mark_of, SameMark}
 use Rattle.qs_book_laws.proofs.Ends.{lawful_node}

@@ -1,28 +1,21 @@
 -- A server that stands for its table in the machine answers by the machine's rules.
-use Rattle.std.proofs.Common.{◌≡◌, ℕ, Bool, true, false, List, Option, Some, None, refl, sym, ap, subst, ◌∙◌, ◌+◌, ◌==◌, nat_lt, arith}
-use Rattle.std.specs.Prelude.{not, if◌then◌else◌, is_none}
-use Rattle.std.proofs.lemmas.Bool.Decides.{nat_tests}
-use Rattle.qs_base.specs.declared.identifiers.Tid.{Tid}
-use Rattle.qs_base.proofs.Same.{same_bytes-self, same_lists-self, same_tid-self}
+use Rattle.qs_book_laws.proofs.Words.{◌≡◌, ℕ, Bool, true, false, List, Option, Some, None, refl, sym, ap, subst, ◌∙◌, ◌+◌, ◌==◌, nat_lt, arith, not, if◌then◌else◌, nat_tests, Tid, same_tid-self, class_of, is_two_phase, Op, Reply, Vote, Outcome, server_serve, vote_node, learn_node, end_node, is_server_vote, NodeValue, timer_served, timers_ended, TableValue, served, released, committed, eqb-self}
+use Rattle.std.specs.Prelude.{is_none}
+use Rattle.qs_base.proofs.Same.{same_bytes-self, same_lists-self}
 use Rattle.qs_ops.specs.Alike.{same_reply}
-use Rattle.qs_ops.specs.Members.{class_of, is_two_phase}
-use Rattle.qs_ops.specs.declared.operation.Op.{Op}
-use Rattle.qs_ops.specs.declared.reply.Reply.{Reply}
 use Rattle.qs_ops.specs.declared.reply.Reply.TheVariants as replies
-use Rattle.qs_ops.specs.declared.vote.Vote.{Vote}
 use Rattle.qs_ops.specs.declared.vote.Vote.TheVariants as votes
-use Rattle.qs_base.specs.declared.identifiers.Outcome.{Outcome}
 use Rattle.qs_base.specs.declared.identifiers.Outcome.TheVariants as outcomes
 use Rattle.qs_ops.specs.declared.vote.Notice.TheVariants as notices
-use Rattle.qs_book_machine.specs.Book.{server_serve, vote_node, learn_node, end_node}
-use Rattle.qs_book_machine.specs.Clauses.{is_server_reply, is_server_vote, is_files_vote, is_audit_vote, is_names_vote, is_log_full, prepare_need}
-use Rattle.qs_book_machine.specs.Nodes.{NodeValue, extra_of, keep_of}
+use Rattle.qs_book_machine.specs.Clauses.{is_server_reply, is_files_vote, is_audit_vote, is_names_vote, is_log_full, prepare_need}
+use Rattle.qs_book_machine.specs.Nodes.{extra_of, keep_of}
 use Rattle.qs_ops.specs.Server.{ServerValue, number_of, reply_in, reply_of, served_by, after_serving, vote_of, changes_vote, files_vote, vote_in_room, vote_need, names_vote, voted_by, after_vote, noted_by, after_notice}
-use Rattle.qs_ops.specs.Timers.{TimersValue, timer_served, timers_ended}
-use Rattle.qs_ops.specs.Table.{TableValue, is_due, reply_to, has_changes, view_bytes, least_taken, served, released, committed, with_vote}
+use Rattle.qs_ops.specs.Timers.{TimersValue}
+use Rattle.qs_ops.specs.Table.{is_due, reply_to, has_changes, view_bytes, least_taken, with_vote}
 use Rattle.qs_ops.specs.declared.server.ServerKind.{ServerKind}
 use Rattle.qs_ops.specs.declared.server.ServerKind.TheVariants.{Files, Audit, Names, Timers, Windows, Scratch, Nothing}
 use Rattle.qs_book_laws.specs.Standing.{StandsAs, StandsFor, notice_of}
+use Rattle.std.proofs.lemmas.Option.{same_Some}
 
 -- ---- replies
 
@@ -86,14 +79,11 @@ audit_room node tid free some = by (nat_lt free (vote_need node.audit tid (frame
     by true is = rw is (rw some (full node node.audit tid free is))
     by false is = rw is some
 
-same_number : (n : ℕ) → (n == n) ≡ true
-same_number n = grind (arith, nat_tests)
-
 files_changed : (quota : ℕ) (node : NodeValue) (tid : Tid) (free : ℕ) → has_changes node.files tid ≡ true → is_files_vote node tid (files_vote quota node.files tid free (frame_of node)) ≡ true
 files_changed quota node tid free some = by (nat_lt quota (view_bytes node.files tid)) refl
   where
     by : (b : Bool) → nat_lt quota (view_bytes node.files tid) ≡ b → is_files_vote node tid (files_vote quota node.files tid free (frame_of node)) ≡ true
-    by true is = rw is (rw some (rw (same_number (view_bytes node.files tid)) is))
+    by true is = rw is (rw some (rw (eqb-self (view_bytes node.files tid)) is))
     by false is = rw is (files_room node tid free some)
 
 names_changed : (node : NodeValue) (tid : Tid) → has_changes node.names tid ≡ true → is_names_vote node tid (names_vote (least_taken node.names tid)) ≡ true
@@ -128,14 +118,11 @@ nothing_all : (b : Bool) (node : NodeValue) (tid : Tid) → is_server_vote node 
 nothing_all true node tid = refl
 nothing_all false node tid = refl
 
-same_table : (t u : TableValue) → Some t ≡ Some u → t ≡ u
-same_table t u is = cc is
-
 votes_as : (kind : ServerKind) (node : NodeValue) (server : ServerValue) (tid : Tid) (free : ℕ) → StandsAs kind node server → is_two_phase (class_of (number_of kind)) ≡ true
     → is_server_vote node (number_of kind) tid (if has_changes server.table tid then changes_vote kind server.table tid free (frame_of node) else votes.ReadOnly) ≡ true
-votes_as (Files quota) node server tid free stands two = subst (λ (t : TableValue). is_files_vote node tid (if has_changes t tid then files_vote quota t tid free (frame_of node) else votes.ReadOnly) ≡ true) (same_table node.files server.table stands) (files_all quota node tid free)
-votes_as Audit node server tid free stands two = subst (λ (t : TableValue). is_audit_vote node tid (if has_changes t tid then vote_in_room t tid free (frame_of node) else votes.ReadOnly) ≡ true) (same_table node.audit server.table stands) (audit_all node tid free)
-votes_as Names node server tid free stands two = subst (λ (t : TableValue). is_names_vote node tid (if has_changes t tid then names_vote (least_taken t tid) else votes.ReadOnly) ≡ true) (same_table node.names server.table stands) (names_all node tid)
+votes_as (Files quota) node server tid free stands two = subst (λ (t : TableValue). is_files_vote node tid (if has_changes t tid then files_vote quota t tid free (frame_of node) else votes.ReadOnly) ≡ true) (same_Some node.files server.table stands) (files_all quota node tid free)
+votes_as Audit node server tid free stands two = subst (λ (t : TableValue). is_audit_vote node tid (if has_changes t tid then vote_in_room t tid free (frame_of node) else votes.ReadOnly) ≡ true) (same_Some node.audit server.table stands) (audit_all node tid free)
+votes_as Names node server tid free stands two = subst (λ (t : TableValue). is_names_vote node tid (if has_changes t tid then names_vote (least_taken t tid) else votes.ReadOnly) ≡ true) (same_Some node.names server.table stands) (names_all node tid)
 votes_as Timers node server tid free stands two = absurd (cc two)
 votes_as Windows node server tid free stands two = absurd (cc two)
 votes_as Scratch node server tid free stands two = absurd (cc two)
@@ -147,7 +134,7 @@ votes_by_rules node server tid free stands two = votes_as server.kind node serve
 -- ---- what is held after a step
 
 mapped : (f : TableValue → TableValue) (t u : TableValue) → Some t ≡ Some u → Some (f t) ≡ Some (f u)
-mapped f t u is = ap (λ (v : TableValue). Some (f v)) (same_table t u is)
+mapped f t u is = ap (λ (v : TableValue). Some (f v)) (same_Some t u is)
 
 served_as : (kind : ServerKind) (node : NodeValue) (server : ServerValue) (tid : Tid) (op : Op) (reply : Reply) → StandsAs kind node server → StandsAs kind (server_serve (number_of kind) tid op reply node) (served_by kind tid op reply server)
 served_as (Files quota) node server tid op reply stands = mapped (λ t. served t tid op reply) node.files server.table stands

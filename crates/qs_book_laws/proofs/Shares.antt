@@ -1,19 +1,7 @@
 -- What a table holds of a transaction after a change of its shares.
-use Rattle.std.proofs.Common.{◌≡◌, ℕ, Bool, true, false, List, [], ◌∷◌, ◌++◌, ◌==◌, Option, refl, sym, ap, subst, ◌∙◌}
-use Rattle.std.specs.Prelude.{unwrap_or}
-use Rattle.std.specs.Map.{lookup, remove_entry}
-use Rattle.std.specs.BTreeMap.{is_at}
-use Rattle.std.proofs.lemmas.List.{append-nil}
-use Rattle.qs_base.specs.Order.{tid_cmp, same_tid}
-use Rattle.qs_base.specs.declared.identifiers.Tid.{Tid}
-use Rattle.qs_base.proofs.Same.{same_tid-true, same_tid-self}
-use Rattle.qs_ops.specs.declared.operation.Op.{Op}
-use Rattle.qs_ops.specs.declared.reply.Reply.{Reply}
+use Rattle.qs_book_laws.proofs.Words.{◌≡◌, ℕ, Bool, true, false, List, [], ◌∷◌, ◌++◌, ◌==◌, Option, refl, sym, ap, subst, ◌∙◌, unwrap_or, lookup, remove_entry, is_at, append-nil, tid_cmp, same_tid, Tid, same_tid-true, same_tid-self, Op, Reply, tid_exact, TableValue, share_of, nothing_held, served, released, Share, NodeValue, with_table}
 use Rattle.qs_ops.specs.declared.reply.Reply.TheVariants as replies
-use Rattle.qs_base.proofs.TidOrder.{tid_exact}
-use Rattle.qs_ops.specs.Table.{TableValue, share_of, with_share, nothing_held, after_serve, change_by, served, released, with_vote}
-use Rattle.qs_ops.specs.declared.share.Share.{Share}
-use Rattle.qs_book_machine.specs.Nodes.{NodeValue, with_table}
+use Rattle.qs_ops.specs.Table.{with_share, after_serve, change_by, with_vote}
 use Rattle.qs_book_laws.proofs.Alikes.{tid_itself, at_exact}
 use Rattle.qs_book_laws.proofs.Faces.{either_way}
 use Rattle.qs_book_laws.proofs.Maps.{lookup_put, lookup_put_apart}

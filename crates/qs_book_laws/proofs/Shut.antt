@@ -1,24 +1,9 @@
 -- A transaction whose Commit the log of a node held as the run began: its cell is commit, commit is never asked for in the
 -- run, and nothing of it is on record at that node.
-use Rattle.std.proofs.Common.{◌≡◌, ◌⊎◌, ℕ, ◌==◌, ◌&&◌, Bool, true, false, List, Option, Some, None, inl, inr, refl, sym, ap, subst, ◌∙◌, arith}
-use Rattle.std.proofs.lemmas.Bool.Decides.{nat_tests}
-use Rattle.std.specs.Prelude.{slice_get, is_none}
-use Rattle.std.specs.Map.{lookup, remove_entry}
-use Rattle.std.specs.Option.{option_map}
-use Rattle.std.specs.BTreeMap.{insert_entry, is_at}
-use Rattle.std.specs.declared.cmp.Ordering.TheVariants.{Equal}
-use Rattle.qs_base.specs.Order.{tid_cmp}
-use Rattle.qs_base.specs.declared.identifiers.ClientNo.{ClientNo}
-use Rattle.qs_base.specs.declared.identifiers.Tid.{Tid}
-use Rattle.qs_book_machine.specs.Transaction.{TransactionValue, is_open, is_commit, asked_at, begun}
-use Rattle.qs_book_machine.specs.declared.transaction.Cell.{Cell}
+use Rattle.qs_book_laws.proofs.Words.{◌≡◌, ◌⊎◌, ℕ, ◌==◌, ◌&&◌, Bool, true, false, List, Option, Some, None, inl, inr, refl, sym, ap, subst, ◌∙◌, arith, nat_tests, slice_get, lookup, remove_entry, option_map, insert_entry, is_at, Equal, tid_cmp, ClientNo, Tid, TransactionValue, is_open, is_commit, asked_at, begun, Cell, BookValue, find_transaction, with_transaction, begin, changed_at, ticks_at, NodeValue, voter, voter_cmp, is_among, OnRecord, Voter}
+use Rattle.std.specs.Prelude.{is_none}
 use Rattle.qs_book_machine.specs.declared.transaction.Cell.TheVariants as cells
-use Rattle.qs_book_machine.specs.Book.{BookValue, find_transaction, with_transaction, begin, changed_at, ticks_at}
 use Rattle.qs_book_machine.specs.Clauses.{may_ask}
-use Rattle.qs_book_machine.specs.Nodes.{NodeValue, voter, voter_cmp}
-use Rattle.qs_book_machine.specs.Restart.{is_among}
-use Rattle.qs_book_machine.specs.declared.state.OnRecord.{OnRecord}
-use Rattle.qs_book_machine.specs.declared.state.Voter.{Voter}
 use Rattle.qs_book_laws.proofs.Alikes.{tid_itself, at_exact, voter_exact, voter_equal}
 use Rattle.qs_book_laws.proofs.Faces.{Face, face, face_at}
 use Rattle.qs_book_laws.proofs.Maps.{changed_apart, removed_none, lookup_put, lookup_put_apart, changed_at_either}

@@ -1,39 +1,19 @@
 -- As a run begins, from coherent logs, the transactions of their Commits are shut.
-use Rattle.std.proofs.Common.{◌≡◌, ◌⊎◌, ℕ, zero, suc, [], ◌∷◌, ◌||◌, Bool, true, false, List, Option, Some, None, fold, length, inl, inr, refl, sym, ap, subst, ◌∙◌, if◌then◌else◌}
-use Rattle.std.proofs.lemmas.Option.{slice_get-map}
-use Rattle.std.specs.Prelude.{slice_get, nat_lt}
-use Rattle.std.specs.List.{All, AllByRecursion, list_any}
-use Rattle.std.specs.Map.{lookup}
-use Rattle.std.specs.Option.{option_map}
-use Rattle.std.specs.BTreeMap.{insert_entry, is_at}
+use Rattle.qs_book_laws.proofs.Words.{◌≡◌, ◌⊎◌, ℕ, zero, suc, [], ◌∷◌, ◌||◌, Bool, true, false, List, Option, Some, None, fold, length, inl, inr, refl, sym, ap, subst, ◌∙◌, if◌then◌else◌, slice_get-map, slice_get, nat_lt, All, AllByRecursion, list_any, lookup, option_map, insert_entry, is_at, match_ordering, Ordering, Less, Equal, Greater, tid_cmp, same_tid, Tid, TransactionValue, is_open, is_commit, found_at, BookValue, find_transaction, with_transaction, NodeValue, voter, voter_cmp, opened_node}
+use Rattle.qs_book_laws.proofs.Words.{opened_transaction, name_transaction, name_pending, name_all, name_from, put_record, opening, is_among, member_at, Opened, Pending, OnRecord, Voter, IsCoherent}
 use Rattle.std.specs.BTreeSet.{insert_key}
-use Rattle.std.specs.Ordering.{match_ordering}
-use Rattle.std.specs.declared.cmp.Ordering.{Ordering}
-use Rattle.std.specs.declared.cmp.Ordering.TheVariants.{Less, Equal, Greater}
-use Rattle.qs_base.specs.Order.{tid_cmp, same_tid}
-use Rattle.qs_base.specs.declared.identifiers.Tid.{Tid}
 use Rattle.qs_ops.specs.declared.answer.Cause.TheVariants as causes
-use Rattle.qs_book_machine.specs.Transaction.{TransactionValue, is_open, is_commit, found_at, opened_as}
+use Rattle.qs_book_machine.specs.Transaction.{opened_as}
 use Rattle.qs_book_machine.specs.declared.transaction.Cell.TheVariants as cells
-use Rattle.qs_book_machine.specs.Book.{BookValue, find_transaction, with_transaction}
-use Rattle.qs_book_machine.specs.Nodes.{NodeValue, voter, voter_cmp}
-use Rattle.qs_book_machine.specs.Opening.{opened_node, has_commit, opened_transaction, name_transaction, name_pending, name_all, name_from, put_record, put_tid, opening}
-use Rattle.qs_book_machine.specs.Restart.{is_among, member_at}
-use Rattle.qs_book_machine.specs.declared.opened.Opened.{Opened}
-use Rattle.qs_book_machine.specs.declared.opened.Pending.{Pending}
-use Rattle.qs_book_machine.specs.declared.state.OnRecord.{OnRecord}
-use Rattle.qs_book_machine.specs.declared.state.Voter.{Voter}
-use Rattle.qs_book_laws.specs.Laws.{IsSound, IsCoherent, HasNoCommit}
+use Rattle.qs_book_machine.specs.Opening.{has_commit, put_tid}
+use Rattle.qs_book_laws.specs.Laws.{IsSound, HasNoCommit}
 use Rattle.qs_book_laws.proofs.Alikes.{all_among, tid_itself, at_exact, voter_exact, voter_equal}
 use Rattle.qs_book_laws.proofs.Faces.{Face, face, face_at, transaction_alike}
 use Rattle.qs_book_laws.proofs.Maps.{lookup_put, lookup_put_apart}
 use Rattle.qs_book_laws.proofs.Openings.{all_head, all_rest, first_book, opening_names}
 use Rattle.qs_book_laws.proofs.Shut.{Shut}
 use Rattle.qs_book_laws.proofs.Stills.{Facet, facet, facet_at, asked_of, asks_at, transaction_still}
-
-or_cases : (a b : Bool) → (a || b) ≡ true → (a ≡ true) ⊎ (b ≡ true)
-or_cases true b h = inl refl
-or_cases false b h = inr h
+use Rattle.std.proofs.lemmas.Bool.{or_cases}
 
 -- ---- transactions
 

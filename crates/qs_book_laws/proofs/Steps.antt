@@ -1,20 +1,9 @@
 -- Every lawful step keeps the invariant of outcomes, and so does every lawful history.
-use Rattle.std.proofs.Common.{◌≡◌, ℕ, ◌<◌, [], ◌∷◌, ◌++◌, ◌&&◌, ◌+◌, Bool, true, false, not, List, Option, Some, None, refl, arith, if◌then◌else◌}
-use Rattle.std.proofs.lemmas.Bool.Decides.{nat_tests}
-use Rattle.std.specs.Prelude.{slice_get, nat_lt}
-use Rattle.qs_base.specs.declared.identifiers.Outcome.{Outcome}
-use Rattle.qs_base.specs.declared.identifiers.Tid.{Tid}
-use Rattle.qs_ops.specs.declared.answer.Cause.{Cause}
-use Rattle.qs_book_journal.specs.declared.entry.Act.{Act}
-use Rattle.qs_book_journal.specs.declared.entry.Act.TheVariants.{Begin, Issue, Serve, Ask, Counted, Decide, Ending, Learn, Answer, Loan, Yield, Tick, Crash, Restart}
+use Rattle.qs_book_laws.proofs.Words.{◌≡◌, ℕ, [], ◌∷◌, ◌++◌, ◌+◌, Bool, true, false, not, List, Option, Some, None, refl, if◌then◌else◌, slice_get, nat_lt, Outcome, Tid, Cause, Act, Begin, Issue, Serve, Ask, Counted, Decide, Ending, Learn, Loan, Yield, Tick, Crash, Restart, Entry, TransactionValue, is_open, BookValue, find_transaction, broken_decide, may_decide, broken_outcome, is_in_order, broken_act, broken_node, broken_at, broken, effect_act, effect, IsLawful, book_after, NodeValue}
+use Rattle.qs_book_laws.proofs.Words.{broken_restart, and_last, ltb-true}
+use Rattle.qs_book_journal.specs.declared.entry.Act.TheVariants.{Answer}
 use Rattle.qs_book_journal.specs.declared.entry.Act.TheVariants as acts
-use Rattle.qs_book_journal.specs.declared.entry.Entry.{Entry}
-use Rattle.qs_book_machine.specs.Transaction.{TransactionValue, is_open}
-use Rattle.qs_book_machine.specs.Book.{BookValue, find_transaction}
-use Rattle.qs_book_machine.specs.Clauses.{broken_begin, is_next_tid, is_fresh, broken_decide, may_decide, broken_outcome}
-use Rattle.qs_book_machine.specs.Lawful.{is_in_order, broken_act, broken_node, broken_at, broken, effect_act, effect, IsLawful, book_after}
-use Rattle.qs_book_machine.specs.Nodes.{NodeValue}
-use Rattle.qs_book_machine.specs.Restart.{broken_restart}
+use Rattle.qs_book_machine.specs.Clauses.{broken_begin, is_next_tid, is_fresh}
 use Rattle.qs_book_laws.proofs.Acts as of
 use Rattle.qs_book_laws.proofs.Outcomes.{Inv, Moves, moves_then, untold, by_alike, by_begin, by_decide}
 use Rattle.qs_book_laws.proofs.Restarts.{by_restart}
@@ -37,10 +26,6 @@ pub unheld : (b : Bool) (n : ℕ) (rest : Option ℕ) → (if b then Some n else
 unheld true n rest h = absurd (cc h)
 unheld false n rest h = h
 
-both : (a b : Bool) → (a && b) ≡ true → b ≡ true
-both true b h = h
-both false b h = absurd (cc h)
-
 pub begin_may : (here : ℕ) (node : NodeValue) (labels : List (List ℕ × Tid)) (tid : Tid) (label : List ℕ) → broken_begin here node labels tid label ≡ None → is_next_tid here node tid ≡ true
 begin_may here node labels tid label h = passed (is_next_tid here node tid) 10 (if not (is_fresh labels label) then Some 11 else None) h
 
@@ -48,10 +33,7 @@ pub decide_may : (here : ℕ) (node : NodeValue) (nodes : List NodeValue) (tid :
     → broken_decide here node nodes tid o stamp outcome cause ≡ None → (tx : TransactionValue) × (o ≡ Some tx) × (is_open tx.cell ≡ true)
 decide_may here node nodes tid None stamp outcome cause h = absurd (cc h)
 decide_may here node nodes tid (Some tx) stamp outcome cause h =
-    (tx, refl, both _ _ (held (may_decide here tid tx) 70 (broken_outcome node nodes tid tx stamp outcome cause) h).0)
-
-pub rises : (a b : ℕ) → nat_lt a b ≡ true → a < b
-rises a b h = grind (arith, nat_tests)
+    (tx, refl, and_last _ _ (held (may_decide here tid tx) 70 (broken_outcome node nodes tid tx stamp outcome cause) h).0)
 
 -- an act of a node that is up
 acted : (book : BookValue) (stamp here : ℕ) (node : NodeValue) (act : Act) → Inv book → slice_get book.nodes here ≡ Some node
@@ -77,7 +59,7 @@ acted book stamp here node (Restart inc pend done) i at h = absurd (cc h)
 node_acted : (book : BookValue) (stamp here : ℕ) (node : NodeValue) (act : Act) → Inv book → slice_get book.nodes here ≡ Some node
     → broken_node book stamp here node act ≡ None → Moves book (effect_act stamp here act book)
 node_acted book stamp here node (Restart inc pend done) i at h =
-    by_restart here inc pend done book node i at (rises node.inc inc (passed (nat_lt node.inc inc) 110 _ (unheld node.up 2 (broken_restart here book node inc pend done) h)))
+    by_restart here inc pend done book node i at (ltb-true node.inc inc (passed (nat_lt node.inc inc) 110 _ (unheld node.up 2 (broken_restart here book node inc pend done) h)))
 node_acted book stamp here node act i at h = acted book stamp here node act i at (held node.up 2 (broken_act book stamp here node act) h).1
 
 pub at_acted : (book : BookValue) (stamp here : ℕ) (o : Option NodeValue) (act : Act) → Inv book → slice_get book.nodes here ≡ o

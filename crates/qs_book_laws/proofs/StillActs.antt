@@ -1,27 +1,11 @@
 -- The acts that leave what the law of committed contents sees: all but begin, ask, a vote that goes on record, learning
 -- commit, and restart.
-use Rattle.std.proofs.Common.{◌≡◌, ℕ, ◌-◌, [], ◌∷◌, ◌==◌, ◌&&◌, Bool, true, false, List, Option, Some, None, refl, ap, ◌∙◌, fold, nat_lt, if◌then◌else◌}
-use Rattle.qs_base.specs.declared.identifiers.ClientNo.{ClientNo}
-use Rattle.qs_base.specs.declared.identifiers.Member.{Member}
-use Rattle.qs_base.specs.declared.identifiers.NodeNo.{NodeNo}
-use Rattle.qs_base.specs.declared.identifiers.Outcome.{Outcome}
+use Rattle.qs_book_laws.proofs.Words.{◌≡◌, ℕ, ◌-◌, [], ◌∷◌, ◌==◌, ◌&&◌, Bool, true, false, List, Option, Some, None, refl, ap, ◌∙◌, fold, nat_lt, if◌then◌else◌, ClientNo, Member, NodeNo, Outcome, Tid, Op, Reply, Vote, slice_get, TableValue, released, served, timer_served, timers_ended, TransactionValue, issued, learnt, is_crossed, standing_request, requests_at, Request, RequestNo, link_to, borrower_at, NodeValue, with_table, crossed_node, crossed_server, crossed_names, crossed_table, BookValue}
+use Rattle.qs_book_laws.proofs.Words.{find_transaction, with_node, with_transaction, with_waiting, with_crossing, crosses, issue, serve, serve_node, server_serve, crossed_serve, is_done, vote, vote_node, crossed_in, learn, learn_node, doubts_after, hear, answer, waiting_of, tick_node, crash_node, count, end, end_node, loan, loan_to, give_back, give_back_from, inc_at, pending_in, Asking}
 use Rattle.qs_base.specs.declared.identifiers.Outcome.TheVariants as outcomes
-use Rattle.qs_base.specs.declared.identifiers.Tid.{Tid}
 use Rattle.qs_ops.specs.declared.file.File.{File}
-use Rattle.qs_ops.specs.declared.operation.Op.{Op}
-use Rattle.qs_ops.specs.declared.reply.Reply.{Reply}
-use Rattle.qs_ops.specs.declared.vote.Vote.{Vote}
 use Rattle.qs_ops.specs.declared.vote.Vote.TheVariants as votes
-use Rattle.std.specs.Prelude.{slice_get}
-use Rattle.qs_ops.specs.Table.{TableValue, released, served, with_vote}
-use Rattle.qs_ops.specs.Timers.{timer_served, timers_ended}
-use Rattle.qs_book_machine.specs.Transaction.{TransactionValue, issued, learnt, is_crossed, standing_request, requests_at}
-use Rattle.qs_book_machine.specs.declared.transaction.Request.{Request}
-use Rattle.qs_book_machine.specs.declared.transaction.RequestNo.{RequestNo}
-use Rattle.qs_book_machine.specs.Clauses.{link_to, borrower_at}
-use Rattle.qs_book_machine.specs.Nodes.{NodeValue, with_table, crossed_node, crossed_server, crossed_names, crossed_table}
-use Rattle.qs_book_machine.specs.Book.{BookValue, find_transaction, with_node, with_transaction, with_waiting, with_crossing, crosses, issue, serve, serve_node, server_serve, crossed_serve, is_done, vote, vote_node, crossed_in, learn, learn_node, doubts_after, hear, answer, waiting_of, tick_node, crash_node, count, end, end_node, loan, loan_to, give_back, give_back_from, inc_at, pending_in}
-use Rattle.qs_book_machine.specs.declared.state.Asking.{Asking}
+use Rattle.qs_ops.specs.Table.{with_vote}
 use Rattle.qs_book_laws.proofs.Faces.{either_way}
 use Rattle.qs_book_laws.proofs.Stills.{facet, asked_of, Still, still_self, still_then, transaction_still, node_still, owner_still, either_still}
 

@@ -1,28 +1,16 @@
 -- The part of a member that is still to learn how a transaction ends: what keeps it so.
-use Rattle.std.proofs.Common.{◌≡◌, ℕ, ◌≤◌, ◌==◌, ◌+◌, ◌&&◌, not, Bool, true, false, Option, Some, None, refl, sym, ap, subst, ◌∙◌, [], arith, if◌then◌else◌}
-use Rattle.std.proofs.lemmas.Bool.Decides.{nat_tests}
-use Rattle.qs_base.specs.Order.{same_member, same_tid}
-use Rattle.qs_base.specs.declared.identifiers.Class.{Class}
+use Rattle.qs_book_laws.proofs.Words.{◌≡◌, ℕ, ◌≤◌, ◌==◌, ◌+◌, ◌&&◌, not, Bool, true, false, Option, Some, None, refl, sym, ap, subst, [], arith, if◌then◌else◌, le_refl, nat_tests, same_member, same_tid, Class, Member, Outcome, Tid, Act, BookValue, find_transaction, is_done, borrower_at, TransactionValue, is_abort, is_crossed, learnt_part, may_learn_still, part_of, serving_part, voted_part, Part, class_of, Vote, held_at, is_share, lets_go, le_one_more}
 use Rattle.qs_base.specs.declared.identifiers.Class.TheVariants as classes
-use Rattle.qs_base.specs.declared.identifiers.Member.{Member}
-use Rattle.qs_base.specs.declared.identifiers.Outcome.{Outcome}
 use Rattle.qs_base.specs.declared.identifiers.Outcome.TheVariants as outcomes
-use Rattle.qs_base.specs.declared.identifiers.Tid.{Tid}
-use Rattle.qs_book_journal.specs.declared.entry.Act.{Act}
 use Rattle.qs_book_journal.specs.declared.entry.Act.TheVariants as acts
-use Rattle.qs_book_machine.specs.Book.{BookValue, find_transaction, is_done}
-use Rattle.qs_book_machine.specs.Clauses.{borrower_at}
-use Rattle.qs_book_machine.specs.Transaction.{TransactionValue, is_abort, is_crossed, is_let_go, learnt_part, may_learn_still, part_of, serving_part, voted_part}
-use Rattle.qs_book_machine.specs.declared.transaction.Part.{Part}
-use Rattle.qs_ops.specs.Members.{class_of}
-use Rattle.qs_ops.specs.declared.vote.Vote.{Vote}
+use Rattle.qs_book_machine.specs.Transaction.{is_let_go}
 use Rattle.qs_ops.specs.declared.vote.Vote.TheVariants as votes
-use Rattle.qs_book_laws.specs.Served.{held_at, is_share, lets_go}
 use Rattle.qs_book_laws.proofs.Begun.{inc_in}
 use Rattle.qs_book_laws.proofs.FoundParts.{IsFoundPart}
 use Rattle.qs_book_laws.proofs.Leaves.{serves_on}
 use Rattle.qs_book_laws.proofs.Parts.{is_own, part_after, part_for}
 use Rattle.qs_book_laws.proofs.Shares.{number}
+use Rattle.qs_base_lemmas.proofs.Tests.{never_both}
 
 -- ---- a part: its votes stand for at most what it served
 
@@ -36,25 +24,19 @@ covers_each tid member inc now stamp here act part most = of act
     choose true f p = p
     choose false f p = most
 
-    more : (n m : ℕ) → n ≤ m → n ≤ m + 1
-    more n m h = omega arith
-
-    itself : (n : ℕ) → n ≤ n
-    itself n = omega arith
-
     serves : (c : Class) (done : Bool) → IsMost (serving_part c stamp done part)
-    serves classes.Activity done = more part.voted part.served most
-    serves classes.Recoverable done = more part.voted part.served most
-    serves classes.Volatile done = more part.voted part.served most
-    serves classes.Standard done = more part.voted part.served most
-    serves classes.Delayed done = more part.voted part.served most
-    serves classes.Immediate done = more part.voted part.served most
+    serves classes.Activity done = le_one_more part.voted part.served most
+    serves classes.Recoverable done = le_one_more part.voted part.served most
+    serves classes.Volatile done = le_one_more part.voted part.served most
+    serves classes.Standard done = le_one_more part.voted part.served most
+    serves classes.Delayed done = le_one_more part.voted part.served most
+    serves classes.Immediate done = le_one_more part.voted part.served most
 
     votes_for : (ballot : Vote) → IsMost (voted_part ballot part)
-    votes_for (votes.Abort reason) = itself part.served
-    votes_for votes.ReadOnly = itself part.served
-    votes_for votes.Volatile = itself part.served
-    votes_for votes.Recoverable = itself part.served
+    votes_for (votes.Abort reason) = le_refl part.served
+    votes_for votes.ReadOnly = le_refl part.served
+    votes_for votes.Volatile = le_refl part.served
+    votes_for votes.Recoverable = le_refl part.served
 
     learns : (outcome : Outcome) → IsMost (learnt_part outcome part)
     learns outcomes.Commit = most
@@ -128,17 +110,14 @@ module _ (tid : Tid) (member : Member) (inc now stamp here : ℕ) (part : Part) 
       by true false c e = absurd (cc e)
       by false b c e = absurd (cc e)
 
-  differ : (b : Bool) → b ≡ true → b ≡ false → ⊥
-  differ b p q = cc (sym p ∙ q)
-
   pub stays_unlearnt : (at : ℕ) (act : Act) → serves_on tid member act ≡ false → lets_go tid member at act ≡ false → ((t : Tid) (other : Member) → act ≡ acts.Ending t other → is_share tid member t other ≡ true → ⊥) → IsUnlearnt (part_after tid member inc now stamp here act part)
-  stays_unlearnt at (acts.Serve t other from n reply) idle holds ends = on_or (is_own tid member inc t other now) _ (λ own. absurd (differ (is_share tid member t other) (own_share t other own) idle))
+  stays_unlearnt at (acts.Serve t other from n reply) idle holds ends = on_or (is_own tid member inc t other now) _ (λ own. absurd (never_both (is_share tid member t other) (own_share t other own) idle))
   stays_unlearnt at (acts.Vote t other ballot covers) idle holds ends = on_or (is_own tid member inc t other now) (voted_part ballot part) (λ own. votes_unlearnt ballot part (λ same. off ballot same (own_share t other own) holds) is)
     where
       off : (ballot : Vote) → ballot ≡ votes.ReadOnly → is_share tid member t other ≡ true → lets_go tid member at (acts.Vote t other ballot covers) ≡ false → ⊥
-      off ballot same share holds = differ (is_share tid member t other) share (subst (λ (b : Vote). lets_go tid member at (acts.Vote t other b covers) ≡ false) same holds)
+      off ballot same share holds = never_both (is_share tid member t other) share (subst (λ (b : Vote). lets_go tid member at (acts.Vote t other b covers) ≡ false) same holds)
   stays_unlearnt at (acts.Ending t other) idle holds ends = on_or (is_own tid member inc t other now) _ (λ own. absurd (ends t other refl (own_share t other own)))
-  stays_unlearnt at (acts.Learn t other outcome) idle holds ends = on_or (is_own tid member inc t other now) _ (λ own. absurd (differ (is_share tid member t other) (own_share t other own) holds))
+  stays_unlearnt at (acts.Learn t other outcome) idle holds ends = on_or (is_own tid member inc t other now) _ (λ own. absurd (never_both (is_share tid member t other) (own_share t other own) holds))
   stays_unlearnt at (acts.Loan t client) idle holds ends = on_for t (borrower_at client here) _ is
   stays_unlearnt at (acts.Yield t client) idle holds ends = on_for t (borrower_at client here) _ is
   stays_unlearnt at act idle holds ends = is

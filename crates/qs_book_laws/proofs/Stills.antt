@@ -1,18 +1,7 @@
 -- What the law of committed contents sees of a book: whether commit was asked for of each transaction; of each node the
 -- contents that files and audit have committed, what is on record, and the Commits of its log. And steps that leave it.
-use Rattle.std.proofs.Common.{◌≡◌, ℕ, Bool, true, false, List, Option, refl, ◌∙◌, if◌then◌else◌}
-use Rattle.std.specs.Prelude.{slice_get}
-use Rattle.std.specs.Option.{option_map}
-use Rattle.std.specs.BTreeMap.{is_at}
-use Rattle.qs_base.specs.Order.{tid_cmp}
-use Rattle.qs_base.specs.declared.identifiers.Tid.{Tid}
+use Rattle.qs_book_laws.proofs.Words.{◌≡◌, ℕ, Bool, true, false, List, Option, refl, ◌∙◌, if◌then◌else◌, slice_get, option_map, is_at, tid_cmp, Tid, TransactionValue, BookValue, find_transaction, with_node, with_transaction, with_owner, NodeValue, OnRecord, Owner, Voter}
 use Rattle.qs_ops.specs.declared.file.File.{File}
-use Rattle.qs_book_machine.specs.Transaction.{TransactionValue}
-use Rattle.qs_book_machine.specs.Book.{BookValue, find_transaction, with_node, with_transaction, with_owner}
-use Rattle.qs_book_machine.specs.Nodes.{NodeValue}
-use Rattle.qs_book_machine.specs.declared.state.OnRecord.{OnRecord}
-use Rattle.qs_book_machine.specs.declared.state.Owner.{Owner}
-use Rattle.qs_book_machine.specs.declared.state.Voter.{Voter}
 use Rattle.qs_book_laws.proofs.Maps.{changed_alike, changed_at_alike}
 
 pub record Facet : Type 0 where

@@ -1,52 +1,33 @@
 -- A transaction is one that a node's restart cost exactly where, at some moment later than that, a request to the node was open.
-use Rattle.std.proofs.Common.{◌≡◌, ◌⊎◌, inl, inr, ℕ, ◌<◌, ◌==◌, ◌&&◌, Bool, true, false, List, [], ◌∷◌, ◌++◌, Option, Some, None, refl, sym, ap, subst, ◌∙◌, if◌then◌else◌, arith, ◌||◌}
-use Rattle.std.proofs.lemmas.Bool.Decides.{nat_tests}
-use Rattle.std.specs.Prelude.{slice_get, nat_lt}
-use Rattle.std.specs.List.{list_any}
-use Rattle.qs_base.specs.declared.identifiers.NodeNo.{NodeNo}
-use Rattle.qs_base.specs.declared.identifiers.Tid.{Tid}
-use Rattle.qs_book_journal.specs.declared.entry.Entry.{Entry}
-use Rattle.qs_book_machine.specs.Transaction.{TransactionValue, peer_of, is_gone}
-use Rattle.qs_book_machine.specs.Book.{BookValue, find_transaction, inc_at}
+use Rattle.qs_book_laws.proofs.Words.{◌≡◌, ◌⊎◌, inl, inr, ℕ, ◌<◌, ◌==◌, Bool, true, List, [], ◌∷◌, ◌++◌, Option, Some, None, refl, sym, ap, subst, ◌∙◌, if◌then◌else◌, ◌||◌, slice_get, nat_lt, list_any, NodeNo, Tid, Entry, TransactionValue, peer_of, is_gone, BookValue, find_transaction, inc_at, effect, IsLawful, book_after, NodeValue, opening, Opened, Owner, restarts_into, ran_as, IsCoherent, option_map, slice_get-map, opened_node, ltb-true, or-false}
 use Rattle.qs_book_machine.specs.Clauses.{is_gone_cause}
-use Rattle.qs_book_machine.specs.Lawful.{effect, IsLawful, book_after}
-use Rattle.qs_book_machine.specs.Nodes.{NodeValue}
-use Rattle.qs_book_machine.specs.Opening.{opening, no_owner}
-use Rattle.qs_book_machine.specs.declared.opened.Opened.{Opened}
-use Rattle.qs_book_machine.specs.declared.state.Owner.{Owner}
-use Rattle.qs_book_laws.specs.Gone.{restarts_into, ran_as}
-use Rattle.qs_book_laws.specs.Laws.{IsCoherent}
+use Rattle.qs_book_machine.specs.Opening.{no_owner}
 use Rattle.qs_book_laws.proofs.Always.{opening_so}
 use Rattle.qs_book_laws.proofs.Gone.{gone_in, IsPast, Keeps, Moved, IsBare, bare_goes, bare_past, moved}
 use Rattle.qs_book_laws.proofs.Holding.{right_of, clash}
 use Rattle.qs_book_laws.proofs.Openings.{opening_holds, opening_names, same_of}
 use Rattle.qs_book_laws.proofs.OpenThen.{is_open_in, is_open_at, OpenThen}
 use Rattle.qs_book_laws.proofs.Outcomes.{Inv}
-use Rattle.qs_book_laws.proofs.Steps.{stepped, ran, after_both, lawful_front, lawful_rest, rises}
+use Rattle.qs_book_laws.proofs.Steps.{stepped, ran, after_both, lawful_front, lawful_rest}
 use Rattle.qs_book_laws.proofs.Unanswered.{Waits}
 use Rattle.qs_book_laws.proofs.Waiting.{waits_after}
 use Rattle.qs_book_laws.proofs.WaitsByEntries.{waits_through}
-use Rattle.std.specs.Option.{option_map}
-use Rattle.std.proofs.lemmas.Option.{slice_get-map}
-use Rattle.qs_book_machine.specs.Opening.{opened_node}
 use Rattle.qs_book_laws.proofs.InRun.{in_run}
 use Rattle.qs_book_laws.proofs.LiveOpenings.{log_at}
 use Rattle.qs_book_laws.proofs.Pasts.{run_of, has_run, ran_at, ran_through}
+use Rattle.std.proofs.lemmas.Bool.{lt-ltb, and_from}
 
 module _ (tid : Tid) (node : NodeNo) (gone : ℕ) where
   -- it was open, and so it is past from then on
   past_then : (book : BookValue) → gone < inc_at book node → is_open_at book tid node ≡ true → IsPast tid node gone book ≡ true
   past_then book later stood = of (find_transaction book tid) stood
     where
-      below : (a b : ℕ) → a < b → nat_lt a b ≡ true
-      below a b h = grind (arith, nat_tests)
-
       of : (o : Option TransactionValue) → is_open_in node o ≡ true → gone_in tid node gone (inc_at book node) o ≡ true
       of None h = absurd (cc h)
-      of (Some tx) h = ap (λ (b : Bool). nat_lt gone (if b then inc_at book node else (peer_of tx node).reached)) h ∙ below gone (inc_at book node) later
+      of (Some tx) h = ap (λ (b : Bool). nat_lt gone (if b then inc_at book node else (peer_of tx node).reached)) h ∙ lt-ltb gone (inc_at book node) later
 
   later_then : (book : BookValue) → IsPast tid node gone book ≡ true → is_open_at book tid node ≡ true → gone < inc_at book node
-  later_then book past stood = rises gone (inc_at book node) (of (find_transaction book tid) past stood)
+  later_then book past stood = ltb-true gone (inc_at book node) (of (find_transaction book tid) past stood)
     where
       of : (o : Option TransactionValue) → gone_in tid node gone (inc_at book node) o ≡ true → is_open_in node o ≡ true → nat_lt gone (inc_at book node) ≡ true
       of None p h = absurd (cc h)
@@ -130,13 +111,9 @@ pub gone_then : (opened : List Opened) (history : List Entry) (tid : Tid) (node 
     → find_transaction (book_after (opening opened) history) tid ≡ Some tx → slice_get (book_after (opening opened) history).nodes node.0 ≡ Some peer → list_any (λ (p : ℕ). p == gone) peer.past ≡ true
     → OpenThen (opening opened) history tid node gone → is_gone_cause (Some peer) tx node gone ≡ true
 gone_then opened history tid node gone tx peer coherent lawful found there had s =
-    both (list_any (λ (p : ℕ). p == gone) peer.past) (is_gone tx node peer.inc gone) had
+    and_from (list_any (λ (p : ℕ). p == gone) peer.past) (is_gone tx node peer.inc gone) had
     (sym (ap (λ (n : ℕ). is_gone tx node n gone) (peer_inc (book_after (opening opened) history) node peer there)) ∙ (sym (ap (gone_in tid node gone (inc_at (book_after (opening opened) history) node)) found) ∙ past))
   where
-    both : (a b : Bool) → a ≡ true → b ≡ true → (a && b) ≡ true
-    both true b p q = q
-    both false b p q = absurd (cc p)
-
     whole : IsLawful (opening opened) (s.early ++ s.late)
     whole = subst (λ (h : List Entry). IsLawful (opening opened) h) s.parts lawful
 
@@ -167,12 +144,8 @@ gone_then opened history tid node gone tx peer coherent lawful found there had s
 ran_first : (opened : List Opened) (one : Opened) (node : NodeNo) (gone : ℕ) → IsCoherent opened → slice_get opened node.0 ≡ Some one → ran_at node gone (opening opened) ≡ (inc_at (opening opened) node == gone)
 ran_first opened one node gone coherent is =
     ap (λ (o : Option NodeValue). has_run node gone (option_map run_of o)) there
-    ∙ (or_none (one.inc == gone) ∙ ap (λ (n : ℕ). n == gone) (sym (peer_inc (opening opened) node (opened_node one) there)))
+    ∙ (or-false (one.inc == gone) ∙ ap (λ (n : ℕ). n == gone) (sym (peer_inc (opening opened) node (opened_node one) there)))
   where
-    or_none : (b : Bool) → (b || false) ≡ b
-    or_none true = refl
-    or_none false = refl
-
     there : slice_get (opening opened).nodes node.0 ≡ Some (opened_node one)
     there =
         ap (λ (nodes : List NodeValue). slice_get nodes node.0) (opening_names opened coherent).nodes

@@ -1,21 +1,8 @@
 -- What a step does to the committed files and notes of a node: nothing, or what learning commit applies.
-use Rattle.std.proofs.Common.{◌≡◌, ◌⊎◌, ℕ, [], ◌∷◌, ◌==◌, Bool, true, false, List, Option, Some, None, fold, inl, inr, refl, sym, ap, subst, ◌∙◌, arith, if◌then◌else◌}
-use Rattle.std.proofs.lemmas.Bool.Decides.{nat_tests}
+use Rattle.qs_book_laws.proofs.Words.{◌≡◌, ◌⊎◌, ℕ, [], ◌∷◌, ◌==◌, Bool, true, false, List, Option, Some, None, fold, inl, inr, refl, sym, ap, subst, ◌∙◌, arith, if◌then◌else◌, nat_tests, slice_get, is_some, All, append-nil, OnRecord, Voter, lookup, remove_entry, option_map, is_at, Tid, TableValue, committed, share_of, apply_change, apply_note, BookValue, learn_node, doubts_after, changed_at, NodeValue, with_table, pending_at, voter, voter_cmp, IsCommitted, TakesCommitted, LeavesCommitted}
 use Rattle.std.proofs.lemmas.List.Elements.{All-cons, All-nil}
-use Rattle.std.specs.Prelude.{slice_get, is_some}
-use Rattle.std.specs.List.{All}
-use Rattle.std.proofs.lemmas.List.{append-nil}
-use Rattle.qs_book_machine.specs.declared.state.OnRecord.{OnRecord}
-use Rattle.qs_book_machine.specs.declared.state.Voter.{Voter}
-use Rattle.std.specs.Map.{lookup, remove_entry}
-use Rattle.std.specs.Option.{option_map}
-use Rattle.std.specs.BTreeMap.{is_at}
 use Rattle.qs_base.specs.declared.identifiers.Outcome.TheVariants as outcomes
-use Rattle.qs_base.specs.declared.identifiers.Tid.{Tid}
-use Rattle.qs_ops.specs.Table.{TableValue, committed, share_of, apply_change, apply_note}
-use Rattle.qs_book_machine.specs.Book.{BookValue, learn_node, doubts_after, changed_at}
-use Rattle.qs_book_machine.specs.Nodes.{NodeValue, with_table, pending_at, voter, voter_cmp}
-use Rattle.qs_book_laws.specs.Laws.{Given, IsCommitted, IsGiven, TakesCommitted, LeavesCommitted}
+use Rattle.qs_book_laws.specs.Laws.{Given, IsGiven}
 use Rattle.qs_book_laws.proofs.Faces.{either_way}
 use Rattle.qs_book_laws.proofs.Maps.{changed_at_either}
 use Rattle.qs_book_laws.proofs.Shut.{Changes, remove_changes}

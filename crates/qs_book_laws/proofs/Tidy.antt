@@ -1,43 +1,14 @@
 -- What the tables of files and audit hold, and what a log holds, has one entry for each key at every time.
-use Rattle.std.proofs.Common.{◌≡◌, ◌⊎◌, ℕ, Bool, true, false, List, [], ◌∷◌, ◌==◌, ◌&&◌, Option, Some, None, inl, inr, refl, sym, ap, subst, ◌∙◌, fold, map, if◌then◌else◌}
-use Rattle.std.proofs.lemmas.Option.{slice_get-map}
-use Rattle.std.specs.Prelude.{slice_get, slice_set, flat_map}
-use Rattle.std.specs.Option.{option_map}
-use Rattle.std.specs.BTreeMap.{is_at}
-use Rattle.qs_base.specs.Order.{tid_cmp}
-use Rattle.qs_base.specs.declared.identifiers.Member.{Member}
-use Rattle.qs_base.specs.declared.identifiers.Outcome.{Outcome}
+use Rattle.qs_book_laws.proofs.Words.{◌≡◌, ◌⊎◌, ℕ, Bool, true, false, List, [], ◌∷◌, ◌==◌, ◌&&◌, Option, Some, None, inl, inr, refl, sym, ap, subst, ◌∙◌, fold, map, if◌then◌else◌, slice_get-map, slice_get, slice_set, flat_map, option_map, is_at, tid_cmp, Member, Outcome, Tid, Op, Reply, Vote, tid_total, Act, Begin, Issue, Serve, Ask, Counted, Decide, Ending, Learn, Loan, Yield, Tick, Crash, Restart, Entry, Found, TableValue, served, released, committed, restarted, applied, kept, share_of}
+use Rattle.qs_book_laws.proofs.Words.{no_table, timer_served, timers_ended, Kept, TransactionValue, is_crossed, standing_request, requests_at, issued, Request, RequestNo, BookValue, find_transaction, changed_at, with_owner, with_transaction, with_waiting, with_crossing, crosses, serve_node, server_serve, crossed_serve, is_done, vote_node, crossed_in, learn_node, doubts_after, hear, answer, waiting_of, inc_at, end_node, tick_node, crash_node, loan_to, give_back_from, pending_in, link_to}
+use Rattle.qs_book_laws.proofs.Words.{borrower_at, effect_act, effect, NodeValue, with_table, crossed_node, crossed_server, crossed_names, without_record, pending_at, voter, voter_cmp, opened_node, put_record, put_of, note_of, keep_pending, opening, is_found, restarted_node, reopened, without_records, with_votes, new_votes, put_new_votes, Opened, Pending, OnRecord, Owner, Reopened, Voter, IsCoherent}
 use Rattle.qs_base.specs.declared.identifiers.Outcome.TheVariants as outcomes
-use Rattle.qs_base.specs.declared.identifiers.Tid.{Tid}
-use Rattle.qs_ops.specs.declared.operation.Op.{Op}
-use Rattle.qs_ops.specs.declared.reply.Reply.{Reply}
-use Rattle.qs_ops.specs.declared.vote.Vote.{Vote}
 use Rattle.qs_ops.specs.declared.vote.Vote.TheVariants as votes
-use Rattle.qs_base.proofs.TidOrder.{tid_total}
-use Rattle.qs_book_journal.specs.declared.entry.Act.{Act}
-use Rattle.qs_book_journal.specs.declared.entry.Act.TheVariants.{Begin, Issue, Serve, Ask, Counted, Decide, Ending, Learn, Answer, Loan, Yield, Tick, Crash, Restart}
+use Rattle.qs_book_journal.specs.declared.entry.Act.TheVariants.{Answer}
 use Rattle.qs_book_journal.specs.declared.entry.Act.TheVariants as acts
-use Rattle.qs_book_journal.specs.declared.entry.Entry.{Entry}
-use Rattle.qs_book_journal.specs.declared.entry.Found.{Found}
-use Rattle.qs_ops.specs.Table.{TableValue, served, released, committed, with_vote, restarted, applied, kept, share_of, after_serve, no_table}
-use Rattle.qs_ops.specs.Timers.{timer_served, timers_ended}
-use Rattle.qs_ops.specs.declared.share.KeptChanges.{KeptChanges}
-use Rattle.qs_book_machine.specs.Transaction.{TransactionValue, is_crossed, standing_request, requests_at, issued}
-use Rattle.qs_book_machine.specs.declared.transaction.Request.{Request}
-use Rattle.qs_book_machine.specs.declared.transaction.RequestNo.{RequestNo}
-use Rattle.qs_book_machine.specs.Book.{BookValue, find_transaction, changed_at, with_owner, with_transaction, with_waiting, with_crossing, crosses, serve_node, server_serve, crossed_serve, is_done, vote_node, crossed_in, learn_node, doubts_after, hear, answer, waiting_of, inc_at, end_node, tick_node, crash_node, loan_to, give_back_from, pending_in}
-use Rattle.qs_book_machine.specs.Clauses.{link_to, borrower_at}
-use Rattle.qs_book_machine.specs.Lawful.{effect_act, effect}
-use Rattle.qs_book_machine.specs.Nodes.{NodeValue, with_table, crossed_node, crossed_server, crossed_names, with_doubts, without_doubts, without_record, bound_names, pending_at, voter, voter_cmp}
-use Rattle.qs_book_machine.specs.Opening.{opened_node, put_record, put_of, note_of, keep_pending, opening}
-use Rattle.qs_book_machine.specs.Restart.{is_found, restarted_node, reopened, without_records, with_votes, with_vote as put_vote, new_votes, put_new_votes}
-use Rattle.qs_book_machine.specs.declared.opened.Opened.{Opened}
-use Rattle.qs_book_machine.specs.declared.opened.Pending.{Pending}
-use Rattle.qs_book_machine.specs.declared.state.OnRecord.{OnRecord}
-use Rattle.qs_book_machine.specs.declared.state.Owner.{Owner}
-use Rattle.qs_book_machine.specs.declared.state.Reopened.{Reopened}
-use Rattle.qs_book_machine.specs.declared.state.Voter.{Voter}
-use Rattle.qs_book_laws.specs.Laws.{IsCoherent}
+use Rattle.qs_ops.specs.Table.{with_vote, after_serve}
+use Rattle.qs_book_machine.specs.Nodes.{with_doubts, without_doubts, bound_names}
+use Rattle.qs_book_machine.specs.Restart.{with_vote as put_vote}
 use Rattle.qs_book_laws.proofs.Holding.{waiting_nodes, fold_nodes, loan_nodes, yield_nodes, restart_nodes}
 use Rattle.qs_book_laws.proofs.Maps.{changed_at_either}
 use Rattle.qs_book_laws.proofs.Openings.{first_book, opening_names}
@@ -71,11 +42,11 @@ served_tidy tid op reply table t = put_rises tid_cmp tid_total tid (after_serve 
 vote_tidy : (tid : Tid) (voted : Bool) → KeepsTidy (λ table. with_vote table tid voted)
 vote_tidy tid voted table t = put_rises tid_cmp tid_total tid (record (share_of table tid) { voted = voted }) table.shares t
 
-all_kept : (keeps : List KeptChanges) (table : TableValue) → IsTidyTable table → IsTidyTable (fold kept table keeps)
+all_kept : (keeps : List Kept) (table : TableValue) → IsTidyTable table → IsTidyTable (fold kept table keeps)
 all_kept [] table t = t
 all_kept (k ∷ keeps) table t = all_kept keeps (kept table k) (put_rises tid_cmp tid_total k.tid _ table.shares t)
 
-restarted_tidy : (table : TableValue) (changes : List Op) (keeps : List KeptChanges) → IsTidyTable (restarted table changes keeps)
+restarted_tidy : (table : TableValue) (changes : List Op) (keeps : List Kept) → IsTidyTable (restarted table changes keeps)
 restarted_tidy table changes keeps = all_kept keeps (record (applied table changes) { shares = [] }) tt
 
 with_table_tidy : (s : ℕ) (f : TableValue → TableValue) → KeepsTidy f → (v : NodeValue) → IsTidy v → IsTidy (with_table s f v)

@@ -1,35 +1,11 @@
 -- What an entry does to one transaction: what holds of it turns, act by act, into what the act's own change gives.
-use Rattle.std.proofs.Common.{◌≡◌, ℕ, Bool, true, false, List, [], ◌∷◌, Option, Some, None, refl, sym, ap, subst, ◌∙◌, fold, if◌then◌else◌}
-use Rattle.std.specs.Prelude.{is_some, slice_get}
-use Rattle.std.specs.Option.{option_map}
-use Rattle.std.specs.Map.{lookup}
-use Rattle.std.specs.BTreeMap.{is_at}
-use Rattle.qs_base.specs.Order.{tid_cmp, same_tid}
-use Rattle.qs_base.specs.declared.identifiers.ClientNo.{ClientNo}
-use Rattle.qs_base.specs.declared.identifiers.Member.{Member}
-use Rattle.qs_base.specs.declared.identifiers.NodeNo.{NodeNo}
-use Rattle.qs_base.specs.declared.identifiers.Outcome.{Outcome}
+use Rattle.qs_book_laws.proofs.Words.{◌≡◌, ℕ, Bool, true, false, List, [], ◌∷◌, Option, Some, None, refl, sym, ap, subst, ◌∙◌, fold, if◌then◌else◌, is_some, slice_get, option_map, lookup, is_at, tid_cmp, same_tid, ClientNo, Member, NodeNo, Outcome, Tid, same_tid-true, tid_exact, Cause, Op, Act, Begin, Issue, Serve, Ask, Counted, Decide, Ending, Learn, Loan, Yield, Tick, Crash, Restart, Entry, Found, TransactionValue, begun, issued, asked_at, counted, ended, learnt, lent, given_back, voted}
+use Rattle.qs_book_laws.proofs.Words.{served_in, decided_at, heard, with_learnt, found_at, Request, RequestNo, BookValue, find_transaction, with_owner, with_transaction, with_waiting, crosses, begin, issue, hear, answer, waiting_of, inc_at, is_done, ticks_at, decide, loan_to, give_back_from, link_to, borrower_at, is_in_order, broken_act, broken_node, broken_at, broken, effect_act, effect, NodeValue, restart, put_new_votes, up_to, begun_at, abort_begun, vote_found, commit_found, learn_found}
+use Rattle.qs_book_laws.proofs.Words.{is_among, is_open_here, begun_tid, record_at, member_at, count_of as pending_of, Owner}
 use Rattle.qs_base.specs.declared.identifiers.Outcome.TheVariants as outcomes
-use Rattle.qs_base.specs.declared.identifiers.Tid.{Tid}
-use Rattle.qs_base.proofs.Same.{same_tid-true}
-use Rattle.qs_base.proofs.TidOrder.{tid_exact}
-use Rattle.qs_ops.specs.declared.answer.Cause.{Cause}
 use Rattle.qs_ops.specs.declared.answer.Cause.TheVariants as causes
-use Rattle.qs_ops.specs.declared.operation.Op.{Op}
-use Rattle.qs_book_journal.specs.declared.entry.Act.{Act}
-use Rattle.qs_book_journal.specs.declared.entry.Act.TheVariants.{Begin, Issue, Serve, Ask, Counted, Decide, Ending, Learn, Answer, Loan, Yield, Tick, Crash, Restart}
+use Rattle.qs_book_journal.specs.declared.entry.Act.TheVariants.{Answer}
 use Rattle.qs_book_journal.specs.declared.entry.Act.TheVariants as acts
-use Rattle.qs_book_journal.specs.declared.entry.Entry.{Entry}
-use Rattle.qs_book_journal.specs.declared.entry.Found.{Found}
-use Rattle.qs_book_machine.specs.Transaction.{TransactionValue, begun, issued, asked_at, counted, ended, learnt, lent, given_back, voted, served_in, decided_at, heard, with_learnt, found_at}
-use Rattle.qs_book_machine.specs.declared.transaction.Request.{Request}
-use Rattle.qs_book_machine.specs.declared.transaction.RequestNo.{RequestNo}
-use Rattle.qs_book_machine.specs.Book.{BookValue, find_transaction, with_owner, with_transaction, with_waiting, crosses, begin, issue, hear, answer, waiting_of, inc_at, is_done, ticks_at, decide, loan_to, give_back_from}
-use Rattle.qs_book_machine.specs.Clauses.{link_to, borrower_at}
-use Rattle.qs_book_machine.specs.Lawful.{is_in_order, broken_act, broken_node, broken_at, broken, effect_act, effect}
-use Rattle.qs_book_machine.specs.Nodes.{NodeValue}
-use Rattle.qs_book_machine.specs.Restart.{restart, put_new_votes, up_to, begun_at, abort_begun, vote_found, commit_found, learn_found, is_among, is_open_here, begun_tid, record_at, member_at, count_of as pending_of}
-use Rattle.qs_book_machine.specs.declared.state.Owner.{Owner}
 use Rattle.qs_book_laws.proofs.Alikes.{at_exact}
 use Rattle.qs_book_laws.proofs.Faces.{face}
 use Rattle.qs_book_laws.proofs.Holding.{crossing_transactions, waiting_transactions}

@@ -1,33 +1,13 @@
 -- A cell becomes commit only where the transaction is unanimous.
-use Rattle.std.proofs.Common.{◌≡◌, ◌⊎◌, inl, inr, ℕ, Bool, true, false, List, [], ◌∷◌, ◌++◌, ◌==◌, ◌&&◌, ◌||◌, Option, Some, None, refl, sym, ap, subst, ◌∙◌, fold, if◌then◌else◌}
-use Rattle.std.specs.Prelude.{slice_get}
-use Rattle.std.specs.List.{list_all}
-use Rattle.std.specs.Option.{option_map}
-use Rattle.std.specs.Map.{lookup, set_value}
-use Rattle.std.specs.BTreeMap.{is_at}
-use Rattle.std.specs.declared.cmp.Ordering.TheVariants.{Equal}
-use Rattle.qs_base.specs.Order.{tid_cmp, same_tid}
-use Rattle.qs_base.specs.declared.identifiers.ClientNo.{ClientNo}
+use Rattle.qs_book_laws.proofs.Words.{◌≡◌, ◌⊎◌, inl, inr, ℕ, Bool, true, false, List, [], ◌∷◌, ◌++◌, ◌==◌, ◌&&◌, ◌||◌, Option, Some, None, refl, sym, ap, subst, ◌∙◌, fold, if◌then◌else◌, slice_get, list_all, option_map, lookup, set_value, is_at, Equal, tid_cmp, same_tid, ClientNo, Tid, same_tid-true, same_tid-self, Cause, Act, Begin, Issue, Serve, Ask, Counted, Decide, Ending, Learn, Loan, Yield, Tick, Crash, Restart, Entry, Found, TransactionValue, is_open, is_commit, is_unanimous, decided_at}
+use Rattle.qs_book_laws.proofs.Words.{found_at, begun, BookValue, find_transaction, cell_of_transaction, with_transaction, decide, begin, ticks_at, inc_at, broken_decide, may_decide, broken_outcome, is_in_order, broken_act, broken_node, broken_at, broken, effect_act, effect, IsLawful, book_after, NodeValue, opening, is_among, member_at, is_open_here, commit_found, vote_found, begun_tid, abort_begun, up_to, begun_at, put_new_votes, restart, is_found_commit, broken_restart, record_at}
+use Rattle.qs_book_laws.proofs.Words.{count_of as pending_of, Opened, IsCommitted, IsCoherent}
 use Rattle.qs_base.specs.declared.identifiers.Outcome.TheVariants as outcomes
-use Rattle.qs_base.specs.declared.identifiers.Tid.{Tid}
-use Rattle.qs_base.proofs.Same.{same_tid-true, same_tid-self}
-use Rattle.qs_ops.specs.declared.answer.Cause.{Cause}
 use Rattle.qs_ops.specs.declared.answer.Cause.TheVariants as causes
-use Rattle.qs_book_journal.specs.declared.entry.Act.{Act}
-use Rattle.qs_book_journal.specs.declared.entry.Act.TheVariants.{Begin, Issue, Serve, Ask, Counted, Decide, Ending, Learn, Answer, Loan, Yield, Tick, Crash, Restart}
+use Rattle.qs_book_journal.specs.declared.entry.Act.TheVariants.{Answer}
 use Rattle.qs_book_journal.specs.declared.entry.Act.TheVariants as acts
-use Rattle.qs_book_journal.specs.declared.entry.Entry.{Entry}
-use Rattle.qs_book_journal.specs.declared.entry.Found.{Found}
-use Rattle.qs_book_machine.specs.Transaction.{TransactionValue, is_open, is_commit, is_unanimous, decided_at, found_at, begun}
 use Rattle.qs_book_machine.specs.declared.transaction.Cell.TheVariants as cells
-use Rattle.qs_book_machine.specs.Book.{BookValue, find_transaction, cell_of_transaction, with_transaction, decide, begin, ticks_at, inc_at}
-use Rattle.qs_book_machine.specs.Clauses.{broken_decide, may_decide, broken_outcome}
-use Rattle.qs_book_machine.specs.Lawful.{is_in_order, broken_act, broken_node, broken_at, broken, effect_act, effect, IsLawful, book_after}
-use Rattle.qs_book_machine.specs.Nodes.{NodeValue}
-use Rattle.qs_book_machine.specs.Opening.{opening}
-use Rattle.qs_book_machine.specs.Restart.{is_among, member_at, is_open_here, commit_found, vote_found, begun_tid, abort_begun, up_to, begun_at, put_new_votes, restart, is_committed, is_found_commit, broken_restart, record_at, count_of as pending_of}
-use Rattle.qs_book_machine.specs.declared.opened.Opened.{Opened}
-use Rattle.qs_book_laws.specs.Laws.{IsCommitted, IsCoherent}
+use Rattle.qs_book_machine.specs.Restart.{is_committed}
 use Rattle.qs_book_laws.proofs.Acts as alike
 use Rattle.qs_book_laws.proofs.Alikes.{at_exact, tid_itself}
 use Rattle.qs_book_laws.proofs.Committed.{ran_shut}

@@ -1,21 +1,9 @@
 -- What is kept of the requests of clients that have no answer: by client, and by transaction and node; and that both say the same.
-use Rattle.std.proofs.Common.{◌≡◌, ℕ, ◌+◌, ◌-◌, ◌==◌, ◌&&◌, Bool, true, false, List, [], ◌∷◌, ◌++◌, Option, Some, None, refl, sym, ap, subst, ◌∙◌, if◌then◌else◌, arith}
-use Rattle.std.proofs.lemmas.Bool.Decides.{nat_tests}
-use Rattle.std.specs.Prelude.{is_some, unwrap_or}
-use Rattle.std.specs.Map.{lookup}
-use Rattle.std.specs.BTreeMap.{is_at, insert_entry}
-use Rattle.std.specs.declared.cmp.Ordering.{Ordering}
-use Rattle.std.specs.declared.cmp.Ordering.TheVariants.{Less, Equal, Greater}
-use Rattle.std.proofs.lemmas.Cmp.{tied_itself, nat_cmp_total}
-use Rattle.std.proofs.lemmas.Map.Lookups.{exact_unsigned}
-use Rattle.qs_base.specs.Order.{same_tid}
-use Rattle.qs_base.specs.declared.identifiers.NodeNo.{NodeNo}
-use Rattle.qs_base.specs.declared.identifiers.Tid.{Tid}
-use Rattle.qs_book_machine.specs.Transaction.{TransactionValue, changed_value, peer_of, no_peer, node_cmp, heard, heard_by}
-use Rattle.qs_book_machine.specs.declared.transaction.Peer.{Peer}
-use Rattle.qs_book_machine.specs.declared.state.Asking.{Asking}
+use Rattle.qs_book_laws.proofs.Words.{◌≡◌, ℕ, ◌+◌, ◌-◌, ◌==◌, ◌&&◌, Bool, true, false, List, [], ◌∷◌, ◌++◌, Option, Some, None, refl, sym, ap, subst, ◌∙◌, if◌then◌else◌, arith, nat_tests, is_some, unwrap_or, lookup, is_at, insert_entry, Ordering, Less, Equal, Greater, tied_itself, nat_cmp_total, exact_unsigned, same_tid, NodeNo, Tid, TransactionValue, changed_value, peer_of, node_cmp, heard, heard_by, Peer, Asking, zero_plus}
+use Rattle.qs_book_machine.specs.Transaction.{no_peer}
 use Rattle.qs_book_laws.proofs.Holding.{clash, same_number}
 use Rattle.qs_book_laws.proofs.Maps.{lookup_changed, changed_apart, changed_none, lookup_put, lookup_put_apart}
+use Rattle.qs_base_lemmas.proofs.Tests.{plus_zero}
 
 -- a request of a client that has no answer since
 pub record Waits : Type 0 where
@@ -50,12 +38,6 @@ add_over a b c = omega arith
 
 add_assoc : (a b c : ℕ) → a + (b + c) ≡ (a + b) + c
 add_assoc a b c = omega arith
-
-zero_over : (a : ℕ) → a + 0 ≡ a
-zero_over a = omega arith
-
-zero_before : (a : ℕ) → 0 + a ≡ a
-zero_before a = omega arith
 
 pub times_split : (tid : Tid) (node : NodeNo) (client : ℕ) (ws : List Waits) → times tid node (all_of ws) ≡ times tid node (own_of client ws) + times tid node (all_of (without client ws))
 times_split tid node client [] = refl
@@ -103,7 +85,7 @@ own_more k (x ∷ ws) w = by (x.client == k) (own_more k ws w)
     by false h = h
 
 pub times_more : (tid : Tid) (node : NodeNo) (ws : List Waits) (w : Waits) → times tid node (all_of (ws ++ w ∷ [])) ≡ times tid node (all_of ws) + (if is_to tid node w.asking then 1 else 0)
-times_more tid node [] w = zero_over (if is_to tid node w.asking then 1 else 0) ∙ sym (zero_before (if is_to tid node w.asking then 1 else 0))
+times_more tid node [] w = plus_zero (if is_to tid node w.asking then 1 else 0) ∙ sym (zero_plus (if is_to tid node w.asking then 1 else 0))
 times_more tid node (x ∷ ws) w =
     ap (λ (n : ℕ). (if is_to tid node x.asking then 1 else 0) + n) (times_more tid node ws w)
     ∙ add_assoc (if is_to tid node x.asking then 1 else 0) (times tid node (all_of ws)) (if is_to tid node w.asking then 1 else 0)

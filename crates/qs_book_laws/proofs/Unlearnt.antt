@@ -1,37 +1,12 @@
 -- What files and audit of a node have pending of a transaction that is not aborted, and is not crossed there, they are still to learn.
-use Rattle.std.proofs.Common.{◌≡◌, ◌⊎◌, inl, inr, ℕ, ◌≤◌, ◌==◌, ◌&&◌, ◌++◌, Bool, true, false, List, [], ◌∷◌, Option, Some, None, refl, sym, ap, subst, ◌∙◌, append_assoc, arith, length, nat_lt, if◌then◌else◌}
-use Rattle.std.proofs.lemmas.Bool.Decides.{nat_tests}
-use Rattle.std.proofs.lemmas.List.{append-nil}
-use Rattle.std.specs.Prelude.{slice_get, is_some, unwrap_or}
-use Rattle.std.specs.List.{list_any}
-use Rattle.std.specs.Option.{option_map}
-use Rattle.qs_base.specs.Order.{same_member, same_tid}
-use Rattle.qs_base.proofs.Same.{same_member-self, same_member-true, same_tid-self}
-use Rattle.qs_base.specs.declared.identifiers.Member.{Member}
-use Rattle.qs_base.specs.declared.identifiers.Outcome.{Outcome}
+use Rattle.qs_book_laws.proofs.Words.{◌≡◌, ◌⊎◌, inl, inr, ℕ, ◌==◌, ◌&&◌, ◌++◌, Bool, true, false, List, [], ◌∷◌, Option, Some, None, refl, sym, ap, subst, ◌∙◌, append_assoc, arith, length, nat_lt, if◌then◌else◌, le_refl, nat_tests, append-nil, slice_get, is_some, unwrap_or, list_any, option_map, same_member, same_tid, same_member-self, same_member-true, same_tid-self, Member, Outcome, Tid, Act, Entry, BookValue, cell_of_transaction, crossed_in, find_transaction, inc_at, is_done, broken_ending}
+use Rattle.qs_book_laws.proofs.Words.{may_end, IsLawful, book_after, broken, broken_act, effect, NodeValue, opening, put_new_votes, restart, TransactionValue, is_abort, is_crossed, may_learn_still, part_of, serving_part, Opened, Cell, class_of, Op, Vote, IsCoherent, IsDecided, is_restart, restarts, change_served, changes_served, crossed_at, held_at, is_share, keeps_contents, lets_go, eq-eqb}
 use Rattle.qs_base.specs.declared.identifiers.Outcome.TheVariants as outcomes
-use Rattle.qs_base.specs.declared.identifiers.Tid.{Tid}
-use Rattle.qs_book_journal.specs.declared.entry.Act.{Act}
 use Rattle.qs_book_journal.specs.declared.entry.Act.TheVariants as acts
-use Rattle.qs_book_journal.specs.declared.entry.Entry.{Entry}
-use Rattle.qs_book_machine.specs.Book.{BookValue, cell_of_transaction, crossed_in, find_transaction, inc_at, is_done}
-use Rattle.qs_book_machine.specs.Clauses.{broken_ending, is_immediate, may_end}
-use Rattle.qs_book_machine.specs.Lawful.{IsLawful, book_after, broken, broken_act, effect}
-use Rattle.qs_book_machine.specs.Nodes.{NodeValue}
-use Rattle.qs_book_machine.specs.Opening.{opening}
-use Rattle.qs_book_machine.specs.Restart.{put_new_votes, restart}
-use Rattle.qs_book_machine.specs.Transaction.{TransactionValue, is_abort, is_crossed, may_learn_still, part_of, serving_part}
-use Rattle.qs_book_machine.specs.declared.opened.Opened.{Opened}
-use Rattle.qs_book_machine.specs.declared.transaction.Cell.{Cell}
+use Rattle.qs_book_machine.specs.Clauses.{is_immediate}
 use Rattle.qs_book_machine.specs.declared.transaction.Cell.TheVariants as cells
-use Rattle.qs_ops.specs.Members.{class_of}
-use Rattle.qs_ops.specs.declared.operation.Op.{Op}
-use Rattle.qs_ops.specs.declared.vote.Vote.{Vote}
 use Rattle.qs_ops.specs.declared.vote.Vote.TheVariants as votes
-use Rattle.qs_book_laws.specs.Laws.{IsCoherent, IsDecided}
-use Rattle.qs_book_laws.specs.Lives.{is_restart, restarts}
 use Rattle.qs_book_laws.proofs.Again.{effect_nodes, reopened_there, restart_node}
-use Rattle.qs_book_laws.specs.Served.{change_served, changes_served, crossed_at, held_at, is_share, keeps_contents, lets_go}
 use Rattle.qs_book_laws.proofs.Always.{step_so}
 use Rattle.qs_book_laws.proofs.Ballots.{IsEven, lets_all_go}
 use Rattle.qs_book_laws.proofs.Begun.{inc_in}
@@ -90,11 +65,8 @@ module _ (opened : List Opened) (coherent : IsCoherent opened) (tid : Tid) (memb
     tidy = ran_tidy history (opening opened) (opening_tidy opened coherent)
 
     most_next : (i : ℕ) (tx : TransactionValue) → find_transaction new tid ≡ Some tx → IsMost (part_of tx member i)
-    most_next i = step_so tid (λ (tx : TransactionValue). IsMost (part_of tx member i)) book entry inv last (λ label client ticks. none 0)
-        (part_left tid member i IsMost (λ covers changes. none 0) (λ now stamp here act part. covers_each tid member i now stamp here act part) book entry inv last) (l.most i)
-      where
-        none : (n : ℕ) → n ≤ n
-        none n = omega arith
+    most_next i = step_so tid (λ (tx : TransactionValue). IsMost (part_of tx member i)) book entry inv last (λ label client ticks. le_refl 0)
+        (part_left tid member i IsMost (λ covers changes. le_refl 0) (λ now stamp here act part. covers_each tid member i now stamp here act part) book entry inv last) (l.most i)
 
     -- nothing is pending of what begins
     begins_empty : find_transaction book tid ≡ None → (tx : TransactionValue) → find_transaction new tid ≡ Some tx → is_crossed tx member ≡ false → held_at new tid member ≡ []
@@ -220,9 +192,6 @@ module _ (opened : List Opened) (coherent : IsCoherent opened) (tid : Tid) (memb
                   entry.node.0 entry.act idle off ends
               by false off true serves = serve_goes (serving tid member entry.act serves)
                 where
-                  itself : (n m : ℕ) → n ≡ m → (n == m) ≡ true
-                  itself n m e = grind (arith, nat_tests, e)
-
                   serve_goes : IsServe tid member entry.act → IsUnlearnt (part_after tid member inc now entry.stamp entry.node.0 entry.act (part_of old member inc))
                   serve_goes (from, n, reply, its) = subst (λ (a : Act). IsUnlearnt (part_after tid member inc now entry.stamp entry.node.0 a (part_of old member inc))) (sym its)
                       (subst (λ (b : Bool). IsUnlearnt (if b then serving_part (class_of member.server.0) entry.stamp (is_done reply) (part_of old member inc) else part_of old member inc)) (sym own)
@@ -235,7 +204,7 @@ module _ (opened : List Opened) (coherent : IsCoherent opened) (tid : Tid) (memb
                       here = serve_here book entry.node.0 at_node.0 tid (find_transaction book tid) member from.0 n reply at_node.2
 
                       own : (same_tid tid tid && (same_member member member && (now == inc))) ≡ true
-                      own = rw (same_tid-self tid, same_member-self member, itself now inc (inc_is book entry.node.0 inc (ap (inc_in book) (sym here) ∙ inc_was))) refl
+                      own = rw (same_tid-self tid, same_member-self member, eq-eqb now inc (inc_is book entry.node.0 inc (ap (inc_in book) (sym here) ∙ inc_was))) refl
 
       -- its node restarts
       module _ (inc : ℕ) (inc_now : inc_in new member.node.0 ≡ Some inc) (is : restarts member.node entry ≡ true) where

@@ -1,17 +1,6 @@
 -- Nothing was served of a transaction that has not begun.
-use Rattle.std.proofs.Common.{◌≡◌, Bool, true, false, List, [], ◌∷◌, Option, Some, None, refl, sym, ap, ◌∙◌}
-use Rattle.std.specs.Prelude.{is_some}
-use Rattle.qs_base.specs.Order.{same_tid}
-use Rattle.qs_base.proofs.Same.{same_tid-true}
-use Rattle.qs_base.specs.declared.identifiers.Member.{Member}
-use Rattle.qs_base.specs.declared.identifiers.Tid.{Tid}
-use Rattle.qs_book_journal.specs.declared.entry.Act.{Act}
+use Rattle.qs_book_laws.proofs.Words.{◌≡◌, Bool, true, false, List, [], ◌∷◌, Option, Some, None, refl, sym, ap, ◌∙◌, is_some, same_tid, same_tid-true, Member, Tid, Act, Entry, BookValue, find_transaction, IsLawful, book_after, effect, TransactionValue, change_of_request, change_served, changes_served, is_share, standing_at}
 use Rattle.qs_book_journal.specs.declared.entry.Act.TheVariants as acts
-use Rattle.qs_book_journal.specs.declared.entry.Entry.{Entry}
-use Rattle.qs_book_machine.specs.Book.{BookValue, find_transaction}
-use Rattle.qs_book_machine.specs.Lawful.{IsLawful, book_after, effect}
-use Rattle.qs_book_machine.specs.Transaction.{TransactionValue}
-use Rattle.qs_book_laws.specs.Served.{change_of_request, change_served, changes_served, is_share, standing_at}
 use Rattle.qs_book_laws.proofs.Grows.{step_grows}
 use Rattle.qs_book_laws.proofs.Holding.{left_of}
 use Rattle.qs_book_laws.proofs.Outcomes.{Inv}

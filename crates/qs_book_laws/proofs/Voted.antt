@@ -1,32 +1,17 @@
 -- Each request that a two-phase member served stands before a vote of it for commit, where in the end all members agree.
-use Rattle.std.proofs.Common.{◌≡◌, ℕ, ◌+◌, ◌<◌, ◌≤◌, ◌==◌, ◌&&◌, Bool, true, false, not, Option, Some, None, refl, sym, subst, if◌then◌else◌, arith}
-use Rattle.std.specs.Prelude.{unwrap_or}
-use Rattle.std.specs.List.{list_all}
-use Rattle.std.specs.Map.{lookup}
-use Rattle.std.specs.BTreeMap.{is_at}
-use Rattle.qs_base.specs.Order.{same_tid, same_member}
-use Rattle.qs_base.specs.declared.identifiers.Class.{Class}
+use Rattle.qs_book_laws.proofs.Words.{◌≡◌, ℕ, ◌+◌, ◌<◌, ◌≤◌, ◌==◌, ◌&&◌, Bool, true, false, not, Option, Some, None, refl, sym, subst, if◌then◌else◌, arith, unwrap_or, list_all, lookup, is_at, same_tid, same_member, Class, Member, Outcome, Tid, class_of, is_two_phase, Vote, Act, Begin, Issue, Serve, Ask, Counted, Decide, Ending, Learn, Loan, Yield, Tick, Crash, Restart, TransactionValue, part_of, no_part, life, life_cmp, agrees, agrees_in, serving_part, voted_part, learnt_part, Life, Part}
+use Rattle.qs_book_laws.proofs.Words.{is_done, borrower_at}
 use Rattle.qs_base.specs.declared.identifiers.Class.TheVariants as classes
-use Rattle.qs_base.specs.declared.identifiers.Member.{Member}
-use Rattle.qs_base.specs.declared.identifiers.Outcome.{Outcome}
 use Rattle.qs_base.specs.declared.identifiers.Outcome.TheVariants as outcomes
-use Rattle.qs_base.specs.declared.identifiers.Tid.{Tid}
-use Rattle.qs_ops.specs.Members.{class_of, is_two_phase}
-use Rattle.qs_ops.specs.declared.vote.Vote.{Vote}
 use Rattle.qs_ops.specs.declared.vote.Vote.TheVariants as votes
-use Rattle.qs_book_journal.specs.declared.entry.Act.{Act}
-use Rattle.qs_book_journal.specs.declared.entry.Act.TheVariants.{Begin, Issue, Serve, Ask, Counted, Decide, Ending, Learn, Answer, Loan, Yield, Tick, Crash, Restart}
+use Rattle.qs_book_journal.specs.declared.entry.Act.TheVariants.{Answer}
 use Rattle.qs_book_journal.specs.declared.entry.Act.TheVariants as acts
-use Rattle.qs_book_machine.specs.Transaction.{TransactionValue, part_of, no_part, life, life_cmp, agrees, agrees_in, serving_part, voted_part, learnt_part}
-use Rattle.qs_book_machine.specs.declared.transaction.Life.{Life}
-use Rattle.qs_book_machine.specs.declared.transaction.Part.{Part}
-use Rattle.qs_book_machine.specs.Book.{is_done}
-use Rattle.qs_book_machine.specs.Clauses.{borrower_at}
 use Rattle.qs_book_laws.specs.Unanimity.{is_against, votes_for}
 use Rattle.qs_book_laws.proofs.Counts.{life_exact}
 use Rattle.qs_book_laws.proofs.Found.{entry_passes}
 use Rattle.qs_book_laws.proofs.Holding.{left_of, right_of, same_number}
 use Rattle.qs_book_laws.proofs.Parts.{is_own, part_for, part_after}
+use Rattle.qs_base_lemmas.proofs.Tests.{lt_le}
 
 -- ---- what all agree on
 
@@ -81,9 +66,6 @@ covered_is classes.Activity stamp done part = refl
 more : (a b c d : ℕ) → c ≡ a → d ≡ b + 1 → a ≤ b → c < d
 more a b c d p q h = omega arith
 
-below : (a b : ℕ) → a < b → a ≤ b
-below a b h = omega arith
-
 pub owes_more : (class : Class) (stamp : ℕ) (done : Bool) (part : Part) → part.covered ≤ part.served → IsOwed (serving_part class stamp done part)
 owes_more class stamp done part h =
     more part.covered part.served (serving_part class stamp done part).covered (serving_part class stamp done part).served (covered_is class stamp done part) (served_is class stamp done part) h
@@ -110,7 +92,7 @@ module _ (tid : Tid) (member : Member) (inc : ℕ) where
   -- an act that is no vote of its for commit in this life
   pub still_owed : (now stamp here : ℕ) (act : Act) (part : Part) → ((now == inc) ≡ true → votes_for tid member act ≡ false) → IsOwed part → IsOwed (part_after tid member inc now stamp here act part)
   still_owed now stamp here (Serve t other from n reply) part not_for h =
-      choose (is_own tid member inc t other now) (serving_part (class_of other.server.0) stamp (is_done reply) part) part (λ own. owes_more (class_of other.server.0) stamp (is_done reply) part (below part.covered part.served h)) h
+      choose (is_own tid member inc t other now) (serving_part (class_of other.server.0) stamp (is_done reply) part) part (λ own. owes_more (class_of other.server.0) stamp (is_done reply) part (lt_le part.covered part.served h)) h
   still_owed now stamp here (acts.Vote t other ballot covers) part not_for h = choose (is_own tid member inc t other now) (voted_part ballot part) part (λ own. against_owes ballot part (it_is own (is_against ballot) refl) h) h
     where
       it_is : is_own tid member inc t other now ≡ true → (b : Bool) → is_against ballot ≡ b → b ≡ true

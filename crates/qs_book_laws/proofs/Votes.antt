@@ -1,39 +1,18 @@
 -- A vote that goes on record, and the votes that a restart finds.
-use Rattle.std.proofs.Common.{◌≡◌, ◌⊎◌, ℕ, [], ◌∷◌, ◌++◌, ◌==◌, ◌&&◌, Bool, true, false, not, List, Option, Some, None, inl, refl, sym, ap, subst, ◌∙◌, if◌then◌else◌}
-use Rattle.std.specs.Prelude.{is_some, nat_lt, flat_map}
-use Rattle.std.specs.List.{AllByRecursion}
-use Rattle.std.specs.Option.{option_map}
-use Rattle.std.specs.BTreeMap.{insert_entry, is_at}
-use Rattle.std.specs.declared.cmp.Ordering.TheVariants.{Equal}
-use Rattle.qs_base.specs.declared.identifiers.Member.{Member}
-use Rattle.qs_base.specs.declared.identifiers.Tid.{Tid}
-use Rattle.qs_ops.specs.declared.vote.Vote.{Vote}
-use Rattle.qs_book_journal.specs.declared.entry.Found.{Found}
-use Rattle.qs_ops.specs.Members.{class_of, is_two_phase}
-use Rattle.qs_book_machine.specs.Transaction.{TransactionValue, is_commit, part_of, was_in_commit, was_committed, is_before}
-use Rattle.qs_book_machine.specs.Book.{BookValue, find_transaction}
-use Rattle.qs_book_machine.specs.Clauses.{broken_vote, is_vote_due, has_vote}
-use Rattle.qs_book_machine.specs.Nodes.{NodeValue, voter, voter_cmp, record_of, pending_at, changes_of}
-use Rattle.qs_book_machine.specs.Restart.{new_vote, is_new_vote, is_on_record, could_vote, with_votes, with_vote, vote_as_stopped}
-use Rattle.qs_book_machine.specs.declared.state.OnRecord.{OnRecord}
-use Rattle.qs_book_machine.specs.declared.state.Voter.{Voter}
+use Rattle.qs_book_laws.proofs.Words.{◌≡◌, ◌⊎◌, ℕ, [], ◌∷◌, ◌++◌, ◌==◌, ◌&&◌, Bool, true, false, not, List, Option, Some, None, inl, refl, sym, ap, subst, ◌∙◌, if◌then◌else◌, is_some, nat_lt, flat_map, AllByRecursion, option_map, insert_entry, is_at, Equal, Member, Tid, Vote, Found, class_of, is_two_phase, TransactionValue, is_commit, part_of, BookValue, find_transaction, broken_vote, is_vote_due, has_vote, NodeValue, voter, voter_cmp, record_of, pending_at, changes_of, new_vote, is_new_vote}
+use Rattle.qs_book_laws.proofs.Words.{with_votes, vote_as_stopped, OnRecord, Voter, and_last}
+use Rattle.qs_book_machine.specs.Transaction.{was_in_commit, was_committed, is_before}
+use Rattle.qs_book_machine.specs.Restart.{is_on_record, could_vote, with_vote}
 use Rattle.qs_book_laws.proofs.Alikes.{voter_exact, voter_equal, voter_itself}
 use Rattle.qs_book_laws.proofs.Maps.{lookup_put, lookup_put_apart}
 use Rattle.qs_book_laws.proofs.Shut.{Changes, changes_none, put_changes}
 use Rattle.qs_book_laws.proofs.Steps.{passed}
 use Rattle.qs_book_laws.proofs.Stills.{Facet, facet, asked_of, asks_at}
 use Rattle.qs_ops.specs.declared.vote.Vote.TheVariants as votes
-
-left_of : (a b : Bool) → (a && b) ≡ true → a ≡ true
-left_of true b h = refl
-left_of false b h = absurd (cc h)
-
-right_of : (a b : Bool) → (a && b) ≡ true → b ≡ true
-right_of true b h = h
-right_of false b h = absurd (cc h)
+use Rattle.qs_base_lemmas.proofs.Tests.{and_first}
 
 second_of : (a b c d : Bool) → (a && ((b && c) && d)) ≡ true → b ≡ true
-second_of a b c d h = left_of b c (left_of (b && c) d (right_of a ((b && c) && d) h))
+second_of a b c d h = and_first b c (and_first (b && c) d (and_last a ((b && c) && d) h))
 
 none_of : (o : Option ℕ) → Some o ≡ Some None → o ≡ None
 none_of o e = cc
@@ -70,9 +49,9 @@ not_before place (Some at) h is = absurd (cc is)
 asked_new : (here : ℕ) (node : NodeValue) (o : Option TransactionValue) (found : Found) → is_new_vote here node o found ≡ true → option_map asked_of o ≡ Some None → ⊥
 asked_new here node None found h asks = absurd (cc h)
 asked_new here node (Some tx) found h asks =
-    let could : could_vote here node tx found ≡ true = right_of (not (is_on_record node found)) (could_vote here node tx found) h in
-    let was : was_in_commit node.stopped tx ≡ true = left_of (was_in_commit node.stopped tx) _ (right_of (has_vote found.server.0 votes.Recoverable) _ could) in
-    let before : is_before node.stopped tx.asked ≡ true = left_of (is_before node.stopped tx.asked) (not (was_committed node.stopped tx)) was in
+    let could : could_vote here node tx found ≡ true = and_last (not (is_on_record node found)) (could_vote here node tx found) h in
+    let was : was_in_commit node.stopped tx ≡ true = and_first (was_in_commit node.stopped tx) _ (and_last (has_vote found.server.0 votes.Recoverable) _ could) in
+    let before : is_before node.stopped tx.asked ≡ true = and_first (is_before node.stopped tx.asked) (not (was_committed node.stopped tx)) was in
     not_before node.stopped tx.asked before (none_of tx.asked asks)
 
 new_made : (book : BookValue) (here : ℕ) (node : NodeValue) (found : Found) (more : List (Voter × OnRecord)) → AllByRecursion (IsNew book node) more → AllByRecursion (IsNew book node) (new_vote here book node found ++ more)

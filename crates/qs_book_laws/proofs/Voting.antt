@@ -1,25 +1,8 @@
 -- A vote that is owed is made in the same life of the member's node, or the transaction is never unanimous.
-use Rattle.std.proofs.Common.{◌≡◌, ℕ, ◌<◌, ◌≤◌, ◌==◌, ◌&&◌, ◌||◌, Bool, true, false, not, List, [], ◌∷◌, ◌⊎◌, inl, inr, Option, Some, None, refl, sym, ap, subst, ◌∙◌, if◌then◌else◌, arith}
-use Rattle.std.proofs.lemmas.Bool.Decides.{nat_tests}
-use Rattle.std.specs.Prelude.{slice_get}
-use Rattle.std.specs.List.{list_all}
-use Rattle.qs_base.specs.declared.identifiers.Member.{Member}
-use Rattle.qs_base.specs.declared.identifiers.NodeNo.{NodeNo}
-use Rattle.qs_base.specs.declared.identifiers.Tid.{Tid}
-use Rattle.qs_base.proofs.Same.{same_tid-self, same_member-true, same_member-self}
-use Rattle.qs_ops.specs.Members.{class_of, is_two_phase}
-use Rattle.qs_ops.specs.declared.reply.Reply.{Reply}
-use Rattle.qs_book_journal.specs.declared.entry.Act.{Act}
-use Rattle.qs_book_journal.specs.declared.entry.Act.TheVariants.{Begin, Issue, Serve, Ask, Counted, Decide, Ending, Learn, Answer, Loan, Yield, Tick, Crash, Restart}
+use Rattle.qs_book_laws.proofs.Words.{◌≡◌, ℕ, ◌<◌, ◌≤◌, ◌==◌, ◌&&◌, ◌||◌, Bool, true, false, not, List, [], ◌∷◌, ◌⊎◌, inl, inr, Option, Some, None, refl, sym, ap, subst, ◌∙◌, if◌then◌else◌, arith, nat_tests, slice_get, list_all, Member, NodeNo, Tid, same_tid-self, same_member-true, same_member-self, class_of, is_two_phase, Reply, Act, Begin, Issue, Serve, Ask, Counted, Decide, Ending, Learn, Loan, Yield, Tick, Crash, Restart, Entry, TransactionValue, part_of, agrees, serving_part, Part, BookValue}
+use Rattle.qs_book_laws.proofs.Words.{find_transaction, inc_at, is_done, broken_serve, broken_act, broken, effect, IsLawful, book_after, NodeValue, is_restart, restarts, and_false, eqb-self, lt_lt}
+use Rattle.qs_book_journal.specs.declared.entry.Act.TheVariants.{Answer}
 use Rattle.qs_book_journal.specs.declared.entry.Act.TheVariants as acts
-use Rattle.qs_book_journal.specs.declared.entry.Entry.{Entry}
-use Rattle.qs_book_machine.specs.Transaction.{TransactionValue, part_of, agrees, serving_part}
-use Rattle.qs_book_machine.specs.declared.transaction.Part.{Part}
-use Rattle.qs_book_machine.specs.Book.{BookValue, find_transaction, inc_at, is_done}
-use Rattle.qs_book_machine.specs.Clauses.{broken_serve}
-use Rattle.qs_book_machine.specs.Lawful.{broken_act, broken, effect, IsLawful, book_after}
-use Rattle.qs_book_machine.specs.Nodes.{NodeValue}
-use Rattle.qs_book_laws.specs.Lives.{is_restart, restarts}
 use Rattle.qs_book_laws.specs.Unanimity.{votes_for, is_voted_in}
 use Rattle.qs_book_laws.proofs.Always.{IsSo}
 use Rattle.qs_book_laws.proofs.Begun.{inc_in}
@@ -33,6 +16,7 @@ use Rattle.qs_book_laws.proofs.Steps.{stepped}
 use Rattle.qs_book_laws.proofs.Takes.{some_same}
 use Rattle.qs_book_laws.proofs.Turns.{Stands}
 use Rattle.qs_book_laws.proofs.Voted.{agreed, IsOwed, two_covers, owes_more, still_owed}
+use Rattle.qs_base_lemmas.proofs.Tests.{lt_not_equal}
 
 -- a vote stands at its member's node
 votes_there : (tid : Tid) (member : Member) (book : BookValue) (entry : Entry) → broken book entry ≡ None → votes_for tid member entry.act ≡ true → entry.node.0 ≡ member.node.0
@@ -49,12 +33,6 @@ votes_there tid member book entry h is = of entry.act refl is
 
 differ : (a b : ℕ) → a < b → (b == a) ≡ true → ⊥
 differ a b h k = grind (arith, nat_tests)
-
-chain : (a b c : ℕ) → a < b → b < c → a < c
-chain a b c h k = omega arith
-
-irrefl : (a b : ℕ) → a < b → a ≡ b → ⊥
-irrefl a b h e = omega arith
 
 module _ (tid : Tid) (member : Member) (inc : ℕ) where
   -- the life is still the present one, and the vote is not made in it; or it has ended
@@ -100,7 +78,7 @@ module _ (tid : Tid) (member : Member) (inc : ℕ) where
           let r : Restarting member.node entry = restarting member.node entry is in
           let x : Reborn book (effect book entry) member.node.0 r.inc = reborn book entry member.node.0 r.inc r.pend r.done h r.act r.here in
           let later : now < r.inc = subst (λ (n : ℕ). n < r.inc) (some_same x.old now (sym x.was ∙ was)) x.later in
-          record { quiet = later_born member inc entry r.inc r.pend r.done r.act (chain inc now r.inc before later); awaits = inr (r.inc, x.now, chain inc now r.inc before later) }
+          record { quiet = later_born member inc entry r.inc r.pend r.done r.act (lt_lt inc now r.inc before later); awaits = inr (r.inc, x.now, lt_lt inc now r.inc before later) }
       by false is (inl two) = record {
         quiet = none_born member inc entry is;
         awaits = inl (same_life member.node book entry is h ∙ two.0, rest (votes_for tid member entry.act) (restarts member.node entry) (is_voted_in tid member entries) two.1 is);
@@ -113,7 +91,7 @@ module _ (tid : Tid) (member : Member) (inc : ℕ) where
       let same : last ≡ s.tx = some_same last s.tx (sym found ∙ s.found) in
       let is : part_of last member inc ≡ part = ap (λ (x : TransactionValue). part_of x member inc) same ∙ s.holds in
       let even : (part_of last member inc).covered ≡ (part_of last member inc).served = two_covers (class_of member.server.0) (part_of last member inc) two (agreed member inc last all) in
-      irrefl part.covered part.served owed (subst (λ (p : Part). p.covered ≡ p.served) is even)
+      lt_not_equal part.covered part.served owed (subst (λ (p : Part). p.covered ≡ p.served) is even)
   owed_last (entry ∷ entries) book part last two i lawful s owed a found all =
       let n : Next book entry entries = next book entry entries lawful.0 a in
       owed_last entries (effect book entry) (part_after tid member inc (inc_at book entry.node) entry.stamp entry.node.0 entry.act part) last two (stepped book entry i lawful.0).inv lawful.1
@@ -161,11 +139,8 @@ each_voted tid member book entry entries from number reply last two i lawful is 
     now : inc_at book entry.node ≡ inc
     now = inc_there book entry.node.0 at.0 at.1
 
-    equal : (n : ℕ) → (n == n) ≡ true
-    equal n = grind (arith, nat_tests)
-
     own : is_own tid member inc tid member (inc_at book entry.node) ≡ true
-    own = rw (same_tid-self tid, same_member-self member, now) (equal inc)
+    own = rw (same_tid-self tid, same_member-self member, now) (eqb-self inc)
 
     quiet : starts_life member inc entry.node.0 entry.act ≡ false
     quiet = ap (starts_life member inc entry.node.0) is
@@ -179,11 +154,7 @@ each_voted tid member book entry entries from number reply last two i lawful is 
     stands = step_part tid member inc part book entry i lawful.0 quiet (record { tx = known.0; found = known.1; holds = refl })
 
     same : inc_in (effect book entry) member.node.0 ≡ Some inc
-    same = same_life member.node book entry (ap (λ (a : Act). (entry.node.0 == member.node.0) && is_restart a) is ∙ never (entry.node.0 == member.node.0)) lawful.0 ∙ (ap (inc_in book) here ∙ inc_of_node book entry.node.0 at.0 at.1)
-      where
-        never : (b : Bool) → (b && false) ≡ false
-        never true = refl
-        never false = refl
+    same = same_life member.node book entry (ap (λ (a : Act). (entry.node.0 == member.node.0) && is_restart a) is ∙ and_false (entry.node.0 == member.node.0)) lawful.0 ∙ (ap (inc_in book) here ∙ inc_of_node book entry.node.0 at.0 at.1)
 
     by : (b : Bool) → is_voted_in tid member entries ≡ b → b ≡ true
     by true v = refl

@@ -1,23 +1,10 @@
 -- Through every lawful history, what waits towards a node of a transaction is counted over the requests that clients wait for.
-use Rattle.std.proofs.Common.{◌≡◌, ℕ, ◌-◌, ◌==◌, Bool, true, false, List, [], ◌∷◌, ◌++◌, Option, Some, None, refl, sym, ap, subst, ◌∙◌, ◌⊎◌, inl, inr, fold, if◌then◌else◌, arith}
-use Rattle.std.proofs.lemmas.Bool.Decides.{nat_tests}
-use Rattle.std.specs.Prelude.{is_some, slice_get, slice_set}
-use Rattle.std.specs.Option.{option_map}
-use Rattle.qs_base.specs.declared.identifiers.ClientNo.{ClientNo}
-use Rattle.qs_base.specs.declared.identifiers.Member.{Member}
-use Rattle.qs_base.specs.declared.identifiers.Outcome.{Outcome}
+use Rattle.qs_book_laws.proofs.Words.{◌≡◌, ℕ, ◌-◌, ◌==◌, Bool, true, false, List, [], ◌∷◌, ◌++◌, Option, Some, None, refl, sym, ap, subst, ◌∙◌, ◌⊎◌, inl, inr, fold, if◌then◌else◌, arith, nat_tests, is_some, slice_get, slice_set, option_map, ClientNo, Member, Outcome, Tid, is_client_no, Cause, Act, Issue, Found, BookValue, find_transaction, changed_at, with_owner, with_waiting, owner_of, decide, answer, hear, waiting_of, inc_at, restart, put_new_votes, up_to, begun_at, abort_begun, vote_found}
+use Rattle.qs_book_laws.proofs.Words.{commit_found, learn_found, decide_found, is_among, is_open_here, begun_tid, record_at, Asking, Owner}
 use Rattle.qs_base.specs.declared.identifiers.Outcome.TheVariants as outcomes
-use Rattle.qs_base.specs.declared.identifiers.Tid.{Tid}
-use Rattle.qs_ops.specs.Servers.{is_client_no}
-use Rattle.qs_ops.specs.declared.answer.Cause.{Cause}
 use Rattle.qs_ops.specs.declared.answer.Cause.TheVariants as causes
-use Rattle.qs_book_journal.specs.declared.entry.Act.{Act}
-use Rattle.qs_book_journal.specs.declared.entry.Act.TheVariants.{Issue, Answer}
-use Rattle.qs_book_journal.specs.declared.entry.Found.{Found}
-use Rattle.qs_book_machine.specs.Book.{BookValue, find_transaction, changed_at, with_owner, with_waiting, told, told_owner, owner_of, decide, answer, hear, waiting_of, inc_at}
-use Rattle.qs_book_machine.specs.Restart.{restart, put_new_votes, up_to, begun_at, abort_begun, vote_found, commit_found, learn_found, decide_found, is_among, is_open_here, begun_tid, record_at}
-use Rattle.qs_book_machine.specs.declared.state.Asking.{Asking}
-use Rattle.qs_book_machine.specs.declared.state.Owner.{Owner}
+use Rattle.qs_book_journal.specs.declared.entry.Act.TheVariants.{Answer}
+use Rattle.qs_book_machine.specs.Book.{told, told_owner}
 use Rattle.qs_book_laws.proofs.Holding.{same_number}
 use Rattle.qs_book_laws.proofs.Maps.{changed_at_alike, changed_at_either, changed_at_here}
 use Rattle.qs_book_laws.proofs.Takes.{some_same}

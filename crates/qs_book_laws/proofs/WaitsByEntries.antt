@@ -1,15 +1,7 @@
 -- The requests that clients wait for after some entries are those issues among them that had no answer since.
-use Rattle.std.proofs.Common.{◌≡◌, ℕ, ◌+◌, ◌-◌, ◌==◌, ◌&&◌, ◌||◌, Bool, true, false, not, List, [], ◌∷◌, ◌++◌, refl, sym, ap, ◌∙◌, if◌then◌else◌, arith}
-use Rattle.std.proofs.lemmas.Bool.Decides.{nat_tests}
-use Rattle.std.specs.Prelude.{nat_lt}
-use Rattle.std.specs.List.{list_any}
-use Rattle.qs_base.specs.Order.{same_tid}
-use Rattle.qs_base.specs.declared.identifiers.NodeNo.{NodeNo}
-use Rattle.qs_base.specs.declared.identifiers.Tid.{Tid}
-use Rattle.qs_ops.specs.Servers.{client_no, is_client_no}
-use Rattle.qs_book_journal.specs.declared.entry.Act.{Act}
-use Rattle.qs_book_journal.specs.declared.entry.Act.TheVariants.{Issue, Answer}
-use Rattle.qs_book_journal.specs.declared.entry.Entry.{Entry}
+use Rattle.qs_book_laws.proofs.Words.{◌≡◌, ℕ, ◌+◌, ◌-◌, ◌==◌, ◌&&◌, ◌||◌, Bool, true, false, not, List, [], ◌∷◌, ◌++◌, refl, sym, ap, ◌∙◌, if◌then◌else◌, arith, nat_tests, nat_lt, list_any, same_tid, NodeNo, Tid, is_client_no, Act, Issue, Entry, and_false, false-or, or_assoc, or-false}
+use Rattle.qs_ops.specs.Servers.{client_no}
+use Rattle.qs_book_journal.specs.declared.entry.Act.TheVariants.{Answer}
 use Rattle.qs_book_laws.specs.Gone.{answers, is_answer_to, waits_still}
 use Rattle.qs_book_laws.proofs.Unanswered.{Waits, is_to, times, all_of, without}
 use Rattle.qs_book_laws.proofs.Waiting.{waits_after}
@@ -32,16 +24,8 @@ module _ (tid : Tid) (node : NodeNo) where
   abbrev waits_on : List Entry → Waits → Bool
   waits_on since w = is_to tid node w.asking && not (list_any (answers (client_no w.client)) since)
 
-  or_assoc : (a b c : Bool) → ((a || b) || c) ≡ (a || (b || c))
-  or_assoc true b c = refl
-  or_assoc false b c = refl
-
   any_more : (since : List Entry) (ws : List Waits) (w : Waits) → list_any (waits_on since) (ws ++ w ∷ []) ≡ (list_any (waits_on since) ws || waits_on since w)
-  any_more since [] w = none (waits_on since w)
-    where
-      none : (b : Bool) → (b || false) ≡ b
-      none true = refl
-      none false = refl
+  any_more since [] w = or-false (waits_on since w)
   any_more since (x ∷ ws) w = ap (λ (b : Bool). waits_on since x || b) (any_more since ws w) ∙ sym (or_assoc (waits_on since x) (list_any (waits_on since) ws) (waits_on since w))
 
   any_now : (ws : List Waits) → nat_lt 0 (times tid node (all_of ws)) ≡ list_any (waits_on []) ws
@@ -76,16 +60,12 @@ module _ (tid : Tid) (node : NodeNo) where
       told : (b : Bool) → (w.client == client) ≡ b → answers (client_no w.client) entry ≡ b
       told b e = is (client_no w.client) ∙ alike w.client client b e
 
-      off : (b : Bool) → (b && false) ≡ false
-      off true = refl
-      off false = refl
-
       by : (b : Bool) → (w.client == client) ≡ b → list_any (waits_on since) (without client ws) ≡ list_any (waits_on (entry ∷ since)) ws
           → list_any (waits_on since) (if b then without client ws else w ∷ without client ws) ≡ (waits_on (entry ∷ since) w || list_any (waits_on (entry ∷ since)) ws)
       by true e more =
           more
           ∙ sym (ap (λ (b : Bool). (is_to tid node w.asking && not (b || list_any (answers (client_no w.client)) since)) || list_any (waits_on (entry ∷ since)) ws) (told true e)
-          ∙ ap (λ (b : Bool). b || list_any (waits_on (entry ∷ since)) ws) (off (is_to tid node w.asking)))
+          ∙ ap (λ (b : Bool). b || list_any (waits_on (entry ∷ since)) ws) (and_false (is_to tid node w.asking)))
       by false e more =
           ap (λ (b : Bool). (is_to tid node w.asking && not (b || list_any (answers (client_no w.client)) since)) || list_any (waits_on since) (without client ws)) (sym (told false e))
           ∙ ap (λ (b : Bool). waits_on (entry ∷ since) w || b) more
@@ -93,11 +73,7 @@ module _ (tid : Tid) (node : NodeNo) where
   -- ---- and on through all of them
 
   pub wait_through : (entries : List Entry) (ws : List Waits) → nat_lt 0 (times tid node (all_of (waits_through ws entries))) ≡ (list_any (waits_on entries) ws || some_wait entries)
-  wait_through [] ws = any_now ws ∙ none (list_any (waits_on []) ws)
-    where
-      none : (b : Bool) → b ≡ (b || false)
-      none true = refl
-      none false = refl
+  wait_through [] ws = any_now ws ∙ false-or (list_any (waits_on []) ws)
   wait_through (entry ∷ since) ws = wait_through since (waits_after ws entry.act) ∙ by entry.act refl
     where
       plain : (act : Act) → entry.act ≡ act → ((server : ℕ) → is_answer_to server act ≡ false) → is_waiting_issue act since ≡ false
@@ -127,10 +103,6 @@ module _ (tid : Tid) (node : NodeNo) where
               of_bound : (s : ℕ) → nat_lt 31 s ≡ true → (s - 32) + 32 ≡ s
               of_bound s h = grind (arith, nat_tests)
 
-          off : (b : Bool) → (b && false) ≡ false
-          off true = refl
-          off false = refl
-
           of : (b : Bool) → is_client_no issuer.server.0 ≡ b
               → (list_any (waits_on since) (if b then ws ++ w ∷ [] else ws) || some_wait since) ≡ (list_any (waits_on (entry ∷ since)) ws || ((G && (is_client_no issuer.server.0 && not (list_any (answers issuer.server.0) since))) || some_wait since))
           of true client =
@@ -142,6 +114,6 @@ module _ (tid : Tid) (node : NodeNo) where
           of false other =
               ap (λ (b : Bool). b || some_wait since) before
               ∙ sym (ap (λ (b : Bool). list_any (waits_on (entry ∷ since)) ws || ((G && (b && not (list_any (answers issuer.server.0) since))) || some_wait since)) other
-              ∙ ap (λ (b : Bool). list_any (waits_on (entry ∷ since)) ws || (b || some_wait since)) (off G))
+              ∙ ap (λ (b : Bool). list_any (waits_on (entry ∷ since)) ws || (b || some_wait since)) (and_false G))
       by (Answer client line said) is = ap (λ (b : Bool). b || some_wait since) (an_answer entry since client.0 (λ server. ap (is_answer_to server) is) ws)
       by act is = plain act is (λ server. refl) refl

@@ -28,6 +28,7 @@ module _ {D : Type 0} (told : Type 0) (state : D → DiskState) (own size : D �
       → GoesOn (mended old.disk.fuse) (disk_of new).fuse → size (disk_of new).disk ≡ size old.disk.disk → Restarts told state own size alloc old new said
   refused old new said (restarts.Up running) is node failed said_is moments touched goes bytes = absurd (cc failed)
   refused old new said (restarts.Down stopped reopen_faults.Tripped) is node failed said_is moments touched goes bytes = absurd (cc failed)
+  refused old new said (restarts.Down stopped (reopen_faults.Damaged at)) is node failed said_is moments touched goes bytes = absurd (cc failed)
   refused old new said (restarts.Down stopped reopen_faults.NoMemory) is node failed said_is moments touched goes bytes = absurd (cc failed)
   refused old new said (restarts.Down stopped reopen_faults.DiskFailed) is node failed said_is moments touched goes bytes = record {
     restarted = restarts.Down stopped reopen_faults.NoMemory;
@@ -45,6 +46,7 @@ module _ {D : Type 0} (told : Type 0) (state : D → DiskState) (own size : D �
     moments = moments;
     stands = λ yes. tt;
     touched = touched;
+    damaged = λ yes at is. absurd (cc (sym said_is ∙ is));
     goes = goes;
     bytes = bytes;
   }

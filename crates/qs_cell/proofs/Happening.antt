@@ -6,7 +6,7 @@ use Rattle.qs_base.specs.Causes.{Rose}
 use Rattle.qs_disk.specs.Disk.{DiskState}
 use Rattle.qs_disk.specs.Fuse.{FusedValue, GoesOn, fused_count}
 use Rattle.qs_disk.specs.Moments.{Keeps}
-use Rattle.qs_node_host.proofs.Carrying.{unwritten}
+use Rattle.qs_node_host.proofs.Carrying.{unwritten, unwritten_header}
 use Rattle.qs_node_host.specs.Host.{HostValue, HasBatch, IsLogAfter, IsOldOrAfter, log_after, effects_at, worked_node}
 use Rattle.qs_node_host.specs.Roomy.{LacksRoom}
 use Rattle.qs_node_host.specs.declared.fault.HostFault.{HostFault}
@@ -19,6 +19,7 @@ use Rattle.qs_cell_chronicle.specs.Points.{stops_before}
 use Rattle.qs_cell_chronicle.specs.declared.points.Watched.{Watched}
 use Rattle.qs_node_step.specs.State.{NodeValue}
 use Rattle.qs_node_step.specs.Step.{accept}
+use Rattle.qs_slot.specs.Slot.{SayTheSame}
 use Rattle.qs_node_step.specs.declared.event.Effects.{Effects}
 use Rattle.qs_cell_chronicle.specs.Carried.{Seen, seen}
 use Rattle.qs_cell_chronicle.specs.Chronicle.{crashed}
@@ -40,6 +41,17 @@ pub untouched : {D : Type 0} (out : Effects) (log : LogValue (FusedValue D)) (st
     → Stands log (state log.disk.disk) → Keeps (IsOldOrAfter out log) (state log.disk.disk) (state disk.disk)
 untouched {D} out log state disk is stands =
     unwritten log (log_after out log) (state log.disk.disk) (state disk.disk) (ap (λ (d : FusedValue D). state d.disk) is) stands
+
+-- and slots that say the same
+pub untouched_header : {D : Type 0} (log : LogValue (FusedValue D)) (state : D → DiskState) (disk : FusedValue D) → disk ≡ log.disk → Stands log (state log.disk.disk)
+    → Keeps (SayTheSame (state log.disk.disk).content) (state log.disk.disk) (state disk.disk)
+untouched_header {D} log state disk is stands =
+    unwritten_header (state log.disk.disk) (state disk.disk) (ap (λ (d : FusedValue D). state d.disk) is) stands.still
+
+pub header_as : {D : Type 0} (state : D → DiskState) (disk : FusedValue D) (mid log : LogValue (FusedValue D)) → mid ≡ log
+    → Keeps (SayTheSame (state mid.disk.disk).content) (state mid.disk.disk) (state disk.disk) → Keeps (SayTheSame (state log.disk.disk).content) (state log.disk.disk) (state disk.disk)
+header_as {D} state disk mid log same keeps =
+    subst (λ (l : LogValue (FusedValue D)). Keeps (SayTheSame (state l.disk.disk).content) (state l.disk.disk) (state disk.disk)) same keeps
 
 -- the log is the same one all along
 pub disk_of_log : {D : Type 0} (left : FusedValue D) (mid old : LogValue (FusedValue D)) → left ≡ mid.disk → mid ≡ old → left ≡ old.disk

@@ -37,4 +37,5 @@ left_begins {D} own alloc log rest kept before back (restarts.Down stopped why) 
       seen = left.seen ∙ seen_same;
       tripped = subst (λ (d : FusedValue D). (why ≡ reopen_faults.Tripped) ↔ (d.fuse.trips ≢ before.trips)) same left.tripped;
       failed = λ failed. subst (λ (d : FusedValue D). Rose before.own (own d.disk)) same (left.failed failed);
+      sound = left.sound;
     }

@@ -18,3 +18,5 @@ pub mod Logging
 pub mod Founding
 -- A node whose log has room for all that is kept there stays so.
 pub mod Rooms
+-- A log never opens as damaged where its node starts again.
+pub mod Reopening

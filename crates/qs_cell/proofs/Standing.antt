@@ -1,5 +1,5 @@
 -- What stands of a node after an event and after a restart: its log on the disk, and its setting.
-use Rattle.std.proofs.Common.{◌≡◌, ◌⊎◌, ◌∙◌, ◌≤◌, ap, subst, sym, refl, inl, inr, ℕ, Bool, true, false, List, [], ◌++◌}
+use Rattle.std.proofs.Common.{◌≡◌, ◌⊎◌, ◌∙◌, ◌≤◌, ◌+◌, ap, subst, sym, refl, inl, inr, ℕ, Bool, true, false, List, [], ◌++◌, arith}
 use Rattle.std.proofs.lemmas.List.{append-nil}
 use Rattle.std.specs.Prelude.{Result}
 use Rattle.std.specs.Global.{Global}
@@ -17,6 +17,8 @@ use Rattle.qs_log.specs.Log.{LogValue, Stands, records_of}
 use Rattle.qs_book_machine.specs.declared.opened.Opened.{Opened}
 use Rattle.qs_record.specs.declared.record.Record.{Record}
 use Rattle.qs_restart.specs.declared.recovered.Recovered.{Recovered}
+use Rattle.qs_slot.proofs.Limits.{stand_below}
+use Rattle.qs_slot.specs.Slot.{SayTheSame, StandBelow}
 use Rattle.qs_ops.specs.declared.no_server.NoServer.{NoServer}
 use Rattle.qs_node_step.specs.declared.event.ClientAnswer.{ClientAnswer}
 use Rattle.qs_node_step.specs.declared.event.Effects.{Effects}
@@ -24,12 +26,13 @@ use Rattle.qs_node_step.specs.declared.setting.Setting.{Setting}
 use Rattle.qs_world.specs.Histories.{opened_with}
 use Rattle.qs_cell_chronicle.specs.Carried.{Seen}
 use Rattle.qs_cell_chronicle.specs.declared.occasion.Occasion.{Occasion}
-use Rattle.qs_cell.specs.Logged.{GoesOn, IsLogged}
+use Rattle.qs_cell.specs.Logged.{GoesOn, IsLogged, StandsWithin, limit_after}
+use Rattle.qs_cell.proofs.Reopening.{RoundsGrow, damage_told, within_seen}
 use Rattle.qs_cell.proofs.Logging.{goes_on_first, logged_stands}
 use Rattle.qs_cell.specs.Cell.{IsOutcome, IfStands, StandsAfter, out_of, disk_after}
-use Rattle.qs_cell.specs.Restart.{IsRestarted, IfUp, restarted_disk, found_in}
+use Rattle.qs_cell.specs.Restart.{IsRestarted, IfDamaged, IfUp, restarted_disk, found_in}
 use Rattle.qs_cell.specs.Starts.{IsSound, IsStarted, LogGoesOn, Begins, setting_in}
-use Rattle.qs_cell.specs.State.{Up, IsSeenAs, LogStands, IsAllowed, Restarts, state_of, answers_of, state_after, answer_after, carried_of, disk_of}
+use Rattle.qs_cell.specs.State.{Up, IsSeenAs, LogStands, IsAllowed, Restarts, state_of, answers_of, state_after, answer_after, carried_of, disk_of, rounds_of}
 use Rattle.qs_cell.specs.Visits.{Makes, MakesIn}
 use Rattle.qs_cell.proofs.Happening.{disk_left}
 use Rattle.qs_cell.specs.Outcomes.{Outcome, outcome_of, stopped_of}
@@ -76,8 +79,9 @@ pub makes_of : {D : Type 0} (told : Type 0) (state : D → DiskState) (own size 
     → answers ≡ answers_of outcome
     → (told → IfStands outcome (λ disk. StandsAfter (out_of (size old.host.log.disk.disk) occasion old) old.host.log disk (state disk.disk)))
     → (told → Keeps (IsOldOrAfter (out_of (size old.host.log.disk.disk) occasion old) old.host.log) (state old.host.log.disk.disk) (state (disk_after outcome).disk))
+    → (told → Keeps (SayTheSame (state old.host.log.disk.disk).content) (state old.host.log.disk.disk) (state (disk_after outcome).disk))
     → size (disk_after outcome).disk ≡ size old.host.log.disk.disk → Makes told state own size occasion old new answers
-makes_of {D} told state own size occasion old outcome new answers is node said stands moments bytes = record {
+makes_of {D} told state own size occasion old outcome new answers is node said stands moments header bytes = record {
   outcome = outcome;
   is = is;
   node = node;
@@ -86,6 +90,7 @@ makes_of {D} told state own size occasion old outcome new answers is node said s
   moments = λ yes. subst (λ (d : FusedValue D).
       Keeps (IsOldOrAfter (out_of (size old.host.log.disk.disk) occasion old) old.host.log) (state old.host.log.disk.disk) (state d.disk))
       same (moments yes);
+  header = λ yes. subst (λ (d : FusedValue D). Keeps (SayTheSame (state old.host.log.disk.disk).content) (state old.host.log.disk.disk) (state d.disk)) same (header yes);
   bytes = subst (λ (d : FusedValue D). size d.disk ≡ size old.host.log.disk.disk) same bytes;
 }
   where
@@ -105,46 +110,54 @@ pub makes_by : {D : Type 0} (told : Type 0) (state : D → DiskState) (own size 
     → answers ≡ answers_of (outcome_of fate running)
     → (told → IfStands (outcome_of fate running) (λ disk. StandsAfter (out_of (size old.host.log.disk.disk) occasion old) old.host.log disk (state disk.disk)))
     → (told → Keeps (IsOldOrAfter (out_of (size old.host.log.disk.disk) occasion old) old.host.log) (state old.host.log.disk.disk) (state running.host.log.disk.disk))
+    → (told → Keeps (SayTheSame (state old.host.log.disk.disk).content) (state old.host.log.disk.disk) (state running.host.log.disk.disk))
     → size running.host.log.disk.disk ≡ size old.host.log.disk.disk → MakesIn told state own size occasion from new answers
-makes_by {D} told state own size occasion from new old running fate answers up is node said stands moments bytes =
+makes_by {D} told state own size occasion from new old running fate answers up is node said stands moments header bytes =
     subst (λ (before : CellState D). MakesIn told state own size occasion before new answers) (sym up)
     (makes_of told state own size occasion old (outcome_of fate running) new answers is node said stands (λ yes.
     subst (λ (d : FusedValue D). Keeps (IsOldOrAfter (out_of (size old.host.log.disk.disk) occasion old) old.host.log) (state old.host.log.disk.disk) (state d.disk))
     (sym (disk_left fate running)) (moments yes))
+    (λ yes. subst (λ (d : FusedValue D). Keeps (SayTheSame (state old.host.log.disk.disk).content) (state old.host.log.disk.disk) (state d.disk)) (sym (disk_left fate running)) (header yes))
     (subst (λ (d : FusedValue D). size d.disk ≡ size old.host.log.disk.disk) (sym (disk_left fate running)) bytes))
 
 -- what is seen changes alone
-pub sound_seen : {D : Type 0} (told : Type 0) (state : D → DiskState) (opened : Opened) (f : Seen → Seen) (old new : CellState D) → IsSeenAs f old new → IsSound told state opened old
-    → IsSound told state opened new
-sound_seen told state opened f (states.Up old) (states.Up new) is sound = record {
+pub sound_seen : {D : Type 0} (told : Type 0) (state : D → DiskState) (opened : Opened) (f : Seen → Seen) (old new : CellState D) → RoundsGrow f → IsSeenAs f old new
+    → IsSound told state opened old → IsSound told state opened new
+sound_seen told state opened f (states.Up old) (states.Up new) grows is sound = record {
   stands = λ yes. subst (λ h. Stands h.log (state h.log.disk.disk)) (sym is.0) (sound.stands yes);
   goes_on = λ yes. subst (λ h. GoesOn opened h.log.forced) (sym is.0) (sound.goes_on yes);
   logged = λ yes. subst (λ h. IsLogged opened (state h.log.disk.disk).now) (sym is.0) (sound.logged yes);
+  within = λ yes. subst (λ h. StandsWithin new.carried.chronicle.told.rounds (state h.log.disk.disk).now) (sym is.0)
+      (within_seen f grows old.carried new.carried is.1.0 (state old.host.log.disk.disk).now (sound.within yes));
   allowed = record {
     batch = subst (λ (s : Setting). s.extra ≤ 8) (sym is.1.1) sound.allowed.batch;
     keep = subst (λ (s : Setting). s.keep ≤ 144) (sym is.1.1) sound.allowed.keep;
   };
 }
-sound_seen told state opened f (states.Down old) (states.Down new) is sound = record {
+sound_seen told state opened f (states.Down old) (states.Down new) grows is sound = record {
   stands = λ yes. tt;
   goes_on = λ yes. tt;
   logged = λ yes. subst (λ d. IsLogged opened (state d.disk).now) (sym is.0) (sound.logged yes);
+  within = λ yes. subst (λ d. StandsWithin new.carried.chronicle.told.rounds (state d.disk).now) (sym is.0)
+      (within_seen f grows old.carried new.carried is.1.1.1.0 (state old.disk.disk).now (sound.within yes));
   allowed = record {
     batch = subst (λ (s : Setting). s.extra ≤ 8) (sym is.1.1.1.1) sound.allowed.batch;
     keep = subst (λ (s : Setting). s.keep ≤ 144) (sym is.1.1.1.1) sound.allowed.keep;
   };
 }
-sound_seen told state opened f (states.Up old) (states.Down new) is sound = absurd is
-sound_seen told state opened f (states.Down old) (states.Up new) is sound = absurd is
+sound_seen told state opened f (states.Up old) (states.Down new) grows is sound = absurd is
+sound_seen told state opened f (states.Down old) (states.Up new) grows is sound = absurd is
 
 -- and so does what an event leaves
 pub sound_after : {D : Type 0} (told : Type 0) (state : D → DiskState) (opened : Opened) (old new : CellState D) → (told → LogStands state new)
-    → (told → LogGoesOn opened new) → (told → IsLogged opened (state (disk_of new).disk).now) → (carried_of new).setting ≡ (carried_of old).setting → IsSound told state opened old
+    → (told → LogGoesOn opened new) → (told → IsLogged opened (state (disk_of new).disk).now) → (told → StandsWithin (rounds_of new) (state (disk_of new).disk).now)
+    → (carried_of new).setting ≡ (carried_of old).setting → IsSound told state opened old
     → IsSound told state opened new
-sound_after told state opened old new stands goes_on logged setting sound = record {
+sound_after told state opened old new stands goes_on logged within setting sound = record {
   stands = stands;
   goes_on = goes_on;
   logged = logged;
+  within = within;
   allowed = record {
     batch = subst (λ (s : Setting). s.extra ≤ 8) (sym setting) sound.allowed.batch;
     keep = subst (λ (s : Setting). s.keep ≤ 144) (sym setting) sound.allowed.keep;
@@ -182,8 +195,9 @@ started_of {D} told state alloc disk setting ends plan log running found faults 
 -- the node that began holds what is asked of each
 pub sound_started : {D : Type 0} (told : Type 0) (state : D → DiskState) (alloc : Global) (setting : Setting) (crashes : List ℕ) (points : List Point)
     (log : LogValue (FusedValue D)) (running : Up D) (found : Recovered) → Begins alloc setting crashes points log running → found ≡ found_in log → log.waiting ≡ []
-    → setting.extra ≤ 8 → setting.keep ≤ 144 → (told → Stands log (state log.disk.disk)) → IsSound told state (opened_with running.carried.setting found) (states.Up running)
-sound_started {D} told state alloc setting crashes points log running found begins is none extra keep stands = record {
+    → setting.extra ≤ 8 → setting.keep ≤ 144 → (told → Stands log (state log.disk.disk))
+    → (told → EachImage (StandBelow (open_limit + 1)) (state log.disk.disk).now) → IsSound told state (opened_with running.carried.setting found) (states.Up running)
+sound_started {D} told state alloc setting crashes points log running found begins is none extra keep stands below = record {
   stands = now;
   allowed = record {
     batch = subst (λ (s : Setting). s.extra ≤ 8) (sym begins.setting) extra;
@@ -191,6 +205,8 @@ sound_started {D} told state alloc setting crashes points log running found begi
   };
   goes_on = λ is_told. on;
   logged = λ is_told. logged_stands (opened_with running.carried.setting found) running.host.log (state running.host.log.disk.disk) (now is_told) on;
+  within = λ is_told few image here. stand_below (open_limit + 1) (limit_after running.carried.chronicle.told.rounds) image (omega arith)
+      (subst (λ (l : LogValue (FusedValue D)). EachImage (StandBelow (open_limit + 1)) (state l.disk.disk).now) same (below is_told) image here);
 }
   where
     same : log ≡ running.host.log
@@ -229,8 +245,9 @@ pub restarts_of : {D : Type 0} (told : Type 0) (state : D → DiskState) (own si
     → Keeps (HasOneOf a b) (state old.disk.disk) (state (restarted_disk restarted).disk))
     → (told → IfUp restarted (λ log. Stands log (state log.disk.disk)))
     → (told → Keeps (IsLeftOrRaised (state old.disk.disk)) (state old.disk.disk) (state (restarted_disk restarted).disk))
+    → (told → IfDamaged restarted (state old.disk.disk))
     → GoesOnFuse (mended old.disk.fuse) (restarted_disk restarted).fuse → size (restarted_disk restarted).disk ≡ size old.disk.disk → Restarts told state own size alloc old new answer
-restarts_of {D} told state own size alloc old restarted new answer is node said reopened found moments stands touched goes bytes = record {
+restarts_of {D} told state own size alloc old restarted new answer is node said reopened found moments stands touched damaged goes bytes = record {
   restarted = restarted;
   is = is;
   node = node;
@@ -240,6 +257,7 @@ restarts_of {D} told state own size alloc old restarted new answer is node said 
   moments = λ yes a b here. subst (λ (d : FusedValue D). Keeps (HasOneOf a b) (state old.disk.disk) (state d.disk)) same (moments yes a b here);
   stands = stands;
   touched = λ yes. subst (λ (d : FusedValue D). Keeps (IsLeftOrRaised (state old.disk.disk)) (state old.disk.disk) (state d.disk)) same (touched yes);
+  damaged = λ yes. damage_told (state old.disk.disk) restarted answer said (damaged yes);
   goes = subst (λ (d : FusedValue D). GoesOnFuse (mended old.disk.fuse) d.fuse) same goes;
   bytes = subst (λ (d : FusedValue D). size d.disk ≡ size old.disk.disk) same bytes;
 }

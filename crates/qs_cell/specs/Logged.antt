@@ -1,11 +1,11 @@
 -- Each image of a node's disk has a log, whatever stopped the node, and what the log held as the node was started is at its front.
-use Rattle.std.specs.Prelude.{◌≡◌, ℕ, List, ◌++◌}
+use Rattle.std.specs.Prelude.{◌≡◌, ◌≤◌, ℕ, ◌+◌, ◌-◌, List, ◌++◌}
 use Rattle.qs_disk.specs.Disk.{Frame, EachImage}
-use Rattle.qs_log_start.specs.Incarnation.{HasOneOf}
+use Rattle.qs_log_start.specs.Incarnation.{HasOneOf, open_limit, reopen_limit}
 use Rattle.qs_log.specs.Image.{IsLog}
 use Rattle.qs_book_machine.specs.declared.opened.Opened.{Opened}
 use Rattle.qs_record.specs.declared.record.Record.{Record}
-use Rattle.qs_slot.specs.Slot.{Present}
+use Rattle.qs_slot.specs.Slot.{Present, StandBelow}
 use Rattle.qs_node_step.specs.Opening.{recovered_of}
 use Rattle.qs_node_step.specs.declared.setting.Setting.{Setting}
 use Rattle.qs_world.specs.Histories.{opened_with}
@@ -33,3 +33,17 @@ pub record IsLogged (opened : Opened) (frame : Frame) : Type 0 where
   pub each : EachImage (HasOneOf first other) frame
   pub first_on : GoesOn opened first
   pub other_on : GoesOn opened other
+
+-- ---- how far its slots stand
+
+-- a run begins with slots below its limit, its start raises them by one, and each round by one at most
+abbrev pub limit_after : ℕ → ℕ
+limit_after rounds = open_limit + 1 + rounds
+
+-- so many rounds leave them below the limit of a node that starts again
+abbrev pub most_rounds : ℕ
+most_rounds = reopen_limit - limit_after 0
+
+-- the slots of each image stand so
+abbrev pub StandsWithin : ℕ → Frame → Type 0
+StandsWithin rounds frame = rounds ≤ most_rounds → EachImage (StandBelow (limit_after rounds)) frame

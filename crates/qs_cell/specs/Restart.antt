@@ -2,8 +2,9 @@
 use Rattle.std.specs.Prelude.{◌≡◌, ◌↔◌, ℕ, [], ◌∷◌, map, None}
 use Rattle.std.specs.Global.{Global}
 use Rattle.qs_base.specs.Causes.{Rose}
+use Rattle.qs_disk.specs.Disk.{DiskState}
 use Rattle.qs_disk.specs.Fuse.{FusedValue}
-use Rattle.qs_log_start.specs.Incarnation.{HasTripped}
+use Rattle.qs_log_start.specs.Incarnation.{HasTripped, IsLeftDamaged}
 use Rattle.qs_log_start.specs.declared.incarnation.ReopenFault.{ReopenFault}
 use Rattle.qs_log_start.specs.declared.incarnation.ReopenFault.TheVariants as reopen_faults
 use Rattle.qs_book_journal.specs.declared.entry.Act.{Act}
@@ -74,3 +75,8 @@ IfUp (restarts.Down stopped why) P = Unit {0}
 abbrev pub restarted_disk : {D F X : Type 0} → Restarted D F X → FusedValue D
 restarted_disk (restarts.Up running) = running.host.log.disk
 restarted_disk (restarts.Down stopped why) = stopped.disk
+
+-- where it is down for damage, an image that the power cut left is damaged there
+abbrev pub IfDamaged : {D F X : Type 0} → Restarted D F X → DiskState → Type 0
+IfDamaged (restarts.Up running) old = Unit {0}
+IfDamaged (restarts.Down stopped why) old = (at : ℕ) → why ≡ reopen_faults.Damaged at → IsLeftDamaged old at

@@ -18,9 +18,9 @@ use Rattle.qs_node_step.specs.declared.trace.Step.{Step}
 use Rattle.qs_world.specs.Histories.{opened_with}
 use Rattle.qs_cell_chronicle.specs.Carried.{Seen, seen}
 use Rattle.qs_cell_chronicle.specs.Chronicle.{new_told}
-use Rattle.qs_cell.specs.Logged.{GoesOn, IsLogged}
+use Rattle.qs_cell.specs.Logged.{GoesOn, IsLogged, StandsWithin}
 use Rattle.qs_cell.specs.Restart.{inc_of, found_in}
-use Rattle.qs_cell.specs.State.{Up, LogStands, IsAllowed, carried_of, disk_of}
+use Rattle.qs_cell.specs.State.{Up, LogStands, IsAllowed, carried_of, disk_of, rounds_of}
 use Rattle.qs_cell.specs.Visits.{Seat}
 use Rattle.qs_cell.specs.declared.starting.CellOpen.{CellOpen}
 use Rattle.qs_cell.specs.declared.starting.NodePlan.{NodePlan}
@@ -45,6 +45,7 @@ pub record IsSound {D : Type 0} (told : Type 0) (state : D → DiskState) (opene
   pub allowed : IsAllowed (carried_of node)
   pub goes_on : told → LogGoesOn opened node
   pub logged : told → IsLogged opened (state (disk_of node).disk).now
+  pub within : told → StandsWithin (rounds_of node) (state (disk_of node).disk).now
 
 abbrev pub journal_of : {D : Type 0} → CellValue D → List Entry
 journal_of cell = (carried_of cell.seat.node).chronicle.told.journal

@@ -8,7 +8,7 @@ use Rattle.qs_files.specs.declared.files.Files.{Files}
 use Rattle.qs_node_host.specs.Host.{is_settled}
 use Rattle.qs_ipc.specs.Ipc as ipc
 use Rattle.qs_book_journal.specs.declared.entry.CrashCause.{CrashCause}
-use Rattle.qs_log_start.specs.Incarnation.{IsLeftOrRaised, IsReopened, HasOneOf}
+use Rattle.qs_log_start.specs.Incarnation.{IsLeftDamaged, IsLeftOrRaised, IsReopened, HasOneOf}
 use Rattle.qs_log_start.specs.declared.incarnation.ReopenFault.{ReopenFault}
 use Rattle.qs_log_start.specs.declared.incarnation.ReopenFault.TheVariants as reopen_faults
 use Rattle.qs_log.specs.Log.{Stands, records_of}
@@ -37,6 +37,10 @@ Up D = Running D Files NoServer
 abbrev pub carried_of : {D : Type 0} → CellState D → Carried
 carried_of (states.Up running) = running.carried
 carried_of (states.Down stopped) = stopped.carried
+
+-- how often it was visited or restarted
+abbrev pub rounds_of : {D : Type 0} → CellState D → ℕ
+rounds_of state = (carried_of state).chronicle.told.rounds
 
 abbrev pub cause_of : {D : Type 0} → CellState D → Option CrashCause
 cause_of (states.Up running) = None
@@ -97,6 +101,7 @@ state_after (restarts.Down stopped why) = states.Down stopped
 abbrev pub answer_of : ReopenFault → Result Bool RestartFault
 answer_of reopen_faults.Tripped = Ok false
 answer_of reopen_faults.DiskFailed = Err restart_faults.DiskFailed
+answer_of (reopen_faults.Damaged at) = Err (restart_faults.Damaged at)
 answer_of reopen_faults.NoMemory = Err restart_faults.NoMemory
 
 abbrev pub answer_after : {D : Type 0} → Restarted D Files NoServer → Result Bool RestartFault
@@ -105,7 +110,7 @@ answer_after (restarts.Down stopped why) = answer_of why
 
 -- the node that was down is started again, over what a power cut leaves: each image keeps the records that images had, and is changed at most by the
 -- raise of the incarnation; the log of a node that is up stands there and has the records of one; the fuse, which the power cut mends, trips at
--- planned calls alone; and the disk has as many bytes as before
+-- planned calls alone; a damage that is told is that of an image; and the disk has as many bytes as before
 pub record Restarts {D : Type 0} (told : Type 0) (state : D → DiskState) (own size : D → ℕ) (alloc : Global) (old : Stopped D) (new : CellState D) (answer : Result Bool RestartFault) : Type 0 where
   pub restarted : Restarted D Files NoServer
   pub is : IsRestarted own alloc old restarted
@@ -117,6 +122,7 @@ pub record Restarts {D : Type 0} (told : Type 0) (state : D → DiskState) (own 
   pub moments : told → (a b : List Record) → EachImage (HasOneOf a b) (state old.disk.disk).now
       → Keeps (HasOneOf a b) (state old.disk.disk) (state (disk_of new).disk)
   pub touched : told → Keeps (IsLeftOrRaised (state old.disk.disk)) (state old.disk.disk) (state (disk_of new).disk)
+  pub damaged : told → (at : ℕ) → answer ≡ Err (restart_faults.Damaged at) → IsLeftDamaged (state old.disk.disk) at
   pub goes : GoesOn (mended old.disk.fuse) (disk_of new).fuse
   pub bytes : size (disk_of new).disk ≡ size old.disk.disk
 

@@ -13,6 +13,7 @@ use Rattle.qs_book_journal.specs.declared.entry.Act.TheVariants as acts
 use Rattle.qs_book_journal.specs.declared.entry.Entry.{Entry}
 use Rattle.qs_book_journal.specs.declared.script_line.ScriptLine.{ScriptLine}
 use Rattle.qs_ops.specs.declared.no_server.NoServer.{NoServer}
+use Rattle.qs_slot.specs.Slot.{SayTheSame}
 use Rattle.qs_node_step.specs.State.{client_cmp}
 use Rattle.qs_node_step.specs.declared.event.ClientAnswer.{ClientAnswer}
 use Rattle.qs_cell_chronicle.specs.Carried.{is_due_again}
@@ -81,7 +82,7 @@ all_delivered answers ends = fold deliver ends answers
 -- ---- an event
 
 -- the node made it: where the step stands the log stands on the disk with it, and at each moment each image has the records of before the step, or
--- those of after it; the disk has as many bytes as before
+-- those of after it, and slots that say the same; the disk has as many bytes as before
 pub record Makes {D : Type 0} (told : Type 0) (state : D → DiskState) (own size : D → ℕ) (occasion : Occasion) (old : Up D) (new : CellState D) (answers : List ClientAnswer) : Type 0 where
   pub outcome : Outcome D Files NoServer
   pub is : IsOutcome own (size old.host.log.disk.disk) occasion old outcome
@@ -90,6 +91,7 @@ pub record Makes {D : Type 0} (told : Type 0) (state : D → DiskState) (own siz
   pub stands : told → IfStands outcome (λ disk. StandsAfter (out_of (size old.host.log.disk.disk) occasion old) old.host.log disk (state disk.disk))
   pub moments : told → Keeps (IsOldOrAfter (out_of (size old.host.log.disk.disk) occasion old) old.host.log)
       (state old.host.log.disk.disk) (state (disk_of new).disk)
+  pub header : told → Keeps (SayTheSame (state old.host.log.disk.disk).content) (state old.host.log.disk.disk) (state (disk_of new).disk)
   pub bytes : size (disk_of new).disk ≡ size old.host.log.disk.disk
 
 -- a node that is down makes nothing of it

@@ -72,6 +72,7 @@ pub record IsLeft {D : Type 0} (own : D → ℕ) (rest : Rest) (before : FaultCo
   pub seen : seen stopped.carried ≡ seen rest.carried
   pub tripped : (why ≡ reopen_faults.Tripped) ↔ (left.fuse.trips ≢ before.trips)
   pub failed : why ≡ reopen_faults.DiskFailed → Rose before.own (own left.disk)
+  pub sound : (at : ℕ) → why ≢ reopen_faults.Damaged at
 
 abbrev pub IsLeftDown : {D F X : Type 0} → (D → ℕ) → Rest → FaultCounts → FusedValue D → Restarted D F X → Type 0
 IsLeftDown own rest before disk (restarts.Up running) = ⊥

@@ -3,16 +3,16 @@ ghost use Rattle.std.specs.Prelude.{◌≡◌, ◌≤◌, ◌<◌, ◌⊎◌, �
 ghost use Rattle.std.specs.List.{list_any};
 ghost use Rattle.qs_base.specs.Causes.{Rose};
 ghost use Rattle.qs_cell.specs.Joined.{HaveSameRings, StayJoined};
-ghost use Rattle.qs_cell.specs.Logged.{HasLog, IsLogged};
+ghost use Rattle.qs_cell.specs.Logged.{HasLog, IsLogged, most_rounds};
 ghost use Rattle.qs_cell.specs.Starts.{IsStarted, started_disk, journal_of, trace_of};
 ghost use Rattle.qs_cell.specs.Restart.{in_round_as};
-ghost use Rattle.qs_cell.specs.State.{IsSeenAs, LogStands, IsAllowed, StartsAgain, carried_of, cause_of, disk_of, has_undecided, is_settled_node};
+ghost use Rattle.qs_cell.specs.State.{IsSeenAs, LogStands, IsAllowed, StartsAgain, carried_of, cause_of, disk_of, has_undecided, is_settled_node, rounds_of};
 ghost use Rattle.qs_cell.specs.Visits.{Turns, IsBroken, TurnsAll, TurnsSome, Visits, Breaks, Grows, sources_of, due, left_by, held_by, as_command, due_command, due_again, left_of, all_delivered, deliver, has_noted, is_noted, MakesIn};
 ghost use Rattle.qs_cell_chronicle.specs.Chronicle.{HasRoom};
 ghost use Rattle.qs_cell.specs.declared.state.RestartFault.TheVariants as restart_faults;
 ghost use Rattle.qs_disk.specs.Disk.{EachImage};
 ghost use Rattle.qs_disk.specs.Moments.{Keeps};
-ghost use Rattle.qs_log_start.specs.Incarnation.{open_limit, IsTouched};
+ghost use Rattle.qs_log_start.specs.Incarnation.{open_limit, IsTouched, MayLeaveUnraised};
 ghost use Rattle.qs_link.specs.Lanes.{ends_of, SendsTo, SendsFrom, CarriesIn, CarriesOut};
 ghost use Rattle.qs_log.specs.Image.{IsDamaged};
 ghost use Rattle.qs_log.specs.declared.fault.OpenFault.TheVariants as open_faults;
@@ -102,8 +102,9 @@ impl<D: Disk> NodeCell<D> {
         ensures damaged { D.told → IfErr result (λ back. (at : ℕ) → back.why ≡ open_faults.Damaged at → IsDamaged open_limit (D.state disk.disk).content at) }
         ensures failed { IfErr result (λ back. back.why ≡ open_faults.DiskFailed → Rose (D.fault_count disk.disk) (D.fault_count back.disk.disk)) }
 
-        // The disk is changed at most by the raise.
+        // The disk is changed at most by the raise, and where it failed a power cut may still leave it unraised.
         ensures moments { D.told → Keeps (IsTouched (D.state disk.disk)) (D.state disk.disk) (D.state (started_disk result).disk) }
+        ensures kept { D.told → IfErr result (λ back. back.why ≡ open_faults.DiskFailed → MayLeaveUnraised (D.state disk.disk) (D.state back.disk.disk)) }
         ensures size { D.byte_count (started_disk result).disk ≡ D.byte_count disk.disk }
     {
         let NodePlan {
@@ -200,11 +201,12 @@ impl<D: Disk> NodeCell<D> {
 
     /// A node that is down starts again, and the answer says whether it is up: it is not exactly where the fuse tripped in
     /// this call. `DiskFailed` comes only where the disk's own count of faults rose, in this call and since the disk was handed
-    /// in; `NoMemory` where memory was refused, the log is damaged, or a fault of the disk is not borne out by that count. The
-    /// node is still down then. A node that is up is left alone.
+    /// in; `NoMemory` where memory was refused, or a fault of the disk is not borne out by that count; `Damaged` never within
+    /// 2^61 - 2 rounds, over a disk that tells. The node is still down then. A node that is up is left alone.
     pub fn restart(&mut self) -> Result<bool, RestartFault>
         ensures starts { StartsAgain D.told D.state D.fault_count D.byte_count self.old.alloc self.old.seat.node self.new.seat.node result }
         ensures failed { result ≡ Err restart_faults.DiskFailed → Rose self.old.faults (D.fault_count (disk_of self.new.seat.node).disk) }
+        ensures damaged { D.told → (at : ℕ) → result ≡ Err (restart_faults.Damaged at) → most_rounds < rounds_of self.old.seat.node }
         ensures grows { Grows (journal_of self.old) (journal_of self.new) }
         ensures ends { self.new.seat.ends ≡ self.old.seat.ends }
         ensures opened { self.new.opened ≡ self.old.opened }

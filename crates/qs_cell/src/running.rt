@@ -12,6 +12,7 @@ ghost use Rattle.qs_cell_chronicle.specs.Chronicle.{HasRoom, noted};
 ghost use Rattle.qs_cell_chronicle.specs.Carried.{seen, answered};
 ghost use Rattle.qs_cell_chronicle.specs.Occasions.{taken, event_of, did_of};
 ghost use Rattle.qs_cell_chronicle.specs.Points.{after_entries};
+ghost use Rattle.qs_slot.specs.Slot.{SayTheSame};
 ghost use Rattle.qs_cell.specs.Cell.{begun, ordered, why_not, fault_cause, out_of, IsOutcome, IfStands, StandsAfter};
 ghost use Rattle.qs_cell.specs.Outcomes.{stopped_of, outcome_of};
 ghost use Rattle.qs_cell.specs.Roomy.{ComesNew, IsRoomyOutcome};
@@ -62,7 +63,8 @@ impl<D: Disk, F: Server, X: Server> Running<D, F, X> {
         ensures outcome { IsOutcome D.fault_count (D.byte_count self.old.host.log.disk.disk) occasion self.old (outcome_of result self.new) }
         ensures stands { D.told → IfStands (outcome_of result self.new) (λ disk. StandsAfter (out_of (D.byte_count self.old.host.log.disk.disk) occasion self.old) self.old.host.log disk (D.state disk.disk)) }
 
-        // At each moment each image has the records of before the step, or those of after it.
+        // At each moment each image has the records of before the step, or those of after it, and slots that say the same.
+        ensures header { D.told → Keeps (SayTheSame (D.state self.old.host.log.disk.disk).content) (D.state self.old.host.log.disk.disk) (D.state self.new.host.log.disk.disk) }
         ensures moments { D.told → Keeps (IsOldOrAfter (out_of (D.byte_count self.old.host.log.disk.disk) occasion self.old) self.old.host.log)
             (D.state self.old.host.log.disk.disk) (D.state self.new.host.log.disk.disk) }
         ensures size { D.byte_count self.new.host.log.disk.disk ≡ D.byte_count self.old.host.log.disk.disk }
@@ -164,6 +166,7 @@ fn worked_out<D: Disk, F: Server, X: Server>(
     ensures stands { D.told → IfStands (outcome_of result (running_with {F = F} {X = X} host.new carried.new)) (λ disk. StandsAfter (effects_at (D.byte_count host.old.log.disk.disk) host.old (event_of occasion)) host.old.log disk (D.state disk.disk)) }
     ensures moments { D.told → Keeps (IsOldOrAfter (effects_at (D.byte_count host.old.log.disk.disk) host.old (event_of occasion)) host.old.log)
         (D.state host.old.log.disk.disk) (D.state host.new.log.disk.disk) }
+    ensures header { D.told → Keeps (SayTheSame (D.state host.old.log.disk.disk).content) (D.state host.old.log.disk.disk) (D.state host.new.log.disk.disk) }
     ensures size { D.byte_count host.new.log.disk.disk ≡ D.byte_count host.old.log.disk.disk }
 {
     let Ok(out) = work_out(host, &occasion) else {
@@ -210,6 +213,7 @@ fn carried_out<D: Disk, F: Server, X: Server>(
         → IsOutcome D.fault_count size occasion old (outcome_of result (running_with host.new carried.new)) }
     ensures stands { D.told → IfStands (outcome_of result (running_with {F = F} {X = X} host.new carried.new)) (λ disk. StandsAfter out host.old.log disk (D.state disk.disk)) }
     ensures moments { D.told → Keeps (IsOldOrAfter out host.old.log) (D.state host.old.log.disk.disk) (D.state host.new.log.disk.disk) }
+    ensures header { D.told → Keeps (SayTheSame (D.state host.old.log.disk.disk).content) (D.state host.old.log.disk.disk) (D.state host.new.log.disk.disk) }
     ensures size { D.byte_count host.new.log.disk.disk ≡ D.byte_count host.old.log.disk.disk }
 {
     let trips = host.disk().trips();

@@ -39,7 +39,10 @@ pub enum RestartFault {
     /// The disk itself failed a call.
     #[error("a disk call failed")]
     DiskFailed,
-    /// Memory was refused, the log is damaged, or a fault of the disk is not borne out by its count.
+    /// The log is damaged at that byte.
+    #[error("the log is damaged at byte {at}")]
+    Damaged { at: u64 },
+    /// Memory was refused, or a fault of the disk is not borne out by its count.
     #[error("memory was refused")]
     NoMemory,
 }
@@ -260,6 +263,7 @@ fn answer_of(why: ReopenFault) -> Result<bool, RestartFault>
     match why {
         ReopenFault::Tripped => Ok(false),
         ReopenFault::DiskFailed => Err(RestartFault::DiskFailed),
+        ReopenFault::Damaged { at } => Err(RestartFault::Damaged { at }),
         ReopenFault::NoMemory => Err(RestartFault::NoMemory),
     }
 }

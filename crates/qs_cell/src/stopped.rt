@@ -1,7 +1,7 @@
 //! A node that is down: how it stops, and how it starts again.
 ghost use Rattle.std.specs.Prelude.{◌≡◌, ◌⊎◌, ◌≤◌, ℕ, ◌∷◌, List, [], map, None, IfOk, OnOk};
 ghost use Rattle.qs_cell_chronicle.specs.Chronicle.{HasRoom, noted, stamped};
-ghost use Rattle.qs_cell.specs.Restart.{IsRestarted, IsWhyDown, IfUp, restarted_disk, found_of, restart_of};
+ghost use Rattle.qs_cell.specs.Restart.{IsRestarted, IsWhyDown, IfDamaged, IfUp, restarted_disk, found_of, restart_of};
 ghost use Rattle.qs_cell.specs.Roomy.{IsSetToKeep, RisesRoomy};
 ghost use Rattle.qs_cell.specs.Within.{IsLeftDown, Begins};
 ghost use Rattle.qs_cell.specs.declared.stopped.Restarted.TheVariants as restarts;
@@ -63,7 +63,8 @@ impl<D: Disk> Stopped<D> {
     /// the log says and what it kept for its clients. Its files and the further server are empty.
     ///
     /// Of a node that is still down `Tripped` is told exactly where the fuse tripped in this call, which it does at planned
-    /// calls alone, and `DiskFailed` only where the disk's own count of faults rose. A log that opens as damaged is told as `NoMemory`.
+    /// calls alone, `DiskFailed` only where the disk's own count of faults rose, and `Damaged` only where an image that the power cut
+    /// left is damaged there.
     pub fn restart<F: Server, X: Server>(
         self,
         alloc: Global,
@@ -86,6 +87,7 @@ impl<D: Disk> Stopped<D> {
             → Keeps (HasOneOf a b) (D.state self.disk.disk) (D.state (restarted_disk result).disk) }
         ensures touched { D.told → Keeps (IsLeftOrRaised (D.state self.disk.disk)) (D.state self.disk.disk) (D.state (restarted_disk result).disk) }
         ensures size { D.byte_count (restarted_disk result).disk ≡ D.byte_count self.disk.disk }
+        ensures damaged { D.told → IfDamaged result (D.state self.disk.disk) }
 
         // What tripped did so at a planned call.
         ensures goes { GoesOn (mended self.disk.fuse) (restarted_disk result).fuse }

@@ -135,6 +135,16 @@ matches_written at s l c bytes flags fits m =
     (subst (λ n. Matches (range at (length bytes) s) (replicate n true) bytes) (long ∙ sym count) (matches_free (range at (length bytes) s) bytes (sym long)))
     (matches_drop (at + length bytes) s l c m)
 
+-- each image of before is one still
+pub matches_still : (at count : ℕ) (s : List ℕ) (l : List Bool) (c : List ℕ) → length l ≡ length s → at + count ≤ length s → Matches s l c
+    → Matches s (marked at (at + count) true l) c
+matches_still at count s l c flags fits m =
+    let all : length c ≡ length s = matches_length s l c m in
+    let part : length (range at count c) ≡ count = length_range at count c (omega arith) in
+    subst (λ d. Matches s (marked at (at + count) true l) d) (whole at count c)
+    (subst (λ n. Matches s (marked at (at + n) true l) (take at c ++ range at count c ++ drop (at + n) c)) part
+    (matches_written at s l c (range at count c) flags (omega arith) m))
+
 -- each image after it is one from before, torn in the range
 pub torn_from : (at count : ℕ) (s : List ℕ) (l : List Bool) (c : List ℕ) → length l ≡ length s → at + count ≤ length s
     → Matches s (marked at (at + count) true l) c → (d : List ℕ) × Matches s l d × Torn at count d c

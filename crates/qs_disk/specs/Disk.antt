@@ -1,5 +1,5 @@
 -- What a disk tells: its content, and the images that a power cut may leave, now and at each moment before.
-use Rattle.std.specs.Prelude.{◌≡◌, ◌≤◌, ◌+◌, ◌*◌, ◌⊎◌, ℕ, Bool, true, false, IsTrue, List, [], ◌∷◌, ◌++◌, length, take, drop, ⊤}
+use Rattle.std.specs.Prelude.{◌≡◌, ◌≤◌, ◌+◌, ◌*◌, ◌⊎◌, ℕ, Bool, true, false, IsTrue, IsFalse, List, [], ◌∷◌, ◌++◌, length, take, drop, ⊤}
 
 -- what a power cut goes by: the bytes at the last sync, and which places were written since
 pub record Frame : Type 0 where
@@ -33,6 +33,16 @@ pub record IsSize (size : ℕ) : Type 0 where
 -- each image has P
 abbrev pub EachImage : (List ℕ → Type 0) → Frame → Type 0
 EachImage P f = (c : List ℕ) → IsImage f c → P c
+
+-- a power cut may leave bytes that have P
+pub record MayLeave (P : List ℕ → Type 0) (f : Frame) : Type 0 where
+  pub bytes : List ℕ
+  pub image : IsImage f bytes
+  pub has : P bytes
+
+-- whatever a power cut might have left before, it may leave still
+abbrev pub StillLeaves : Frame → Frame → Type 0
+StillLeaves old new = (c : List ℕ) → IsImage old c → IsImage new c
 
 -- the content is the only image
 abbrev pub IsStill : DiskState → Type 0
@@ -68,26 +78,30 @@ pub record Reads (at : ℕ) (bytes : List ℕ) (ok : Bool) (old new : DiskState)
   pub read : IsTrue ok → bytes ≡ range at (length bytes) old.content
   pub content : new.content ≡ old.content
   pub images : (c : List ℕ) → IsImage new.now c → IsImage old.now c
+  pub keeps : StillLeaves old.now new.now
   pub time : Elapses old new
 
--- a write: until the next sync each image has any bytes in the range, also where the write failed
+-- a write: until the next sync each image has any bytes in the range, those of before too, also where the write failed
 pub record Writes (at : ℕ) (bytes : List ℕ) (ok : Bool) (old new : DiskState) : Type 0 where
   pub written : IsTrue ok → new.content ≡ with_range old.content at bytes
   pub images : (c : List ℕ) → IsImage new.now c → (d : List ℕ) × IsImage old.now d × Torn at (length bytes) d c
+  pub keeps : StillLeaves old.now new.now
   pub as_long : length new.content ≡ length old.content
   pub time : Elapses old new
 
--- a sync: the content is the only image
+-- a sync: the content is the only image; one that failed loses none of before
 pub record Syncs (ok : Bool) (old new : DiskState) : Type 0 where
   pub still : IsTrue ok → IsStill new
   pub content : new.content ≡ old.content
   pub images : (c : List ℕ) → IsImage new.now c → IsImage old.now c ⊎ (c ≡ old.content)
+  pub keeps : IsFalse ok → StillLeaves old.now new.now
   pub time : Elapses old new
 
--- a power cut: one image is left, which is the content and the only image from then on
+-- a power cut: one image is left, which is the content and the only image from then on; one that failed loses none of before
 pub record Cuts (ok : Bool) (old new : DiskState) : Type 0 where
   pub left : IsTrue ok → IsImage old.now new.content
   pub still : IsTrue ok → IsStill new
   pub images : (c : List ℕ) → IsImage new.now c → IsImage old.now c
+  pub keeps : IsFalse ok → StillLeaves old.now new.now
   pub as_long : length new.content ≡ length old.content
   pub time : Elapses old new

@@ -1,7 +1,7 @@
 //! The bytes of a disk in memory, those of its last sync, and the places written since.
 ghost use Rattle.std.specs.Prelude.{◌≡◌, ◌≤◌, ◌<◌, ◌+◌, ◌-◌, ℕ, Bool, true, false, List, ◌++◌, length, take, drop, replicate, IfOk};
 ghost use Rattle.qs_disk.specs.Cells.{IsQuiet, IsWithin, marked};
-ghost use Rattle.qs_disk.specs.Disk.{IsImage, EachImage, Matches, Torn, range, with_range};
+ghost use Rattle.qs_disk.specs.Disk.{IsImage, EachImage, StillLeaves, Matches, Torn, range, with_range};
 
 use qs_base::NoMemory;
 use rand_core::utils::NextWord;
@@ -103,6 +103,7 @@ impl Cells {
         ensures content { self.new.content ≡ with_range self.old.content at bytes.now }
         ensures as_long { length self.new.content ≡ length self.old.content }
         ensures images { (c : List ℕ) → IsImage self.new.now c → (d : List ℕ) × IsImage self.old.now d × Torn at (length bytes.now) d c }
+        ensures keeps { StillLeaves self.old.now self.new.now }
     {
         put(&mut self.content, at, bytes);
         let end = at + bytes.len();

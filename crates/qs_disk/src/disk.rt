@@ -12,10 +12,11 @@ pub struct DiskFailed;
 
 /// A disk of fixed size that a power cut may interrupt at any moment.
 ///
-/// Between two syncs each range that was written may hold any bytes in an image, also where the
-/// write failed; other bytes are those of the last sync. The content is one of the images at each
-/// moment between two calls (`size` says so). What `state` says of content and images is promised
-/// where `told` holds, as it does of disks in memory.
+/// Between two syncs each range that was written may hold any bytes in an image, those of before too,
+/// also where the write failed; other bytes are those of the last sync. So whatever a power cut might
+/// have left, it may leave still, until a sync or a power cut returns. The content is one of the
+/// images at each moment between two calls (`size` says so). What `state` says of content and images
+/// is promised where `told` holds, as it does of disks in memory.
 pub trait Disk {
     /// Whether content and images are told.
     ghost told: { Type 0 };
@@ -63,7 +64,7 @@ pub trait Disk {
         ensures leads { leads_to self.old self.new };
 
     /// After it the content is the only image. `DiskFailed` comes only where the count of faults rose
-    /// in this call.
+    /// in this call; no image of before is lost then.
     fn sync(&mut self) -> Result<(), DiskFailed>
         ensures state { told → Syncs (is_ok result) (state self.old) (state self.new) }
         ensures size { byte_count self.new ≡ byte_count self.old }
@@ -71,7 +72,7 @@ pub trait Disk {
         ensures leads { leads_to self.old self.new };
 
     /// Cuts the power: leaves one image, which is then the content and the only image. `DiskFailed`
-    /// comes only where the count of faults rose in this call.
+    /// comes only where the count of faults rose in this call; no image of before is lost then.
     fn power_cut(&mut self) -> Result<(), DiskFailed>
         ensures state { told → Cuts (is_ok result) (state self.old) (state self.new) }
         ensures size { byte_count self.new ≡ byte_count self.old }

@@ -6,13 +6,14 @@ use Rattle.qs_log_batch.specs.Batch.{SpellsBatch, batch_length}
 use Rattle.qs_log_batch.specs.Gathering.{IsSealed}
 use Rattle.qs_disk.specs.Disk.{DiskState, IsStill, Torn, with_range}
 use Rattle.qs_disk.specs.Moments.{Keeps}
-use Rattle.qs_disk.proofs.Moments.{keeps_trans, keeps_weaken, torn_with_range}
+use Rattle.qs_disk.proofs.Moments.{each_still, keeps_none, keeps_trans, keeps_weaken, torn_with_range}
 use Rattle.qs_record.specs.declared.record.Record.{Record}
 use Rattle.qs_log.specs.Image.{half, area_start, IsLog}
 use Rattle.qs_log.specs.Log.{LogValue, Stands, IsOldOrWhole, IsReady, forced_of, waiting_length}
-use Rattle.qs_log.proofs.Areas.{area_within}
+use Rattle.qs_log.proofs.Areas.{area_within, slots_torn}
 use Rattle.qs_log_batch.proofs.BatchLemmas.{batch_long}
 use Rattle.qs_slot.proofs.Ranges.{put_get}
+use Rattle.qs_slot.specs.Slot.{SayTheSame}
 use Rattle.qs_log.proofs.Images.{gate_of, IsStaged, log_behind, log_staged, log_whole, log_old_or_whole, holds_torn}
 
 -- where some wait, they take a batch
@@ -113,3 +114,25 @@ on_ok_all (Err error) c = tt
 pub on_ok_map : {T E A B : Type 0} (result : Result T E) → (A → B) → OnOk result A → OnOk result B
 on_ok_map (Ok value) f a = f a
 on_ok_map (Err error) f a = tt
+
+-- ---- the slots
+
+-- they say the same while a batch is written behind them
+pub header_stays : (s : DiskState) → IsStill s → Keeps (SayTheSame s.content) s s
+header_stays s still = keeps_none (SayTheSame s.content) s (each_still (SayTheSame s.content) s still (λ limit. refl))
+
+module _ (gate : ℕ) (bytes : List ℕ) (s0 s1 s2 : DiskState) (behind : 8192 ≤ gate) where
+  pub header_first : Keeps (Torn (gate + 1) (length bytes) s0.content) s0 s1 → Keeps (SayTheSame s0.content) s0 s1
+  header_first = keeps_weaken (Torn (gate + 1) (length bytes) s0.content) (SayTheSame s0.content) s0 s1
+      (λ c torn limit. slots_torn limit (gate + 1) (length bytes) s0.content c torn (omega (arith, behind)))
+
+  -- and while its gate is opened
+  pub header_second : gate + 1 + length bytes ≤ length s0.content → s1.content ≡ with_range s0.content (gate + 1) bytes
+      → Keeps (Torn (gate + 1) (length bytes) s0.content) s0 s1 → Keeps (Torn gate 1 s1.content) s1 s2 → Keeps (SayTheSame s0.content) s0 s2
+  header_second fits written before after =
+      let torn : Torn (gate + 1) (length bytes) s0.content s1.content =
+      subst (Torn (gate + 1) (length bytes) s0.content) (sym written) (torn_with_range (gate + 1) bytes s0.content fits) in
+      keeps_trans (SayTheSame s0.content) s0 s1 s2 (header_first before)
+      (keeps_weaken (Torn gate 1 s1.content) (SayTheSame s0.content) s1 s2
+      (λ c later limit. slots_torn limit gate 1 s1.content c later behind ∙ slots_torn limit (gate + 1) (length bytes) s0.content s1.content torn (omega (arith, behind)))
+      after)

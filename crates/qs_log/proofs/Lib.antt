@@ -7,3 +7,4 @@ pub mod Forcing
 pub mod Raising
 pub mod RecordLemmas
 pub mod Holding
+pub mod Fresh

@@ -2,12 +2,13 @@
 ghost use Rattle.std.specs.Prelude.{◌≡◌, ◌≤◌, ◌<◌, ◌+◌, ◌-◌, ◌^◌, ◌⊎◌, ◌↔◌, ℕ, List, [], ◌∷◌, ◌++◌, length, take, drop, IfOk, IfErr, OnOk, OnErr, IsErrOf, Ok, Err};
 ghost use Rattle.std.specs.List.{filter};
 ghost use Rattle.qs_base.specs.Causes.{HasCause, Rose};
-ghost use Rattle.qs_disk.specs.Disk.{IsImage, IsStill, Torn, with_range};
+ghost use Rattle.qs_disk.specs.Disk.{IsImage, IsStill, MayLeave, Torn, with_range};
 ghost use Rattle.qs_disk.specs.Fuse.{armed};
 ghost use Rattle.qs_disk.specs.Moments.{Keeps};
 ghost use Rattle.qs_record.specs.Grammar.{IsRecord};
 ghost use Rattle.qs_slot.specs.Opening.{IsWithin};
-ghost use Rattle.qs_slot.specs.Slot.{slots_in};
+ghost use Rattle.qs_slot.specs.Slot.{slots_in, SayTheSame, StandBelow};
+ghost use Rattle.qs_slot.specs.Turning.{SaysAsBefore};
 ghost use Rattle.qs_log.specs.Image.{IsDamaged};
 ghost use Rattle.qs_log.specs.Log.{LogValue, Stands, IsOldOrWhole, IsOldOrRaised, records_of, room_of, need_of, top_of, raised_of, waiting_length, is_of, disk_of, IsFull, IsForced, HasSameRecords, IsReady, IsSameButFuse, forced_of};
 ghost use Rattle.qs_log_batch.specs.Batch.{batch_length};
@@ -61,7 +62,7 @@ impl<D: Disk> Log<D> {
     /// The log of a disk, after a sync: its slots, whose numbers have to be below the limit, and the
     /// records of its live area. None waits. `Damaged` tells the place of a damaged slot, or of an open
     /// gate before no batch; `DiskFailed` comes only where the disk's count of faults rose. The disk
-    /// comes back in each case, and its content stays the same.
+    /// comes back in each case, and its content stays the same, which a power cut may leave.
     pub fn open(alloc: Global, disk: D, limit: u64) -> Result<Log<D>, LogOpen<D>>
         requires { limit < 2 ^ 62 }
 
@@ -77,6 +78,7 @@ impl<D: Disk> Log<D> {
 
         // What stays.
         ensures content { D.told → (D.state (disk_of result)).content ≡ (D.state disk).content }
+        ensures image { D.told → IsImage (D.state (disk_of result)).now (D.state disk).content }
         ensures moments { D.told → Keeps (λ c. IsImage (D.state disk).now c ⊎ (c ≡ (D.state disk).content)) (D.state disk) (D.state (disk_of result)) }
         ensures size { D.byte_count (disk_of result) ≡ D.byte_count disk }
         ensures leads { D.leads_to disk (disk_of result) }
@@ -160,8 +162,9 @@ impl<D: Disk> Log<D> {
         ensures forced { OnOk result (IsForced self.old self.new) }
         ensures stands { D.told → OnOk result (Stands self.new (D.state self.new.disk)) }
 
-        // What stays, and why it fails.
+        // What stays, and why it fails: at each moment the slots of an image say the same.
         ensures slots { self.new.slots ≡ self.old.slots }
+        ensures header { D.told → Keeps (SayTheSame (D.state self.old.disk).content) (D.state self.old.disk) (D.state self.new.disk) }
         ensures records { records_of self.new ≡ records_of self.old }
         ensures size { D.byte_count self.new.disk ≡ D.byte_count self.old.disk }
         ensures leads { D.leads_to self.old.disk self.new.disk }
@@ -182,14 +185,20 @@ impl<D: Disk> Log<D> {
 
     /// Writes the incarnation one higher into the other slot, and answers it: six disk calls. At each
     /// moment an image has the slots of before or the new ones, and the forced records. `DiskFailed`
-    /// comes only where the disk's count of faults rose; the log need not stand then, and only
-    /// `into_disk` is of use.
+    /// comes only where the disk's count of faults rose; a power cut may still leave the incarnation of
+    /// before then, the log need not stand, and only `into_disk` is of use.
     pub fn raise(&mut self) -> Result<u64, DiskFailed>
         requires below { top_of self.old.slots.present < 2 ^ 62 - 1 }
         requires stands { D.told → Stands self.old (D.state self.old.disk) }
 
         // At each moment an image has the incarnation of before or the new one.
         ensures moments { D.told → Keeps (IsOldOrRaised self.old) (D.state self.old.disk) (D.state self.new.disk) }
+
+        // Where it fails a power cut may still leave the incarnation of before.
+        ensures kept { D.told → OnErr result (MayLeave (SaysAsBefore (D.state self.old.disk).content) (D.state self.new.disk).now) }
+        // Slots that stand below a limit with room for the new one do so at each moment.
+        ensures below { D.told → (limit : ℕ) → slots_in limit (D.state self.old.disk).content ≡ Ok self.old.slots.present
+            → top_of self.old.slots.present + 1 < limit → Keeps (StandBelow limit) (D.state self.old.disk) (D.state self.new.disk) }
 
         // What an `Ok` gives.
         ensures answer { IfOk result (λ inc. inc ≡ self.old.slots.present.value.inc + 1) }
@@ -306,6 +315,7 @@ fn write_batch<D: Disk>(disk: &mut D, gate: u64, batch: &mut Batch) -> Result<()
         → OnOk result (Stands (forced_of log) (D.state disk.new)) }
 
     // What stays, and why it fails.
+    ensures header { D.told → 8192 ≤ gate → Keeps (SayTheSame (D.state disk.old).content) (D.state disk.old) (D.state disk.new) }
     ensures batch { batch.new ≡ batch.old }
     ensures size { D.byte_count disk.new ≡ D.byte_count disk.old }
     ensures leads { D.leads_to disk.old disk.new }

@@ -48,10 +48,13 @@ pub(crate) fn read_log<D: Disk>(alloc: Global, disk: &mut D, limit: u64) -> Resu
     ensures failed { result ≡ Err faults.DiskFailed → Rose (D.fault_count disk.old) (D.fault_count disk.new) }
     ensures later { D.fault_count disk.old ≤ D.fault_count disk.new }
     ensures content { D.told → (D.state disk.new).content ≡ (D.state disk.old).content }
+    ensures image { D.told → IsImage (D.state disk.new).now (D.state disk.old).content }
     ensures moments { D.told → Keeps (λ c. IsImage (D.state disk.old).now c ⊎ (c ≡ (D.state disk.old).content)) (D.state disk.old) (D.state disk.new) }
     ensures size { D.byte_count disk.new ≡ D.byte_count disk.old }
     ensures leads { D.leads_to disk.old disk.new }
 {
+    // A power cut may leave the content.
+    let _size = disk.size();
     match settle(disk) {
         Ok(()) => read_held(alloc, disk, limit),
         Err(DiskFailed) => Err(OpenFault::DiskFailed),
@@ -83,6 +86,7 @@ fn read_held<D: Disk>(alloc: Global, disk: &mut D, limit: u64) -> Result<Held, O
     ensures failed { result ≡ Err faults.DiskFailed → Rose (D.fault_count disk.old) (D.fault_count disk.new) }
     ensures later { D.fault_count disk.old ≤ D.fault_count disk.new }
     ensures content { D.told → (D.state disk.new).content ≡ (D.state disk.old).content }
+    ensures image { D.told → IsImage (D.state disk.new).now (D.state disk.old).content }
     ensures moments { D.told → Keeps (λ c. c ≡ (D.state disk.old).content) (D.state disk.old) (D.state disk.new) }
     ensures size { D.byte_count disk.new ≡ D.byte_count disk.old }
     ensures leads { D.leads_to disk.old disk.new }
@@ -147,6 +151,7 @@ fn read_area<D: Disk>(alloc: Global, disk: &mut D, generation: u32) -> Result<Ve
     ensures failed { result ≡ Err faults.DiskFailed → Rose (D.fault_count disk.old) (D.fault_count disk.new) }
     ensures later { D.fault_count disk.old ≤ D.fault_count disk.new }
     ensures content { D.told → (D.state disk.new).content ≡ (D.state disk.old).content }
+    ensures image { D.told → IsImage (D.state disk.new).now (D.state disk.old).content }
     ensures moments { D.told → Keeps (λ c. c ≡ (D.state disk.old).content) (D.state disk.old) (D.state disk.new) }
     ensures size { D.byte_count disk.new ≡ D.byte_count disk.old }
     ensures leads { D.leads_to disk.old disk.new }

@@ -1,21 +1,24 @@
 -- What stands on the disk while the log of a node begins an incarnation: the records of before, whatever is opened and raised.
-use Rattle.std.proofs.Common.{◌≡◌, ◌⊎◌, ◌∙◌, ap, subst, sym, refl, inl, inr, ℕ, Bool, List, [], IsTrue}
+use Rattle.std.proofs.Common.{◌≡◌, ◌⊎◌, ◌∙◌, ◌<◌, ◌≤◌, ◌+◌, ◌^◌, ap, subst, sym, refl, inl, inr, ℕ, Bool, List, [], ◌∷◌, IsTrue, arith}
+use Rattle.std.proofs.lemmas.List.{append_cancel_left}
 use Rattle.std.specs.Prelude.{Result, Ok, Err, IfOk, IfErr, is_ok}
-use Rattle.qs_log_batch.proofs.AreaLemmas.{counted_one}
-use Rattle.qs_log_batch.specs.Batch.{IsCounted}
+use Rattle.qs_log_batch.proofs.AreaLemmas.{broken_not_counted, counted_one}
+use Rattle.qs_log_batch.specs.Batch.{Counts, IsCounted}
 use Rattle.qs_disk.proofs.Moments.{keeps_trans, keeps_weaken, cut_keeps, cut_content}
-use Rattle.qs_disk.specs.Disk.{DiskState, IsImage, EachImage, Cuts}
-use Rattle.qs_disk.specs.Moments.{Keeps}
+use Rattle.qs_disk.specs.Disk.{DiskState, Frame, IsImage, EachImage, Cuts}
+use Rattle.qs_disk.specs.Moments.{AtEach, Keeps}
 use Rattle.qs_disk.specs.Fuse.{FusedValue}
-use Rattle.qs_log_start.specs.Incarnation.{reopen_limit, IsRaisedLog, IsReopened, IsOldOrRaised, IsTouched, IsLeftOrRaised, HasOneOf}
-use Rattle.qs_log.specs.Image.{IsLog, live_area}
-use Rattle.qs_log.specs.Log.{LogValue, Stands, HasSameRecords, IsSameButFuse, raised_of}
+use Rattle.qs_log_start.specs.Incarnation.{reopen_limit, IsRaisedLog, IsReopened, IsOldOrRaised, IsTouched, MayLeaveUnraised, IsLeftOrRaised, HasOneOf, IsLeftDamaged, HasLogBelow}
+use Rattle.qs_log.specs.Image.{IsLog, live_area, InBatch, InSlot, IsDamaged}
+use Rattle.qs_log.specs.Log.{LogValue, Stands, HasSameRecords, IsSameButFuse, raised_of, top_of, disk_of as log_disk}
 use Rattle.qs_log.specs.Log.{IsOldOrRaised as IsOldOrRaisedLog}
 use Rattle.qs_log.specs.declared.fault.LogOpen.{LogOpen}
 use Rattle.qs_log.specs.declared.fault.OpenFault.TheVariants as open_faults
 use Rattle.qs_record.specs.declared.record.Record.{Record}
-use Rattle.qs_slot.specs.Slot.{Present, slots_in}
-use Rattle.qs_slot.specs.Turning.{SlotsValue}
+use Rattle.qs_slot.specs.Slot.{Present, slots_in, StandBelow}
+use Rattle.qs_slot.specs.Turning.{SlotsValue, SaysAsBefore}
+use Rattle.qs_slot.proofs.Limits.{one_present, present_below, stand_below}
+use Rattle.qs_slot.proofs.SlotLemmas.{slots_in-below}
 
 -- ---- an image has one log
 
@@ -27,6 +30,23 @@ one_log p q a b m n image left right =
     let same : p ≡ q = same_present p q (sym left.slots ∙ right.slots) in
     (counted_one p.value.format (live_area p.value.generation image) a b m n left.counted
     (subst (λ (r : Present). IsCounted r.value.format (live_area r.value.generation image) b n) (sym same) right.counted)).0
+
+-- ---- facts at each moment of one stretch
+
+at_each_both : {A : Type 0} (P : List ℕ → Type 0) (Q : A → List ℕ → Type 0) (frames : List Frame) → AtEach P frames → ((x : A) → AtEach (Q x) frames)
+    → AtEach (λ c. P c × ((x : A) → Q x c)) frames
+at_each_both P Q [] here each = tt
+at_each_both P Q (f ∷ fs) here each = ((λ c image. (here.0 c image, λ x. (each x).0 c image)), at_each_both P Q fs here.1 (λ x. (each x).1))
+
+keeps_each : {A : Type 0} (P : List ℕ → Type 0) (Q : A → List ℕ → Type 0) (a b : DiskState) → Keeps P a b → ((x : A) → Keeps (Q x) a b)
+    → Keeps (λ c. P c × ((x : A) → Q x c)) a b
+keeps_each P Q a b kept each = record {
+  between = kept.between;
+  grows = kept.grows;
+  each = at_each_both P Q kept.between kept.each
+      (λ x. subst (AtEach (Q x)) (append_cancel_left a.past (each x).between kept.between (sym (each x).grows ∙ kept.grows)) (each x).each);
+  here = λ c image. (kept.here c image, λ x. (each x).here c image);
+}
 
 -- ---- opening and raising
 
@@ -75,19 +95,49 @@ armed_log limit content old new same raised = record {
 pub opened_touches : (a b : DiskState) → Keeps (λ c. IsImage a.now c ⊎ (c ≡ a.content)) a b → Keeps (IsTouched a) a b
 opened_touches a b keeps = keeps_weaken (λ c. IsImage a.now c ⊎ (c ≡ a.content)) (IsTouched a) a b (λ c here. elim here [ inl image ↦ inl image | inr same ↦ inr (inl same) ]) keeps
 
+-- a limit that leaves the slots of the log room for the next ones
+abbrev HasRoomIn : {D : Type 0} → LogValue D → List ℕ → Type 0
+HasRoomIn log content = (limit : ℕ) × ((slots_in limit content ≡ Ok log.slots.present) × (top_of log.slots.present + 1 < limit))
+
 -- and then whatever the raise leaves
 pub raise_touches : {D : Type 0} (log : LogValue D) (a b c : DiskState) → Stands log b → b.content ≡ a.content
-    → Keeps (λ x. IsImage a.now x ⊎ (x ≡ a.content)) a b → Keeps (IsOldOrRaisedLog log) b c → Keeps (IsTouched a) a c
-raise_touches log a b c stands content opening raising =
+    → Keeps (λ x. IsImage a.now x ⊎ (x ≡ a.content)) a b → Keeps (IsOldOrRaisedLog log) b c
+    → ((limit : ℕ) → slots_in limit b.content ≡ Ok log.slots.present → top_of log.slots.present + 1 < limit → Keeps (StandBelow limit) b c) → Keeps (IsTouched a) a c
+raise_touches log a b c stands content opening raising below =
     keeps_trans (IsTouched a) a b c (opened_touches a b opening)
-    (keeps_weaken (IsOldOrRaisedLog log) (IsTouched a) b c
-    (λ image says. inr (inr (record {
+    (keeps_weaken (λ x. IsOldOrRaisedLog log x × ((room : HasRoomIn log b.content) → StandBelow room.0 x)) (IsTouched a) b c
+    (λ image both. inr (inr (record {
       present = log.slots.present;
       records = log.forced;
       used = log.used;
       log = subst (λ (x : List ℕ). IsLog log.slots.present log.forced log.used x) content stands.forced;
-      says = says;
-    }))) raising)
+      says = both.0;
+      below = λ limit said fits. both.1 (limit, (subst (λ (x : List ℕ). slots_in limit x ≡ Ok log.slots.present) (sym content) said, fits));
+    })))
+    (keeps_each (IsOldOrRaisedLog log) (λ (room : HasRoomIn log b.content) x. StandBelow room.0 x) b c raising (λ room. below room.0 room.1.0 room.1.1)))
+
+-- the slots of a log that was raised stand below one more
+pub raised_below : {D : Type 0} (limit : ℕ) (log : LogValue (FusedValue D)) (state : D → DiskState) (a b : DiskState) (result : Result (LogValue (FusedValue D)) (LogOpen (FusedValue D)))
+    → 0 < limit → b.content ≡ a.content → slots_in limit a.content ≡ Ok log.slots.present
+    → ((big : ℕ) → slots_in big b.content ≡ Ok log.slots.present → top_of log.slots.present + 1 < big → Keeps (StandBelow big) b (state (log_disk result).disk))
+    → IfOk result (λ new. EachImage (StandBelow (limit + 1)) (state new.disk.disk).now)
+raised_below limit log state a b (Ok new) some content says below =
+    let numbers = present_below limit a.content log.slots.present some says in
+    (below (limit + 1)
+    (subst (λ (x : List ℕ). slots_in (limit + 1) x ≡ Ok log.slots.present) (sym content) (slots_in-below limit (limit + 1) a.content log.slots.present (omega arith) says))
+    (omega (arith, numbers.0, numbers.1))).here
+raised_below limit log state a b (Err back) some content says below = tt
+
+-- a log that was not opened may still be left as it was
+pub unopened_leaves : (a b : DiskState) → IsImage b.now a.content → MayLeaveUnraised a b
+unopened_leaves a b image = record { bytes = a.content; image = image; has = record { says = refl; behind = refl } }
+
+-- nor is more lost where the raise fails
+pub unraised_if : {D T : Type 0} (state : D → DiskState) (a b : DiskState) (result : Result T (LogOpen (FusedValue D))) → b.content ≡ a.content
+    → IfErr result (λ back. MayLeaveUnraised b (state back.disk.disk)) → IfErr result (λ back. MayLeaveUnraised a (state back.disk.disk))
+unraised_if state a b (Ok log) content left = left
+unraised_if state a b (Err back) content left =
+    record { bytes = left.bytes; image = left.image; has = subst (λ (c : List ℕ). SaysAsBefore c left.bytes) content left.has }
 
 -- ---- records of before
 
@@ -163,3 +213,47 @@ left_or_raised s t u ok cuts done keeps =
 
 pub left_moments : {A E : Type 0} (s t u : DiskState) (cut : Result A E) (x : A) → cut ≡ Ok x → Cuts (is_ok cut) s t → Keeps (IsTouched t) t u → Keeps (IsLeftOrRaised s) s u
 left_moments s t u cut x done cuts keeps = left_or_raised s t u (is_ok cut) cuts (cut_is_done cut x done) keeps
+
+-- ---- damage
+
+-- what is damaged once the power was cut is an image of before
+pub damaged_left : {A E D F : Type 0} (s t : DiskState) (cut : Result A E) (x : A) (result : Result D (LogOpen F)) → cut ≡ Ok x → Cuts (is_ok cut) s t
+    → IfErr result (λ back. (at : ℕ) → back.why ≡ open_faults.Damaged at → IsDamaged reopen_limit t.content at)
+    → IfErr result (λ back. (at : ℕ) → back.why ≡ open_faults.Damaged at → IsLeftDamaged s at)
+damaged_left s t cut x (Ok log) done cuts damaged = tt
+damaged_left s t cut x (Err back) done cuts damaged = λ at is. record { content = t.content; image = cuts.left (cut_is_done cut x done); damaged = damaged at is }
+
+-- an image with a log whose slots stand below the limit is damaged nowhere
+has_no_damage : (limit at : ℕ) (image : List ℕ) → limit ≤ 2 ^ 62 → HasLogBelow limit image → IsDamaged limit image at → ⊥
+has_no_damage limit at image low has (InSlot slots) = absurd (cc (sym has.below.1 ∙ slots))
+has_no_damage limit at image low has (InBatch present place slots broken is) =
+    let same : has.present ≡ present = same_present has.present present (sym has.log.slots ∙ slots_in-below limit (2 ^ 62) image present low slots) in
+    broken_not_counted present.value.format has.log.counted.batches (live_area present.value.generation image) place
+    (subst (λ (p : Present). Counts p.value.format has.log.counted.batches (live_area p.value.generation image)) same has.log.counted.counted) broken
+
+pub never_damaged : (old : DiskState) (P : Type 0) (at : ℕ) → EachImage (HasLogBelow reopen_limit) old.now → IsLeftDamaged old at → P
+never_damaged old P at each left = absurd (has_no_damage reopen_limit at left.content (omega arith) (each left.content left.image) left.damaged)
+
+-- ---- slots below a limit
+
+-- where those of the content stand below it, those of its log in the next incarnation stand below one more
+raised_stand : (limit : ℕ) (content c : List ℕ) → 0 < limit → limit ≤ 2 ^ 62 → StandBelow limit content → IsOldOrRaised content c → StandBelow (limit + 1) c
+raised_stand limit content c some low stand raised =
+    let said : slots_in limit content ≡ Ok raised.present =
+    subst (λ (p : Present). slots_in limit content ≡ Ok p) (one_present limit content stand.0 raised.present low stand.1 raised.log.slots) stand.1 in
+    let numbers = present_below limit content raised.present some said in
+    raised.below (limit + 1) (slots_in-below limit (limit + 1) content raised.present (omega arith) said) (omega (arith, numbers.0, numbers.1))
+
+-- so do those of each image that a restart leaves
+pub left_stand : (limit : ℕ) (old a b : DiskState) → 0 < limit → limit ≤ 2 ^ 62 → EachImage (StandBelow limit) old.now → Keeps (IsLeftOrRaised old) a b
+    → Keeps (StandBelow (limit + 1)) a b
+left_stand limit old a b some low here =
+    keeps_weaken (IsLeftOrRaised old) (StandBelow (limit + 1)) a b (λ c left. elim left [
+      | inl image ↦ stand_below limit (limit + 1) c (omega arith) (here c image)
+      | inr raised ↦ raised_stand limit raised.content c some low (here raised.content raised.image) raised.says
+    ])
+
+-- an image that has one of two logs has it below that limit
+pub has_below : (limit : ℕ) (a b : List Record) (image : List ℕ) → HasOneOf a b image → StandBelow limit image → HasLogBelow limit image
+has_below limit a b image (inl has) stand = record { present = has.present; records = a; used = has.used; log = has.log; below = stand }
+has_below limit a b image (inr has) stand = record { present = has.present; records = b; used = has.used; log = has.log; below = stand }

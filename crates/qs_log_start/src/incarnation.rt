@@ -1,16 +1,17 @@
 //! The log of a node in its next incarnation.
-ghost use Rattle.std.specs.Prelude.{◌≡◌, ◌≢◌, ◌↔◌, ◌⊎◌, ◌<◌, ◌-◌, ◌^◌, ℕ, List, [], IfOk, IfErr};
+ghost use Rattle.std.specs.Prelude.{◌≡◌, ◌≢◌, ◌↔◌, ◌⊎◌, ◌<◌, ◌+◌, ◌-◌, ◌^◌, ℕ, List, [], Ok, IfOk, IfErr};
 ghost use Rattle.qs_base.specs.Causes.{Rose};
 ghost use Rattle.qs_disk.specs.Disk.{EachImage};
 ghost use Rattle.qs_disk.specs.Fuse.{GoesOn, mended};
 ghost use Rattle.qs_disk.specs.Moments.{Keeps};
-ghost use Rattle.qs_log_start.specs.Incarnation.{open_limit, IsRaisedLog, IsReopened, IsTouched, IsLeftOrRaised, HasOneOf, IsArmed, HasTripped, disk_of};
+ghost use Rattle.qs_log_start.specs.Incarnation.{open_limit, IsRaisedLog, IsReopened, IsTouched, MayLeaveUnraised, IsLeftOrRaised, HasOneOf, IsArmed, HasTripped, disk_of, reopen_limit, IsLeftDamaged, HasLogBelow};
 ghost use Rattle.qs_log_start.specs.declared.incarnation.ReopenFault.TheVariants as reopen_faults;
 ghost use Rattle.qs_log.specs.Image.{IsDamaged};
 ghost use Rattle.qs_log.specs.Log.{Stands, HasSameRecords, IsOldOrRaised, raised_of, top_of};
 ghost use Rattle.qs_log.specs.Log.{disk_of as log_disk};
 ghost use Rattle.qs_log.specs.declared.fault.OpenFault.TheVariants as open_faults;
 ghost use Rattle.qs_record.specs.declared.record.Record.{Record};
+ghost use Rattle.qs_slot.specs.Slot.{StandBelow, slots_in};
 
 use crate::counts::FaultCounts;
 use qs_base::List;
@@ -34,7 +35,10 @@ pub enum ReopenFault {
     /// The disk itself failed a call.
     #[error("a disk call failed")]
     DiskFailed,
-    /// Memory was refused, or the log is damaged.
+    /// The log is damaged at that byte.
+    #[error("the log is damaged at byte {at}")]
+    Damaged { at: u64 },
+    /// Memory was refused.
     #[error("memory was refused")]
     NoMemory,
 }
@@ -52,12 +56,15 @@ fn next_incarnation<D: Disk>(
     disk: Fused<D>,
     limit: u64,
 ) -> Result<Log<Fused<D>>, LogOpen<Fused<D>>>
-    requires { limit < 2 ^ 62 }
+    requires limit { limit < 2 ^ 62 }
+    requires some { 0 < limit }
     ensures raised { D.told → IfOk result (IsRaisedLog limit (D.state disk.disk).content) }
+    ensures below { D.told → IfOk result (λ log. EachImage (StandBelow (limit + 1)) (D.state log.disk.disk).now) }
     ensures stands { D.told → IfOk result (λ log. Stands log (D.state log.disk.disk)) }
     ensures waiting { IfOk result (λ log. log.waiting ≡ []) }
     ensures damaged { D.told → IfErr result (λ back. (at : ℕ) → back.why ≡ open_faults.Damaged at → IsDamaged limit (D.state disk.disk).content at) }
     ensures moments { D.told → Keeps (IsTouched (D.state disk.disk)) (D.state disk.disk) (D.state (log_disk result).disk) }
+    ensures kept { D.told → IfErr result (λ back. MayLeaveUnraised (D.state disk.disk) (D.state back.disk.disk)) }
     ensures size { D.byte_count (log_disk result).disk ≡ D.byte_count disk.disk }
     ensures goes { GoesOn disk.fuse (log_disk result).fuse }
 {
@@ -76,6 +83,9 @@ fn raise<D: Disk>(log: Log<Fused<D>>) -> Result<Log<Fused<D>>, LogOpen<Fused<D>>
     ensures stands { D.told → IfOk result (λ new. Stands new (D.state new.disk.disk)) }
     ensures failed { IfErr result (λ back. back.why ≡ open_faults.DiskFailed) }
     ensures moments { D.told → Keeps (IsOldOrRaised log) (D.state log.disk.disk) (D.state (log_disk result).disk) }
+    ensures kept { D.told → IfErr result (λ back. MayLeaveUnraised (D.state log.disk.disk) (D.state back.disk.disk)) }
+    ensures below { D.told → (limit : ℕ) → slots_in limit (D.state log.disk.disk).content ≡ Ok log.slots.present
+        → top_of log.slots.present + 1 < limit → Keeps (StandBelow limit) (D.state log.disk.disk) (D.state (log_disk result).disk) }
     ensures size { D.byte_count (log_disk result).disk ≡ D.byte_count log.disk.disk }
     ensures goes { GoesOn log.disk.fuse (log_disk result).fuse }
 {
@@ -102,14 +112,16 @@ pub fn begin_run<D: Disk>(
     ensures stands { D.told → IfOk result (λ log. Stands log (D.state log.disk.disk)) }
     ensures waiting { IfOk result (λ log. log.waiting ≡ []) }
     ensures armed { IfOk result (λ log. IsArmed stops log.disk.fuse) }
+    ensures below { D.told → IfOk result (λ log. EachImage (StandBelow (open_limit + 1)) (D.state log.disk.disk).now) }
 
     // Why it is not opened.
     ensures damaged { D.told → IfErr result (λ back. (at : ℕ) → back.why ≡ open_faults.Damaged at → IsDamaged open_limit (D.state disk.disk).content at) }
     ensures failed { IfErr result (λ back. back.why ≡ open_faults.DiskFailed → Rose (D.fault_count disk.disk) (D.fault_count back.disk.disk)) }
     ensures goes { IfErr result (λ back. GoesOn disk.fuse back.disk.fuse) }
 
-    // The disk is changed at most by the raise.
+    // The disk is changed at most by the raise, and where the log is not opened a power cut may still leave it unraised.
     ensures moments { D.told → Keeps (IsTouched (D.state disk.disk)) (D.state disk.disk) (D.state (log_disk result).disk) }
+    ensures kept { D.told → IfErr result (λ back. MayLeaveUnraised (D.state disk.disk) (D.state back.disk.disk)) }
     ensures size { D.byte_count (log_disk result).disk ≡ D.byte_count disk.disk }
 {
     let before = FaultCounts::of(&disk);
@@ -141,7 +153,8 @@ fn own_fault(before: FaultCounts, now: FaultCounts, why: OpenFault) -> OpenFault
 }
 
 /// The log of a node that is down: the power is cut, the log of what that leaves is opened, and its incarnation raised.
-/// `Tripped` comes exactly where the fuse tripped in this call, `DiskFailed` only where the disk's own count of faults rose.
+/// `Tripped` comes exactly where the fuse tripped in this call, `DiskFailed` only where the disk's own count of faults rose,
+/// `Damaged` only where what the power cut left is damaged there, which no image is that has a log with slots below the limit.
 pub fn begin_again<D: Disk>(alloc: Global, disk: Fused<D>) -> Result<Log<Fused<D>>, LogReopen<D>>
     // The log.
     ensures reopened { D.told → IfOk result (IsReopened (D.state disk.disk)) }
@@ -152,6 +165,8 @@ pub fn begin_again<D: Disk>(alloc: Global, disk: Fused<D>) -> Result<Log<Fused<D
     // Why it is not opened.
     ensures tripped { IfErr result (λ back. (back.why ≡ reopen_faults.Tripped) ↔ HasTripped disk back.disk) }
     ensures failed { IfErr result (λ back. back.why ≡ reopen_faults.DiskFailed → Rose (D.fault_count disk.disk) (D.fault_count back.disk.disk)) }
+    ensures damaged { D.told → IfErr result (λ back. (at : ℕ) → back.why ≡ reopen_faults.Damaged at → IsLeftDamaged (D.state disk.disk) at) }
+    ensures sound { D.told → EachImage (HasLogBelow reopen_limit) (D.state disk.disk).now → IfErr result (λ back. (at : ℕ) → back.why ≢ reopen_faults.Damaged at) }
 
     // Each image has the records that images had before, and is changed at most by the raise.
     ensures moments { D.told → (a b : List Record) → EachImage (HasOneOf a b) (D.state disk.disk).now
@@ -180,6 +195,7 @@ fn after_power_cut<D: Disk>(
     ensures found { D.told → IfOk result (λ log. (a b : List Record) → EachImage (HasOneOf a b) (D.state disk.disk).now → (log.forced ≡ a) ⊎ (log.forced ≡ b)) }
     ensures moments { D.told → (a b : List Record) → EachImage (HasOneOf a b) (D.state disk.disk).now
         → Keeps (HasOneOf a b) (D.state disk.disk) (D.state (log_disk result).disk) }
+    ensures damaged { D.told → IfErr result (λ back. (at : ℕ) → back.why ≡ open_faults.Damaged at → IsLeftDamaged (D.state disk.disk) at) }
     ensures touched { D.told → Keeps (IsLeftOrRaised (D.state disk.disk)) (D.state disk.disk) (D.state (log_disk result).disk) }
     ensures size { D.byte_count (log_disk result).disk ≡ D.byte_count disk.disk }
     ensures goes { GoesOn (mended disk.fuse) (log_disk result).fuse }
@@ -199,6 +215,8 @@ pub fn not_begun<D: Disk>(before: FaultCounts, disk: Fused<D>, why: OpenFault) -
     ensures disk { result.disk ≡ disk }
     ensures tripped { (result.why ≡ reopen_faults.Tripped) ↔ (disk.fuse.trips ≢ before.trips) }
     ensures failed { result.why ≡ reopen_faults.DiskFailed → Rose before.own (D.fault_count disk.disk) }
+    ensures damaged { (at : ℕ) → result.why ≡ reopen_faults.Damaged at → why ≡ open_faults.Damaged at }
+    ensures passed { (at : ℕ) → why ≡ open_faults.Damaged at → result.why ≢ reopen_faults.NoMemory }
 {
     let now = FaultCounts::of(&disk);
     let why = reopen_fault(before, now, why);
@@ -208,19 +226,23 @@ pub fn not_begun<D: Disk>(before: FaultCounts, disk: Fused<D>, why: OpenFault) -
 fn reopen_fault(before: FaultCounts, now: FaultCounts, why: OpenFault) -> ReopenFault
     ensures tripped { (result ≡ reopen_faults.Tripped) ↔ (now.trips ≢ before.trips) }
     ensures failed { result ≡ reopen_faults.DiskFailed → Rose before.own now.own }
+    ensures damaged { (at : ℕ) → result ≡ reopen_faults.Damaged at → why ≡ open_faults.Damaged at }
+    ensures passed { (at : ℕ) → why ≡ open_faults.Damaged at → result ≢ reopen_faults.NoMemory }
 {
     if before.has_tripped(now) {
         return ReopenFault::Tripped;
     }
     match why {
         OpenFault::DiskFailed => failed_or_refused(before, now),
-        OpenFault::Damaged { .. } | OpenFault::NoMemory => ReopenFault::NoMemory,
+        OpenFault::Damaged { at } => ReopenFault::Damaged { at },
+        OpenFault::NoMemory => ReopenFault::NoMemory,
     }
 }
 
 fn failed_or_refused(before: FaultCounts, now: FaultCounts) -> ReopenFault
     ensures tripped { result ≢ reopen_faults.Tripped }
     ensures failed { result ≡ reopen_faults.DiskFailed → Rose before.own now.own }
+    ensures damaged { (at : ℕ) → result ≢ reopen_faults.Damaged at }
 {
     if before.has_failed(now) {
         return ReopenFault::DiskFailed;

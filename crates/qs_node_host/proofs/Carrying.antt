@@ -1,14 +1,15 @@
 -- What a step makes of the log, and what stands on the disk meanwhile: the records of before, or those of after it.
-use Rattle.std.proofs.Common.{◌≡◌, ◌≢◌, ◌∙◌, sym, subst, ap, inl, Bool, true, List, [], ◌∷◌, fold, append_assoc}
+use Rattle.std.proofs.Common.{◌≡◌, ◌≢◌, ◌∙◌, refl, sym, subst, ap, inl, Bool, true, List, [], ◌∷◌, fold, append_assoc}
 use Rattle.std.proofs.lemmas.List.{append-nil}
 use Rattle.std.specs.Prelude.{Result, Ok, Err, OnErr}
 use Rattle.std.proofs.lemmas.List.Sums.{fold-append}
-use Rattle.qs_disk.specs.Disk.{DiskState}
+use Rattle.qs_disk.specs.Disk.{DiskState, IsStill}
 use Rattle.qs_disk.specs.Moments.{Keeps}
 use Rattle.qs_disk.proofs.Moments.{keeps_none, each_still}
 use Rattle.qs_log.specs.Log.{LogValue, Stands, IsOldOrWhole, records_of}
 use Rattle.qs_record.specs.declared.record.Record.{Record}
 use Rattle.qs_node_room.specs.Room.{Tids, after_record, unended}
+use Rattle.qs_slot.specs.Slot.{SayTheSame}
 use Rattle.qs_node_step.specs.declared.event.Effects.{Effects}
 use Rattle.qs_node_step.specs.State.{NodeValue}
 use Rattle.qs_node_host.specs.Host.{HostValue, AreUnended, HasBatch, HasEither, IsOldOrAfter, IsLogAfter, appended, with_record, forced_if}
@@ -49,6 +50,14 @@ forced_moments due log a b is kept = rw is kept
 pub unwritten : {D : Type 0} (log new : LogValue D) (s t : DiskState) → t ≡ s → Stands log s → Keeps (HasEither log new) s t
 unwritten log new s t same stands = rw same (keeps_none (HasEither log new) s (each_still (HasEither log new) s stands.still (inl stands.forced)))
 
+-- and its slots say the same
+pub unwritten_header : (s t : DiskState) → t ≡ s → IsStill s → Keeps (SayTheSame s.content) s t
+unwritten_header s t same still = rw same (keeps_none (SayTheSame s.content) s (each_still (SayTheSame s.content) s still (λ limit. refl)))
+
+-- they are those of the log that is forced
+pub header_moments : (s a b : DiskState) → a ≡ s → Keeps (SayTheSame a.content) a b → Keeps (SayTheSame s.content) s b
+header_moments s a b same kept = subst (λ (x : DiskState). Keeps (SayTheSame x.content) x b) same kept
+
 -- where none waits it does not fail
 pub some_waits : {D E : Type 0} (log : LogValue D) (P : Type 0) (result : Result Unit E) → (log.waiting ≡ [] → (result ≡ Ok tt) × P) → OnErr result (log.waiting ≢ [])
 some_waits log P (Ok done) idle = tt
@@ -76,3 +85,7 @@ host_with node log = record { node = node; log = log }
 pub host_moments : {D : Type 0} (out : Effects) (host : HostValue D) (node : NodeValue) (log : LogValue D) (state : D → DiskState) (end : DiskState)
     → host_with node log ≡ host → Keeps (IsOldOrAfter out log) (state log.disk) end → Keeps (IsOldOrAfter out host.log) (state host.log.disk) end
 host_moments {D} out host node log state end is kept = subst (λ (h : HostValue D). Keeps (IsOldOrAfter out h.log) (state h.log.disk) end) is kept
+
+pub host_header : {D : Type 0} (host : HostValue D) (node : NodeValue) (log : LogValue D) (state : D → DiskState) (end : DiskState) → host_with node log ≡ host
+    → Keeps (SayTheSame (state log.disk).content) (state log.disk) end → Keeps (SayTheSame (state host.log.disk).content) (state host.log.disk) end
+host_header {D} host node log state end is kept = subst (λ (h : HostValue D). Keeps (SayTheSame (state h.log.disk).content) (state h.log.disk) end) is kept

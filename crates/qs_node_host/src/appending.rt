@@ -5,6 +5,7 @@ ghost use Rattle.qs_disk.specs.Moments.{Keeps};
 ghost use Rattle.qs_log.specs.Log.{Stands, records_of};
 ghost use Rattle.qs_record.specs.Grammar.{IsRecord};
 ghost use Rattle.qs_node_room.specs.Room.{opened, ended, after_record};
+ghost use Rattle.qs_slot.specs.Slot.{SayTheSame};
 ghost use Rattle.qs_node_host.specs.Host.{AreUnended, HasBatch, IsLogAfter, IsOldOrAfter, HasEither, forced_if, with_record};
 ghost use Rattle.qs_node_host.specs.Roomy.{IsFullFor, LacksRoom};
 ghost use Rattle.qs_node_host.specs.declared.fault.HostFault.TheVariants.{Disk as OfDisk, NoRoom as OfRoom};
@@ -119,6 +120,7 @@ fn force_if<D: Disk>(log: &mut Log<D>, due: bool) -> Result<(), DiskFailed>
     ensures records { records_of log.new ≡ records_of log.old }
     ensures stands { D.told → OnOk result (Stands log.new (D.state log.new.disk)) }
     ensures moments { D.told → Keeps (HasEither log.old (forced_if due log.old)) (D.state log.old.disk) (D.state log.new.disk) }
+    ensures header { D.told → Keeps (SayTheSame (D.state log.old.disk).content) (D.state log.old.disk) (D.state log.new.disk) }
     ensures size { D.byte_count log.new.disk ≡ D.byte_count log.old.disk }
     ensures leads { D.leads_to log.old.disk log.new.disk }
     ensures cause { HasCause (D.fault_count log.old.disk) (D.fault_count log.new.disk) result }
@@ -143,6 +145,7 @@ pub fn append_and_force<D: Disk>(
     ensures unended { AreUnended unended.old log.old → AreUnended unended.new log.new }
     ensures stands { D.told → OnOk result (Stands log.new (D.state log.new.disk)) }
     ensures moments { D.told → Keeps (IsOldOrAfter out.now log.old) (D.state log.old.disk) (D.state log.new.disk) }
+    ensures header { D.told → Keeps (SayTheSame (D.state log.old.disk).content) (D.state log.old.disk) (D.state log.new.disk) }
     ensures size { D.byte_count log.new.disk ≡ D.byte_count log.old.disk }
     ensures leads { D.leads_to log.old.disk log.new.disk }
     ensures later { D.fault_count log.old.disk ≤ D.fault_count log.new.disk }

@@ -8,6 +8,7 @@ ghost use Rattle.qs_ops.specs.Server.{AreContents, cleared};
 ghost use Rattle.qs_ops.specs.declared.server.ServerKind.TheVariants as kinds;
 ghost use Rattle.qs_node_servers.specs.Kinds.{empty_server};
 ghost use Rattle.qs_node_servers.specs.Servers.{server_at};
+ghost use Rattle.qs_slot.specs.Slot.{SayTheSame};
 ghost use Rattle.qs_node_step.specs.Opening.{recovered_of};
 ghost use Rattle.qs_node_step.specs.Step.{accept};
 ghost use Rattle.qs_tm.specs.Manager as tm;
@@ -138,8 +139,9 @@ impl<D: Disk, F: Server, X: Server> Host<D, F, X> {
         ensures log { OnOk result (IsLogAfter out.now self.old.log self.new.log) }
         ensures stands { D.told → OnOk result (Stands self.new.log (D.state self.new.log.disk)) }
 
-        // At each moment, also of a step that is cut off.
+        // At each moment, also of a step that is cut off; the slots say the same.
         ensures moments { D.told → Keeps (IsOldOrAfter out.now self.old.log) (D.state self.old.log.disk) (D.state self.new.log.disk) }
+        ensures header { D.told → Keeps (SayTheSame (D.state self.old.log.disk).content) (D.state self.old.log.disk) (D.state self.new.log.disk) }
         ensures size { D.byte_count self.new.log.disk ≡ D.byte_count self.old.log.disk }
         ensures leads { D.leads_to self.old.log.disk self.new.log.disk }
         ensures later { D.fault_count self.old.log.disk ≤ D.fault_count self.new.log.disk }
@@ -227,6 +229,7 @@ fn log_out<D: Disk>(logged: &mut Logged<D>, out: &Effects) -> Result<(), HostFau
     ensures unended { AreUnended logged.old.unended logged.old.log → AreUnended logged.new.unended logged.new.log }
     ensures stands { D.told → OnOk result (Stands logged.new.log (D.state logged.new.log.disk)) }
     ensures moments { D.told → Keeps (IsOldOrAfter out.now logged.old.log) (D.state logged.old.log.disk) (D.state logged.new.log.disk) }
+    ensures header { D.told → Keeps (SayTheSame (D.state logged.old.log.disk).content) (D.state logged.old.log.disk) (D.state logged.new.log.disk) }
     ensures size { D.byte_count logged.new.log.disk ≡ D.byte_count logged.old.log.disk }
     ensures leads { D.leads_to logged.old.log.disk logged.new.log.disk }
     ensures later { D.fault_count logged.old.log.disk ≤ D.fault_count logged.new.log.disk }

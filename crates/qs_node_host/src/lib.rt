@@ -4,6 +4,8 @@
 mod appending;
 mod fault;
 mod host;
+mod laws;
 
 pub use fault::HostFault;
 pub use host::{Host, HostOpen};
+pub use laws::fresh_disks_are_roomy;

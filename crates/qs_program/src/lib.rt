@@ -1,11 +1,7 @@
 //! The program as a function: its words, standard input and output, and the number that it ends with.
 #![tactic(auto)]
 
-#[cfg(test)]
-mod run_tests;
 mod standard;
-#[cfg(test)]
-mod tests;
 
 ghost use Rattle.std.specs.Prelude.{◌≡◌, length, IfOk};
 

@@ -6,3 +6,5 @@ pub mod TurningLemmas
 pub mod WritingLemmas
 pub mod OpeningLemmas
 pub mod BodyLemmas
+pub mod StagingLemmas
+pub mod Limits

@@ -24,7 +24,7 @@ other_same limit place old new (inl e) torn =
 other_same limit place old new (inr e) torn =
     rw e (slot_in-range limit 0 0 new old (torn_range_before place 57 0 57 old new torn (omega arith)))
 
-behind_same : (place : ℕ) (old new : List ℕ) → IsPlace place → Torn place 57 old new → drop 8192 new ≡ drop 8192 old
+pub behind_same : (place : ℕ) (old new : List ℕ) → IsPlace place → Torn place 57 old new → drop 8192 new ≡ drop 8192 old
 behind_same place old new at_place torn = torn_drop place 57 8192 old new torn (elim at_place [ inl e ↦ omega arith | inr e ↦ omega arith ])
 
 -- ---- what is said
@@ -107,7 +107,7 @@ pub record IsTurn (slots : SlotsValue) (v : SlotValue) (content : List ℕ) (pla
   pub known : is_format v.format ≡ true
 
 -- with the place and the bytes of the slots
-plain_turn : (slots : SlotsValue) (v : SlotValue) (place : ℕ) (closing body content : List ℕ) → IsTurn slots v content place closing body
+pub plain_turn : (slots : SlotsValue) (v : SlotValue) (place : ℕ) (closing body content : List ℕ) → IsTurn slots v content place closing body
     → IsTurn slots v content slots.present.next (closing_bytes slots.next_open) body
 plain_turn slots v place closing body content t = record {
   place_is = refl;
@@ -121,7 +121,7 @@ plain_turn slots v place closing body content t = record {
 }
 
 -- where and what is written, in the words of the slots
-record Writes (slots : SlotsValue) (content body : List ℕ) : Type 0 where
+pub record Writes (slots : SlotsValue) (content body : List ℕ) : Type 0 where
   pub at_place : IsPlace slots.present.next
   pub shut : is_open slots.present.next (with_range content slots.present.next (closing_bytes slots.next_open)) ≡ false
   pub closing_torn : Torn slots.present.next 57 content (with_range content slots.present.next (closing_bytes slots.next_open))
@@ -134,7 +134,7 @@ within : (place : ℕ) → IsPlace place → place + 57 ≤ 8192
 within place (inl e) = omega arith
 within place (inr e) = omega arith
 
-writes : (slots : SlotsValue) (content body : List ℕ) → HoldsSlots slots content → 8192 ≤ length content → length body ≡ 56 → Writes slots content body
+pub writes : (slots : SlotsValue) (content body : List ℕ) → HoldsSlots slots content → 8192 ≤ length content → length body ≡ 56 → Writes slots content body
 writes slots content body holds room long =
     let p : Present = slots.present in
     let at_place : IsPlace p.next = (stands_in (2 ^ 62) p content holds.say).0 in
@@ -169,6 +169,7 @@ closing_says slots v content body c holds w torn =
     record {
       says = inl (says_old (2 ^ 62) p content c holds.say wide (closing_gate (2 ^ 62) p.next slots.next_open content c holds.gate torn));
       behind = behind_same p.next content c w.at_place wide;
+      below = λ limit said fits inc_fits. inl (says_old limit p content c said wide (closing_gate limit p.next slots.next_open content c holds.gate torn));
     }
 
 body_says : (slots : SlotsValue) (v : SlotValue) (content body c : List ℕ) → HoldsSlots slots content → Writes slots content body → length body ≡ 56
@@ -182,6 +183,7 @@ body_says slots v content body c holds w long torn =
     record {
       says = inl (says_old (2 ^ 62) p content c holds.say wide (inr shut));
       behind = behind_same p.next content c w.at_place wide;
+      below = λ limit said fits inc_fits. inl (says_old limit p content c said wide (inr shut));
     }
 
 -- a body whose gate is open
@@ -205,6 +207,10 @@ opening_says slots v content closing body c t w torn =
         | inr shut ↦ inl (says_old (2 ^ 62) p content c t.holds.say wide (inr shut))
       ];
       behind = behind_same p.next content c w.at_place wide;
+      below = λ limit said fits inc_fits. elim (cases_Bool (is_open p.next c)) [
+        | inl gate ↦ inr (says_new limit p v content c said wide (good_body limit p.next (p.sequence + 1) v c body t.body_is behind gate fits inc_fits t.known))
+        | inr shut ↦ inl (says_old limit p content c said wide (inr shut))
+      ];
     }
 
 writing_says : (slots : SlotsValue) (v : SlotValue) (content body c : List ℕ) → IsTurn slots v content slots.present.next (closing_bytes slots.next_open) body

@@ -26,6 +26,10 @@ staged place closing body content = with_range (with_range content place closing
 abbrev pub opened_gate : ℕ → List ℕ → List ℕ → List ℕ → List ℕ
 opened_gate place closing body content = with_range (staged place closing body content) place (1 ∷ [])
 
+-- before a slot's gate is opened: it is as it was, or its gate is closed, or its body is written too
+abbrev pub IsStaging : ℕ → List ℕ → List ℕ → List ℕ → List ℕ → Type 0
+IsStaging place closing body content c = (c ≡ content) ⊎ ((c ≡ with_range content place closing) ⊎ (c ≡ staged place closing body content))
+
 -- while a slot is written: its gate is being closed, or its body is being written, or its gate is being opened
 abbrev pub IsWriting : ℕ → List ℕ → List ℕ → List ℕ → List ℕ → Type 0
 IsWriting place closing body content c =

@@ -1,6 +1,6 @@
 -- What the two header slots of a disk say. A slot is a gate byte, and then the sequence, the format, the
 -- incarnation and the generation in 24 bytes, and their digest in 32. It counts where its gate is 1.
-use Rattle.std.specs.Prelude.{ℕ, ◌+◌, ◌==◌, Bool, List, get_or, nat_lt, ◌&&◌, if◌then◌else◌, Result, Ok, Err}
+use Rattle.std.specs.Prelude.{◌≡◌, ℕ, ◌+◌, ◌==◌, Bool, List, get_or, nat_lt, ◌&&◌, if◌then◌else◌, Result, Ok, Err}
 use Rattle.sha2.specs.Sha256.{sha256}
 use Rattle.qs_base.specs.Order.{same_bytes}
 use Rattle.qs_codec.specs.Grammar.{big_endian}
@@ -76,3 +76,11 @@ together (Good m v) Bad = Err 4096
 -- what a disk's slots say, or the place of the damage
 abbrev pub slots_in : ℕ → List ℕ → Result Present ℕ
 slots_in limit bytes = together (slot_in limit 0 bytes) (slot_in limit 4096 bytes)
+
+-- no slot is damaged, with each number below the limit
+abbrev pub StandBelow : ℕ → List ℕ → Type 0
+StandBelow limit bytes = (present : Present) × (slots_in limit bytes ≡ Ok present)
+
+-- other bytes whose slots say the same, whatever the limit
+abbrev pub SayTheSame : List ℕ → List ℕ → Type 0
+SayTheSame old new = (limit : ℕ) → slots_in limit new ≡ slots_in limit old

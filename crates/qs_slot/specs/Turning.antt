@@ -1,5 +1,5 @@
 -- How a new value takes the place of the present one.
-use Rattle.std.specs.Prelude.{◌≡◌, ◌⊎◌, ℕ, ◌+◌, ◌==◌, ◌^◌, Bool, List, drop, if◌then◌else◌, Ok}
+use Rattle.std.specs.Prelude.{◌≡◌, ◌⊎◌, ◌<◌, ℕ, ◌+◌, ◌==◌, ◌^◌, Bool, List, drop, if◌then◌else◌, Ok}
 use Rattle.qs_slot.specs.Slot.{Present, present_in, slots_in, is_open}
 use Rattle.qs_slot.specs.declared.value.SlotValue.{SlotValue}
 
@@ -24,7 +24,15 @@ pub record HoldsSlots (slots : SlotsValue) (bytes : List ℕ) : Type 0 where
 abbrev pub turned : Present → SlotValue → Present
 turned present value = present_in (present.sequence + 1) value (other present.next)
 
--- the slots say the old value or the new one, and what stands behind the slots is as it was
+-- the slots say what they said, and what stands behind them is as it was
+pub record SaysAsBefore (content c : List ℕ) : Type 0 where
+  pub says : slots_in (2 ^ 62) c ≡ slots_in (2 ^ 62) content
+  pub behind : drop 8192 c ≡ drop 8192 content
+
+-- the slots say the old value or the new one, and what stands behind the slots is as it was; so they do under each limit that leaves room for the new
+-- value
 pub record IsOldOrNew (old : Present) (value : SlotValue) (content c : List ℕ) : Type 0 where
   pub says : (slots_in (2 ^ 62) c ≡ Ok old) ⊎ (slots_in (2 ^ 62) c ≡ Ok (turned old value))
   pub behind : drop 8192 c ≡ drop 8192 content
+  pub below : (limit : ℕ) → slots_in limit content ≡ Ok old → old.sequence + 1 < limit → value.inc < limit
+      → (slots_in limit c ≡ Ok old) ⊎ (slots_in limit c ≡ Ok (turned old value))

@@ -1,7 +1,7 @@
 //! Slots found on a disk.
 ghost use Rattle.std.specs.Prelude.{◌≡◌, ◌≤◌, ◌<◌, ◌+◌, ◌^◌, ℕ, true, IfOk, Ok, OnErr};
 ghost use Rattle.qs_base.specs.Causes.{HasCause, Rose};
-ghost use Rattle.qs_disk.specs.Disk.{IsStill};
+ghost use Rattle.qs_disk.specs.Disk.{IsImage, IsStill, StillLeaves};
 ghost use Rattle.qs_disk.specs.Moments.{Keeps};
 ghost use Rattle.qs_slot.specs.declared.fault.SlotFault.TheVariants as faults;
 ghost use Rattle.qs_slot.specs.Opening.{offset_of, seen, opened, slot_of_two, IsWithin, IsFoundWithin};
@@ -25,7 +25,7 @@ const FRESH: SlotValue = SlotValue {
 /// What the slots of a disk say, where numbers have to be below the limit: two disk calls. A disk with
 /// no open slot has sequence 0, format 1, incarnation 0 and generation 0. `Damaged` comes where an
 /// open slot is damaged or both have one sequence, and `DiskFailed` only where the disk's count of
-/// faults rose. The disk's content and images stay the same.
+/// faults rose. The disk's content and images stay the same, and a power cut may leave the content.
 pub fn open_slots<D: Disk>(disk: &mut D, limit: u64) -> Result<Slots, SlotFault>
     requires limit { limit < 2 ^ 62 }
     requires still { D.told → IsStill (D.state disk.old) }
@@ -44,6 +44,7 @@ pub fn open_slots<D: Disk>(disk: &mut D, limit: u64) -> Result<Slots, SlotFault>
 
     // The disk stays the same.
     ensures content { D.told → (D.state disk.new).content ≡ (D.state disk.old).content }
+    ensures image { D.told → IsImage (D.state disk.new).now (D.state disk.old).content }
     ensures moments { D.told → Keeps (λ c. c ≡ (D.state disk.old).content) (D.state disk.old) (D.state disk.new) }
     ensures size { D.byte_count disk.new ≡ D.byte_count disk.old }
     ensures leads { D.leads_to disk.old disk.new }
@@ -61,6 +62,7 @@ fn read_slot<D: Disk>(disk: &mut D, place: Place, limit: u64) -> Result<FoundSlo
     requires still { D.told → IsStill (D.state disk.old) }
     ensures slot { D.told → IfOk result (λ found. seen found ≡ slot_in limit (offset_of place) (D.state disk.old).content) }
     ensures below { IfOk result (λ found. IsFoundWithin limit found) }
+    ensures kept { D.told → StillLeaves (D.state disk.old).now (D.state disk.new).now }
     ensures content { D.told → (D.state disk.new).content ≡ (D.state disk.old).content }
     ensures moments { D.told → Keeps (λ c. c ≡ (D.state disk.old).content) (D.state disk.old) (D.state disk.new) }
     ensures size { D.byte_count disk.new ≡ D.byte_count disk.old }

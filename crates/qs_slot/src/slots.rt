@@ -1,11 +1,11 @@
 //! The slots of a disk, as their holder sees them.
 ghost use Rattle.std.specs.Prelude.{◌≡◌, ◌≤◌, ◌<◌, ◌+◌, ◌-◌, ◌^◌, true, length, drop, OnOk, OnErr};
 ghost use Rattle.qs_base.specs.Causes.{HasCause};
-ghost use Rattle.qs_disk.specs.Disk.{IsStill};
+ghost use Rattle.qs_disk.specs.Disk.{IsStill, MayLeave};
 ghost use Rattle.qs_disk.specs.Moments.{Keeps};
-ghost use Rattle.qs_slot.specs.Body.{closing_bytes, opened_gate, IsWriting};
+ghost use Rattle.qs_slot.specs.Body.{closing_bytes, opened_gate, IsStaging, IsWriting};
 ghost use Rattle.qs_slot.specs.Slot.{is_format};
-ghost use Rattle.qs_slot.specs.Turning.{HoldsSlots, IsOldOrNew, turned};
+ghost use Rattle.qs_slot.specs.Turning.{HoldsSlots, IsOldOrNew, SaysAsBefore, turned};
 
 use crate::body::body_of;
 use crate::place::Place;
@@ -50,7 +50,8 @@ impl Slots {
 
     /// Writes a new value beside the present one, with the next sequence: six disk calls. At each
     /// moment an image has the present value or the new one. `DiskFailed` comes only where the disk's
-    /// count of faults rose; the slots are not to be used then.
+    /// count of faults rose; a power cut may still leave the present value then, and the slots are not to
+    /// be used.
     pub fn write_next<D: Disk>(&mut self, disk: &mut D, value: SlotValue) -> Result<(), DiskFailed>
         requires sequence { self.old.present.sequence < 2 ^ 62 - 1 }
         requires inc { value.inc < 2 ^ 62 }
@@ -66,6 +67,9 @@ impl Slots {
         ensures still { D.told → OnOk result (IsStill (D.state disk.new)) }
         ensures holds { D.told → OnOk result (HoldsSlots self.new (D.state disk.new).content) }
         ensures behind { D.told → OnOk result (drop 8192 (D.state disk.new).content ≡ drop 8192 (D.state disk.old).content) }
+
+        // Where it fails a power cut may still leave the old value.
+        ensures kept { D.told → OnErr result (MayLeave (SaysAsBefore (D.state disk.old).content) (D.state disk.new).now) }
 
         // What stays, and why it fails.
         ensures same { OnErr result (self.new ≡ self.old) }
@@ -113,6 +117,7 @@ fn write_slot<D: Disk>(
     ensures moments { D.told → Keeps (IsWriting place closing.now body.now (D.state disk.old).content) (D.state disk.old) (D.state disk.new) }
     ensures still { D.told → OnOk result (IsStill (D.state disk.new)) }
     ensures written { D.told → OnOk result ((D.state disk.new).content ≡ opened_gate place closing.now body.now (D.state disk.old).content) }
+    ensures kept { D.told → OnErr result (MayLeave (IsStaging place closing.now body.now (D.state disk.old).content) (D.state disk.new).now) }
     ensures size { D.byte_count disk.new ≡ D.byte_count disk.old }
     ensures leads { D.leads_to disk.old disk.new }
     ensures cause { HasCause (D.fault_count disk.old) (D.fault_count disk.new) result }

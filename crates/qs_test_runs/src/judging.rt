@@ -48,15 +48,9 @@ impl Disks {
         Ok(disks)
     }
 
-    fn first(&mut self, alloc: Global, row: &Row, seed: u64) -> Result<MemDisk, Error> {
-        if !row.again {
-            if !is_size(row.disk_bytes) {
-                bail!("no disk has so many bytes");
-            }
-            return made(MemDisk::new(alloc, row.disk_bytes, seed, row.disk_fails.as_slice()));
-        }
-        let left = self.left.get(&seed).context("no row left such a disk")?;
-        let mut bytes = Vec::from_slice(alloc, left.bytes())?;
+    /// The first disk, with a bit turned at each place that the row names.
+    fn first(&self, alloc: Global, row: &Row, seed: u64) -> Result<MemDisk, Error> {
+        let mut bytes = self.bytes_before(alloc, row, seed)?;
         for place in row.flips.iter() {
             if let Some(byte) = bytes.get_mut(*place) {
                 *byte ^= 1;
@@ -66,6 +60,15 @@ impl Disks {
             bail!("no disk has so many bytes");
         }
         made(MemDisk::from_bytes(alloc, bytes.as_slice(), seed, row.disk_fails.as_slice()))
+    }
+
+    /// The bytes of the first disk before any is changed: zeros, or what the row before left.
+    fn bytes_before(&self, alloc: Global, row: &Row, seed: u64) -> Result<Vec<u8>, Error> {
+        if row.again {
+            let left = self.left.get(&seed).context("no row left such a disk")?;
+            return Ok(Vec::from_slice(alloc, left.bytes())?);
+        }
+        Ok(vec![in alloc; 0; row.disk_bytes as usize]?)
     }
 
     /// Keeps the disks for the next row.

@@ -1,5 +1,5 @@
-//! Runs scripts over disks in memory, under several seeds each, and compares what comes of them with what was derived by
-//! hand.
+//! Runs scripts and judges histories, over disks in memory and under several seeds each, and compares what comes of them
+//! with what was derived by hand.
 //!
 //! Standard input has the rows. A line `# NAME` begins a row, and what follows says what it is made of:
 //!
@@ -8,10 +8,10 @@
 //! - `disk BYTES CALL ..`: the first disk is fresh and has so many bytes; its calls with these numbers fail. Without this line
 //!   it has 65,536 bytes and fails nowhere.
 //! - `again`: the first disk is that which the row before left under the same seed.
-//! - `flip AT`: a bit of the byte at that place of the first disk is turned before the run.
+//! - `flip AT`: a bit of the byte at that place of the first disk is turned before the run, also of a fresh one.
 //! - `stops FROM TO`: it is run once for each number from one to the other, with a line `stop 0 NUMBER` behind the script.
 //! - `source CALL`: that call of the source fails. `sink PIECE CALL`: the sink takes so many bytes a call, and that call fails.
-//! - `|TEXT`: a line of the script; `!TEXT`: a part of one, without a line feed; `*COUNT TEXT`: so many equal lines;
+//! - `|TEXT`: a line of the script or history; `!TEXT`: a part of one, without a line feed; `*COUNT TEXT`: so many equal lines;
 //!   `+COUNT TEXT`: so many equal parts.
 //! - `= STATUS`: the run may come to this line on standard error, in which a star stands for any text, with just the output
 //!   that follows: `>TEXT` is a line of it; `<TEXT` is a part of one, without a line feed, and `^COUNT TEXT` so many equal

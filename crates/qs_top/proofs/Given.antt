@@ -179,7 +179,7 @@ module _ {D K : Type 0} (told : Type 0) (state : D → DiskState) (own size : D 
   given_short node is = map_both begun_none told_short (over.short fits node (made_status (statuses.DiskFault node) is (λ same. absurd (cc (same)))))
     where
       begun_none : IsNotBegun told state made.journal made.trace disk end → IsNotBegun told state run.journal run.trace disk end
-      begun_none not = record { nothing = record { entries = gave.entries ∙ not.nothing.entries; steps = gave.steps ∙ not.nothing.steps }; touched = not.touched }
+      begun_none not = record { nothing = record { entries = gave.entries ∙ not.nothing.entries; steps = gave.steps ∙ not.nothing.steps }; touched = not.touched; kept = not.kept }
 
       told_short : IsShort told state own size seed script made.journal made.trace disk end → IsShort told state own size seed script run.journal run.trace disk end
       told_short short = subst (λ (entries : List Entry). IsShort told state own size seed script entries run.trace disk end) (sym gave.entries) (subst (λ (steps : List Step). IsShort told state own size seed script made.journal steps disk end) (sym gave.steps) short)

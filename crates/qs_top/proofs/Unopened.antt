@@ -4,6 +4,7 @@ use Rattle.std.specs.Prelude.{⊤}
 use Rattle.qs_base.specs.Causes.{Rose}
 use Rattle.qs_base.specs.declared.identifiers.NodeNo.{NodeNo}
 use Rattle.qs_disk.specs.Disk.{DiskState, IsImage}
+use Rattle.qs_log_start.specs.Incarnation.{MayLeaveUnraised}
 use Rattle.qs_log.specs.Image.{IsDamaged}
 use Rattle.qs_log.specs.declared.fault.OpenFault.{OpenFault}
 use Rattle.qs_log.specs.declared.fault.OpenFault.TheVariants as faults
@@ -84,14 +85,14 @@ pub nothing_opened : Opened
 nothing_opened = opened_with (setting_of (record { seats = []; quotas = []; audit = None; faults = []; lines = []; count = 0 }) node_count first_node 1) (recovered_of [])
 
 module _ {D : Type 0} (told : Type 0) (state : D → DiskState) (own size : D → ℕ) (seed : ℕ) (script : Script) (shown : Bool) (disk after : D) (made : RunMade) (nothing : IsNothingMade made) where
-  over_unopened : IsUnopened made.status → (Fits node_count script → Leaves told state made.status disk after) → (Fits node_count script → StaysCoherent told state disk after) → (Fits node_count script → StaysRoomy told state size disk after) → ((node : NodeNo) → made.status ≡ statuses.DiskFault node → IsOnlyTouched told state disk after) → ((node : NodeNo) → made.status ≡ statuses.DiskFault node → IsFaultOver own node disk after) → ((node : NodeNo) (at : ℕ) → made.status ≡ statuses.Damaged node at → IsDamageOver told state node at disk after)
+  over_unopened : IsUnopened made.status → (Fits node_count script → Leaves told state made.status disk after) → (Fits node_count script → StaysCoherent told state disk after) → (Fits node_count script → StaysRoomy told state size disk after) → ((node : NodeNo) → made.status ≡ statuses.DiskFault node → IsOnlyTouched told state disk after × (told → MayLeaveUnraised (state disk) (state after))) → ((node : NodeNo) → made.status ≡ statuses.DiskFault node → IsFaultOver own node disk after) → ((node : NodeNo) (at : ℕ) → made.status ≡ statuses.Damaged node at → IsDamageOver told state node at disk after)
       → IsOver told state own size seed script shown made disk after
   over_unopened unopened leaves stays spacious touched fault damage = record {
     lawful = nothing_lawful told state script disk nothing_opened made.journal nothing.nothing.entries;
     fault = fault;
     damage = damage;
     whole = λ fits e. absurd (unopened_ends made.status unopened e);
-    short = λ fits node is. inl (record { nothing = nothing.nothing; touched = touched node is });
+    short = λ fits node is. inl (record { nothing = nothing.nothing; touched = (touched node is).0; kept = (touched node is).1 });
     refused = λ fits line clause is. absurd (subst IsUnopened is unopened);
     leaves = leaves;
     coherent = stays;
@@ -116,15 +117,15 @@ module _ {D : Type 0} (told : Type 0) (state : D → DiskState) (own size : D �
   touched_spacious image touched bytes = λ yes coherent roomy. subst (λ (n : ℕ). IsRoomyDisk n (state after)) (sym bytes) (touched_roomy (size disk) (state disk) (state after) (image yes) (touched yes) roomy)
 
   -- the log was not opened
-  pub over_closed : Later → (told → IsImage (state disk).now (state disk).content) → (why : OpenFault) → made.status ≡ not_opened why → IsOnlyTouched told state disk after → (told → (at : ℕ) → why ≡ faults.Damaged at → IsDamaged (2 ^ 61) (state disk).content at) → (why ≡ faults.DiskFailed → Rose (own disk) (own after)) → size after ≡ size disk
+  pub over_closed : Later → (told → IsImage (state disk).now (state disk).content) → (why : OpenFault) → made.status ≡ not_opened why → IsOnlyTouched told state disk after → (told → (at : ℕ) → why ≡ faults.Damaged at → IsDamaged (2 ^ 61) (state disk).content at) → (why ≡ faults.DiskFailed → Rose (own disk) (own after)) → (told → why ≡ faults.DiskFailed → MayLeaveUnraised (state disk) (state after)) → size after ≡ size disk
       → IsOver told state own size seed script shown made disk after
-  over_closed stay image faults.NoMemory is touched damaged failed bytes = over_refused (λ fits. inl touched) (λ fits yes. touched_coherent stay (state disk) (state after) (image yes) (touched yes)) (λ fits. touched_spacious image touched bytes) is
-  over_closed stay image faults.DiskFailed is touched damaged failed bytes = over_unopened (subst IsUnopened (sym is) tt) (λ fits. leaves_as (statuses.DiskFault first_node) is (inl touched))
-      (λ fits yes. touched_coherent stay (state disk) (state after) (image yes) (touched yes)) (λ fits. touched_spacious image touched bytes) (λ node fault. touched)
+  over_closed stay image faults.NoMemory is touched damaged failed kept bytes = over_refused (λ fits. inl touched) (λ fits yes. touched_coherent stay (state disk) (state after) (image yes) (touched yes)) (λ fits. touched_spacious image touched bytes) is
+  over_closed stay image faults.DiskFailed is touched damaged failed kept bytes = over_unopened (subst IsUnopened (sym is) tt) (λ fits. leaves_as (statuses.DiskFault first_node) is (inl touched))
+      (λ fits yes. touched_coherent stay (state disk) (state after) (image yes) (touched yes)) (λ fits. touched_spacious image touched bytes) (λ node fault. (touched, λ yes. kept yes refl))
       (λ node fault. record { node_is = sym (same_node (sym is ∙ fault)); rose = failed refl })
       (λ node at damage. absurd (subst IsFaultStatus (sym is ∙ damage) tt))
-  over_closed stay image (faults.Damaged at) is touched damaged failed bytes = over_unopened (subst IsUnopened (sym is) tt) (λ fits. leaves_as (statuses.Damaged first_node at) is touched)
-      (λ fits yes. touched_coherent stay (state disk) (state after) (image yes) (touched yes)) (λ fits. touched_spacious image touched bytes) (λ node fault. touched)
+  over_closed stay image (faults.Damaged at) is touched damaged failed kept bytes = over_unopened (subst IsUnopened (sym is) tt) (λ fits. leaves_as (statuses.Damaged first_node at) is touched)
+      (λ fits yes. touched_coherent stay (state disk) (state after) (image yes) (touched yes)) (λ fits. touched_spacious image touched bytes) (λ node fault. absurd (subst IsDamageStatus (sym is ∙ fault) tt))
       (λ node fault. absurd (subst IsDamageStatus (sym is ∙ fault) tt))
       (λ node place damage. by (sym is ∙ damage))
     where

@@ -5,6 +5,7 @@ use Rattle.qs_cell.specs.Starts.{CellValue, journal_of, trace_of}
 use Rattle.qs_cell.specs.State.{LogStands, cause_of, disk_of}
 use Rattle.qs_book_conformance.specs.Conforming.{Conforms}
 use Rattle.qs_disk.specs.Disk.{DiskState}
+use Rattle.qs_log_start.specs.Incarnation.{MayLeaveUnraised}
 use Rattle.qs_book_journal.specs.declared.entry.Entry.{Entry}
 use Rattle.qs_log.specs.Image.{IsLog}
 use Rattle.qs_book_machine.specs.Book.{BookValue}
@@ -118,10 +119,12 @@ pub record IsShort {D : Type 0} (told : Type 0) (state : D → DiskState) (own s
   pub is_told : IsTold told state script disk node journal trace
   pub lasts : told → IsCoherentDisk (state disk) → IsLasting state script disk node journal after
 
--- the node did not begin: nothing is told
+-- the node did not begin, since the opening of its log failed: nothing is told, and a power cut may still leave the log as it was handed in. A node that
+-- began has its incarnation raised in each image
 pub record IsNotBegun {D : Type 0} (told : Type 0) (state : D → DiskState) (journal : List Entry) (trace : List Step) (disk after : D) : Type 0 where
   pub nothing : IsNothing journal trace
   pub touched : IsOnlyTouched told state disk after
+  pub kept : told → MayLeaveUnraised (state disk) (state after)
 
 -- the judge refused the node's journal, at this line for this clause. Where the log was coherent, each entry is a lawful step, and it is for a rule of the
 -- script; and what is left on the disk lasts, as of a run that is told

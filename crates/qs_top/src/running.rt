@@ -199,9 +199,10 @@ fn run_source<S: Source, K: Sink, D: Disk>(
 ///
 /// A script with a fault is told the first one. `ReadFault`, `WriteFault` and `DiskFault` come only where the count of faults of
 /// the source, the sink or the disk rose in this call; `Damaged` only where a slot or a batch of the disk that was handed in is
-/// damaged at that byte. `Unfinished` comes only after a quiet round or with all rounds spent, and tells who waits by the
-/// journal. `Unlawful` comes only where the run's own journal does not conform to the script: the line is that of the entry
-/// in the history, and the clause 0 for a rule of the script.
+/// damaged at that byte. A run of which nothing is told at `DiskFault` is one whose log was not opened: that of a node that began
+/// is told. `Unfinished` comes only after a quiet round or with all rounds spent, and tells who waits by the journal. `Unlawful`
+/// comes only where the run's own journal does not conform to the script: the line is that of the entry in the history, and the
+/// clause 0 for a rule of the script.
 ///
 /// `check` reads a history from the source and judges it: where it is lawful, `lawful E` and a line feed go to the sink, E the
 /// number of its entries, and else nothing. At most 67,108,865 bytes are taken of the source. No disk is opened, and the journal
@@ -250,7 +251,8 @@ pub fn run<R: Threads + Sync, S: Source, K: Sink, D: Disk>(
         disks.old.items disks.new.items)) }
 
     // Where its disk failed as the node was started again, the journal is what the node had made, and conforms, and the disk is
-    // the one that the node leaves. Where the judge refuses what a node made, the line and the clause are told; where the log was
+    // the one that the node leaves; where it failed as the log was opened nothing is told, and a power cut may still leave the
+    // log with its incarnation not raised, which it is in each image once a node began. Where the judge refuses what a node made, the line and the clause are told; where the log was
     // coherent each entry is lawful, it is for a rule of the script, and what is left on the disk stands for the machine too.
     ensures cut_short { (seed : ℕ) (shown : Bool) → asked_by (form_of words.now) ≡ Some (Asked.Serial seed shown)
         → (node : NodeNo) → result.status ≡ Status.DiskFault node

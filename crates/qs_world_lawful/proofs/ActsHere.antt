@@ -1,15 +1,7 @@
 -- Where an act stands: what it asks and decides at its home, and what may be issued, by the clauses of its kind.
-use Rattle.std.proofs.Common.{◌≡◌, ℕ, ◌==◌, ◌&&◌, Bool, true, false, not, List, Option, Some, None, refl, subst, nat_lt, if◌then◌else◌}
-use Rattle.qs_base.specs.declared.identifiers.Member.{Member}
-use Rattle.qs_base.specs.declared.identifiers.Outcome.{Outcome}
-use Rattle.qs_base.specs.declared.identifiers.Tid.{Tid}
-use Rattle.qs_book_laws.proofs.Holding.{left_of, right_of, same_number}
-use Rattle.qs_book_laws.proofs.Steps.{held}
-use Rattle.qs_book_machine.specs.Clauses.{broken_ask, broken_decide, broken_ending, broken_issue, broken_issuer, is_client_here, is_files_here, is_for, is_note_due, is_numbered, may_ask, may_decide, may_end, may_issue}
+use Rattle.qs_world_lawful.proofs.Words.{◌≡◌, ℕ, ◌==◌, ◌&&◌, Bool, true, false, not, List, Option, Some, None, refl, subst, nat_lt, if◌then◌else◌, Member, Outcome, Tid, left_of, right_of, same_number, held, broken_decide, broken_issue, may_decide, TransactionValue, is_commit, is_open, Cause, Op, not-true}
+use Rattle.qs_book_machine.specs.Clauses.{broken_ask, broken_ending, broken_issuer, is_client_here, is_files_here, is_for, is_note_due, is_numbered, may_ask, may_end, may_issue}
 use Rattle.qs_book_machine.specs.Nodes as machine
-use Rattle.qs_book_machine.specs.Transaction.{TransactionValue, is_commit, is_open}
-use Rattle.qs_ops.specs.declared.answer.Cause.{Cause}
-use Rattle.qs_ops.specs.declared.operation.Op.{Op}
 use Rattle.qs_world_lawful.proofs.Turning.{some_of}
 
 pub ask_here : (here : ℕ) (tid : Tid) (o : Option TransactionValue) → broken_ask here tid o ≡ None → (tx : TransactionValue) → o ≡ Some tx → may_ask here tid tx ≡ true
@@ -36,7 +28,7 @@ pub issue_here : (here : ℕ) (node : machine.NodeValue) (nodes : ℕ) (tid : Ti
     → (tx : TransactionValue) → o ≡ Some tx → MayIssue here node nodes tid tx issuer member number op
 issue_here here node nodes tid None issuer member number op h tx is = absurd (cc h)
 issue_here here node nodes tid (Some old) issuer member number op h tx is = subst (λ (x : TransactionValue). MayIssue here node nodes tid x issuer member number op) (some_of is) (record {
-  undone = off (is_commit old.cell) (left_of (not (is_commit old.cell)) _ may.0);
+  undone = not-true (is_commit old.cell) (left_of (not (is_commit old.cell)) _ may.0);
   fits = left_of (is_for op member) _ rest;
   in_run = right_of (is_for op member) _ rest;
   own = by (is_files_here here issuer) refl may.1;
@@ -47,10 +39,6 @@ issue_here here node nodes tid (Some old) issuer member number op h tx is = subs
 
     rest : (is_for op member && nat_lt member.node.0 nodes) ≡ true
     rest = right_of _ (is_for op member && nat_lt member.node.0 nodes) (right_of (not (is_commit old.cell)) _ may.0)
-
-    off : (b : Bool) → not b ≡ true → b ≡ false
-    off true e = absurd (cc e)
-    off false e = refl
 
     clause : ℕ → Option ℕ
     clause n = Some n

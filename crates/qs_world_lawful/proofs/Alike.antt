@@ -1,28 +1,14 @@
 -- What a vote, a notice and a served request do at one server, they do alike at the machine's table of it.
-use Rattle.std.proofs.Common.{◌≡◌, ℕ, ◌==◌, Bool, true, false, [], refl, sym, ap, subst, ◌∙◌, arith}
-use Rattle.std.proofs.lemmas.Bool.Decides.{nat_tests}
-use Rattle.std.specs.Prelude.{not, if◌then◌else◌}
-use Rattle.qs_base.specs.declared.identifiers.Outcome.{Outcome}
+use Rattle.qs_world_lawful.proofs.Words.{◌≡◌, ℕ, ◌==◌, Bool, true, false, [], refl, sym, ap, subst, ◌∙◌, arith, nat_tests, not, if◌then◌else◌, Outcome, ServerNo, Tid, vote_node, learn_node, doubts_after, with_table, ServerValue, after_vote, voted_by, voted_in, after_notice, noted_by, noted_in, names_no, windows_no, scratch_no, TableValue, released, committed, share_of, TimersValue, ServerKind, Notice, Vote, ServersValue, with_server, notice_of, HoldsDoubts, HoldsTable, HoldsTimers, HoldsServers}
+use Rattle.qs_world_lawful.proofs.Words.{eqb-true}
 use Rattle.qs_base.specs.declared.identifiers.Outcome.TheVariants as outcomes
-use Rattle.qs_base.specs.declared.identifiers.ServerNo.{ServerNo}
-use Rattle.qs_base.specs.declared.identifiers.Tid.{Tid}
-use Rattle.qs_book_machine.specs.Book.{vote_node, learn_node, doubts_after}
 use Rattle.qs_book_machine.specs.Nodes as machine
-use Rattle.qs_book_machine.specs.Nodes.{with_table, without_doubts}
-use Rattle.qs_ops.specs.Server.{ServerValue, after_vote, voted_by, voted_in, after_notice, noted_by, noted_in}
-use Rattle.qs_ops.specs.Servers.{files_no, audit_no, names_no, timers_no, windows_no, scratch_no}
-use Rattle.qs_ops.specs.Table.{TableValue, released, committed, with_vote, share_of}
-use Rattle.qs_ops.specs.Timers.{TimersValue}
-use Rattle.qs_ops.specs.declared.server.ServerKind.{ServerKind}
+use Rattle.qs_book_machine.specs.Nodes.{without_doubts}
+use Rattle.qs_ops.specs.Servers.{files_no, audit_no, timers_no}
+use Rattle.qs_ops.specs.Table.{with_vote}
 use Rattle.qs_ops.specs.declared.server.ServerKind.TheVariants as kinds
-use Rattle.qs_ops.specs.declared.vote.Notice.{Notice}
 use Rattle.qs_ops.specs.declared.vote.Notice.TheVariants as notices
-use Rattle.qs_ops.specs.declared.vote.Vote.{Vote}
 use Rattle.qs_ops.specs.declared.vote.Vote.TheVariants as votes
-use Rattle.qs_node_servers.specs.Servers.{ServersValue, with_server}
-use Rattle.qs_node_step.specs.Deciding.{notice_of}
-use Rattle.qs_world_lawful.specs.Doubts.{HoldsDoubts}
-use Rattle.qs_world_lawful.specs.Tables.{HoldsTable, HoldsTimers, HoldsServers}
 use Rattle.qs_world_lawful.proofs.Doubting.{doubts_gone, noted_doubts, noted_gone, voted_doubts}
 use Rattle.qs_world_lawful.proofs.Tables.{release_table, hide_table, vote_table, commit_table}
 
@@ -31,9 +17,6 @@ abbrev pub is_tabled : ServerKind → Bool
 is_tabled kinds.Timers = false
 is_tabled kinds.Nothing = false
 is_tabled kind = true
-
-pub same : (a b : ℕ) → (a == b) ≡ true → a ≡ b
-same a b e = grind (arith, nat_tests, e)
 
 apart : (n a b : ℕ) → (n == a) ≡ true → (n == b) ≡ true → (a == b) ≡ false → ⊥
 apart n a b p q r = grind (arith, nat_tests, p, q, r)
@@ -56,14 +39,14 @@ module _ (seen : ℕ → Tid → Bool) (state : machine.NodeValue) (servers : Se
       by : (a b c d e i : Bool) → (server.0 == files_no) ≡ a → (server.0 == audit_no) ≡ b → (server.0 == names_no) ≡ c → (server.0 == timers_no) ≡ d → (server.0 == windows_no) ≡ e → (server.0 == scratch_no) ≡ i
           → HoldsServers seen (if a then record state { files = g state.files } else if b then record state { audit = g state.audit } else if c then record state { names = g state.names } else if e then record state { windows = g state.windows } else if i then record state { scratch = g state.scratch } else state)
           (if a then record servers { files = u servers.files } else if b then record servers { audit = u servers.audit } else if c then record servers { names = u servers.names } else if d then record servers { timers = u servers.timers } else if e then record servers { windows = u servers.windows } else if i then record servers { scratch = u servers.scratch } else record servers { extra = u servers.extra })
-      by true b c d e i at _ _ _ _ _ = record { kinds = record { quota = h.kinds.quota; files = kind servers.files ∙ h.kinds.files; audit = h.kinds.audit; names = h.kinds.names; timers = h.kinds.timers; windows = h.kinds.windows; scratch = h.kinds.scratch; extra = h.kinds.extra }; files = here files_no state.files servers.files (kinds.Files h.kinds.quota) (same server.0 files_no at) h.kinds.files refl h.files; audit = h.audit; names = h.names; timers = h.timers; windows = h.windows; scratch = h.scratch; doubts = h.doubts }
-      by false true c d e i _ at _ _ _ _ = record { kinds = record { quota = h.kinds.quota; files = h.kinds.files; audit = kind servers.audit ∙ h.kinds.audit; names = h.kinds.names; timers = h.kinds.timers; windows = h.kinds.windows; scratch = h.kinds.scratch; extra = h.kinds.extra }; files = h.files; audit = here audit_no state.audit servers.audit (kinds.Audit) (same server.0 audit_no at) h.kinds.audit refl h.audit; names = h.names; timers = h.timers; windows = h.windows; scratch = h.scratch; doubts = h.doubts }
-      by false false true d e i _ _ at _ _ _ = record { kinds = record { quota = h.kinds.quota; files = h.kinds.files; audit = h.kinds.audit; names = kind servers.names ∙ h.kinds.names; timers = h.kinds.timers; windows = h.kinds.windows; scratch = h.kinds.scratch; extra = h.kinds.extra }; files = h.files; audit = h.audit; names = here names_no state.names servers.names (kinds.Names) (same server.0 names_no at) h.kinds.names refl h.names; timers = h.timers; windows = h.windows; scratch = h.scratch; doubts = subst (λ (x : TableValue). HoldsDoubts (seen names_no) state.doubts x) (sym (tabled servers.names (ap is_tabled h.kinds.names))) (doubted (same server.0 names_no at)) }
+      by true b c d e i at _ _ _ _ _ = record { kinds = record { quota = h.kinds.quota; files = kind servers.files ∙ h.kinds.files; audit = h.kinds.audit; names = h.kinds.names; timers = h.kinds.timers; windows = h.kinds.windows; scratch = h.kinds.scratch; extra = h.kinds.extra }; files = here files_no state.files servers.files (kinds.Files h.kinds.quota) (eqb-true server.0 files_no at) h.kinds.files refl h.files; audit = h.audit; names = h.names; timers = h.timers; windows = h.windows; scratch = h.scratch; doubts = h.doubts }
+      by false true c d e i _ at _ _ _ _ = record { kinds = record { quota = h.kinds.quota; files = h.kinds.files; audit = kind servers.audit ∙ h.kinds.audit; names = h.kinds.names; timers = h.kinds.timers; windows = h.kinds.windows; scratch = h.kinds.scratch; extra = h.kinds.extra }; files = h.files; audit = here audit_no state.audit servers.audit (kinds.Audit) (eqb-true server.0 audit_no at) h.kinds.audit refl h.audit; names = h.names; timers = h.timers; windows = h.windows; scratch = h.scratch; doubts = h.doubts }
+      by false false true d e i _ _ at _ _ _ = record { kinds = record { quota = h.kinds.quota; files = h.kinds.files; audit = h.kinds.audit; names = kind servers.names ∙ h.kinds.names; timers = h.kinds.timers; windows = h.kinds.windows; scratch = h.kinds.scratch; extra = h.kinds.extra }; files = h.files; audit = h.audit; names = here names_no state.names servers.names (kinds.Names) (eqb-true server.0 names_no at) h.kinds.names refl h.names; timers = h.timers; windows = h.windows; scratch = h.scratch; doubts = subst (λ (x : TableValue). HoldsDoubts (seen names_no) state.doubts x) (sym (tabled servers.names (ap is_tabled h.kinds.names))) (doubted (eqb-true server.0 names_no at)) }
       by false false false true true i _ _ _ at also _ = absurd (apart server.0 timers_no windows_no at also refl)
       by false false false true false true _ _ _ at _ also = absurd (apart server.0 timers_no scratch_no at also refl)
-      by false false false true false false _ _ _ at _ _ = record { kinds = record { quota = h.kinds.quota; files = h.kinds.files; audit = h.kinds.audit; names = h.kinds.names; timers = kind servers.timers ∙ h.kinds.timers; windows = h.kinds.windows; scratch = h.kinds.scratch; extra = h.kinds.extra }; files = h.files; audit = h.audit; names = h.names; timers = subst (λ (t : TimersValue). HoldsTimers (seen timers_no) state.timers t) (sym (timed (same server.0 timers_no at) servers.timers h.kinds.timers)) h.timers; windows = h.windows; scratch = h.scratch; doubts = h.doubts }
-      by false false false false true i _ _ _ _ at _ = record { kinds = record { quota = h.kinds.quota; files = h.kinds.files; audit = h.kinds.audit; names = h.kinds.names; timers = h.kinds.timers; windows = kind servers.windows ∙ h.kinds.windows; scratch = h.kinds.scratch; extra = h.kinds.extra }; files = h.files; audit = h.audit; names = h.names; timers = h.timers; windows = here windows_no state.windows servers.windows (kinds.Windows) (same server.0 windows_no at) h.kinds.windows refl h.windows; scratch = h.scratch; doubts = h.doubts }
-      by false false false false false true _ _ _ _ _ at = record { kinds = record { quota = h.kinds.quota; files = h.kinds.files; audit = h.kinds.audit; names = h.kinds.names; timers = h.kinds.timers; windows = h.kinds.windows; scratch = kind servers.scratch ∙ h.kinds.scratch; extra = h.kinds.extra }; files = h.files; audit = h.audit; names = h.names; timers = h.timers; windows = h.windows; scratch = here scratch_no state.scratch servers.scratch (kinds.Scratch) (same server.0 scratch_no at) h.kinds.scratch refl h.scratch; doubts = h.doubts }
+      by false false false true false false _ _ _ at _ _ = record { kinds = record { quota = h.kinds.quota; files = h.kinds.files; audit = h.kinds.audit; names = h.kinds.names; timers = kind servers.timers ∙ h.kinds.timers; windows = h.kinds.windows; scratch = h.kinds.scratch; extra = h.kinds.extra }; files = h.files; audit = h.audit; names = h.names; timers = subst (λ (t : TimersValue). HoldsTimers (seen timers_no) state.timers t) (sym (timed (eqb-true server.0 timers_no at) servers.timers h.kinds.timers)) h.timers; windows = h.windows; scratch = h.scratch; doubts = h.doubts }
+      by false false false false true i _ _ _ _ at _ = record { kinds = record { quota = h.kinds.quota; files = h.kinds.files; audit = h.kinds.audit; names = h.kinds.names; timers = h.kinds.timers; windows = kind servers.windows ∙ h.kinds.windows; scratch = h.kinds.scratch; extra = h.kinds.extra }; files = h.files; audit = h.audit; names = h.names; timers = h.timers; windows = here windows_no state.windows servers.windows (kinds.Windows) (eqb-true server.0 windows_no at) h.kinds.windows refl h.windows; scratch = h.scratch; doubts = h.doubts }
+      by false false false false false true _ _ _ _ _ at = record { kinds = record { quota = h.kinds.quota; files = h.kinds.files; audit = h.kinds.audit; names = h.kinds.names; timers = h.kinds.timers; windows = h.kinds.windows; scratch = kind servers.scratch ∙ h.kinds.scratch; extra = h.kinds.extra }; files = h.files; audit = h.audit; names = h.names; timers = h.timers; windows = h.windows; scratch = here scratch_no state.scratch servers.scratch (kinds.Scratch) (eqb-true server.0 scratch_no at) h.kinds.scratch refl h.scratch; doubts = h.doubts }
       by false false false false false false _ _ _ _ _ _ = record { kinds = record { quota = h.kinds.quota; files = h.kinds.files; audit = h.kinds.audit; names = h.kinds.names; timers = h.kinds.timers; windows = h.kinds.windows; scratch = h.kinds.scratch; extra = kind servers.extra ∙ h.kinds.extra }; files = h.files; audit = h.audit; names = h.names; timers = h.timers; windows = h.windows; scratch = h.scratch; doubts = h.doubts }
 
 -- nothing is changed
@@ -174,7 +157,7 @@ module _ (seen : ℕ → Tid → Bool) (state : machine.NodeValue) (servers : Se
 
       -- names hold nothing of it then
       none : (server.0 == names_no) ≡ true → (share_of now.names.table tid).changes ≡ []
-      none is = subst (λ (n : ℕ). (share_of (with_server (record { 0 = n }) (noting (notice_of outcome)) servers).names.table tid).changes ≡ []) (sym (same server.0 names_no is))
+      none is = subst (λ (n : ℕ). (share_of (with_server (record { 0 = n }) (noting (notice_of outcome)) servers).names.table tid).changes ≡ []) (sym (eqb-true server.0 names_no is))
           (ap (λ (t : TableValue). (share_of t tid).changes) (note_tabled (notice_of outcome) servers.names servers.names.kind (ap is_tabled h.kinds.names)) ∙ noted_gone (seen names_no) state.doubts servers.names.table h.doubts tid h.names.rising outcome)
 
       doubtless : (b : Bool) → (server.0 == names_no) ≡ b → (s : machine.NodeValue) → HoldsServers seen s now → HoldsServers seen (if b then without_doubts tid s else s) now

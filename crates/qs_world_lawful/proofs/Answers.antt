@@ -1,42 +1,17 @@
 -- A client's open command is answered: the rule as a whole.
-use Rattle.std.proofs.Common.{◌≡◌, ◌≢◌, ◌⊎◌, inl, inr, ℕ, Bool, true, false, List, [], ◌∷◌, ◌++◌, Option, Some, None, Less, Equal, Greater, refl, sym, ap, subst, ◌∙◌, length}
-use Rattle.std.specs.Prelude.{slice_get}
-use Rattle.std.specs.Option.{option_map}
-use Rattle.std.specs.Map.{lookup, remove_entry}
-use Rattle.std.specs.BTreeMap.{is_at}
-use Rattle.std.specs.declared.cmp.Ordering.{Ordering}
-use Rattle.std.proofs.lemmas.Cmp.{tied_itself, nat_cmp_total}
-use Rattle.std.proofs.lemmas.Map.Lookups.{exact_unsigned}
-use Rattle.qs_base.specs.declared.identifiers.ClientNo.{ClientNo}
-use Rattle.qs_base.specs.declared.identifiers.Tid.{Tid}
-use Rattle.qs_ops.specs.declared.answer.Answer.{Answer}
+use Rattle.qs_world_lawful.proofs.Words.{◌≡◌, ◌≢◌, ◌⊎◌, inl, inr, ℕ, Bool, true, false, List, [], ◌∷◌, ◌++◌, Option, Some, None, Less, Equal, Greater, refl, sym, ap, subst, ◌∙◌, length, true≢false, slice_get, option_map, lookup, remove_entry, is_at, Ordering, tied_itself, nat_cmp_total, exact_unsigned, ClientNo, Tid, Answer, is_outcome, Cell, BookValue, find_transaction, changed_at, with_owner, waiting_of, is_known, Asking, Owner, changed_at_alike, changed_at_either, remove_rises, removed, Decided}
+use Rattle.qs_world_lawful.proofs.Words.{OpenCommand, outcome_answer, Work, client_cmp, face_of, Holds, HoldsClients, IsBehind, HasEnded, MayBeTold, IsAsking, Participant, HoldsWork, book_at, is_seen}
 use Rattle.qs_ops.specs.declared.answer.Answer.TheVariants as answers
 use Rattle.qs_book_journal.specs.declared.entry.Act.TheVariants as acts
-use Rattle.qs_book_machine.specs.Transaction.{is_outcome}
-use Rattle.qs_book_machine.specs.declared.transaction.Cell.{Cell}
-use Rattle.qs_book_machine.specs.Book.{BookValue, find_transaction, changed_at, with_owner, waiting_of}
-use Rattle.qs_book_machine.specs.Clauses.{is_known}
-use Rattle.qs_book_machine.specs.declared.state.Asking.{Asking}
-use Rattle.qs_book_machine.specs.declared.state.Owner.{Owner}
-use Rattle.qs_book_laws.proofs.Maps.{changed_at_alike, changed_at_either}
-use Rattle.qs_book_laws.proofs.Rising.{remove_rises, removed}
-use Rattle.qs_node_kept.specs.declared.kept.Decided.{Decided}
-use Rattle.qs_node_step.specs.declared.state.OpenCommand.{OpenCommand}
 use Rattle.qs_node_step.specs.Bringing.{answer}
-use Rattle.qs_node_step.specs.Commands.{outcome_answer}
-use Rattle.qs_node_step.specs.State.{Work, NodeValue, client_cmp}
-use Rattle.qs_world_lawful.specs.Face.{face_of}
-use Rattle.qs_world_lawful.specs.Holds.{Holds, HoldsClients, IsBehind, HasEnded, MayBeTold, IsAsking}
+use Rattle.qs_node_step.specs.State.{NodeValue}
 use Rattle.qs_tm.specs.Manager as tm
-use Rattle.qs_tm.specs.declared.participant.Participant.{Participant}
-use Rattle.qs_world_lawful.specs.Entering.{HoldsWork, book_at}
 use Rattle.qs_world_lawful.proofs.OtherShares.{removed_apart}
 use Rattle.qs_world_lawful.proofs.Frames.{seen, KeepsSeen, found_alike, owner_on, owner_back, held_on, known_on}
 use Rattle.qs_world_lawful.proofs.Growing.{entered, book_with}
 use Rattle.qs_world_lawful.proofs.Clauses.{may_answer}
 use Rattle.qs_world_lawful.proofs.CrossedTables.{servers_alike}
 use Rattle.qs_world_lawful.proofs.SameWaits.{crossings, seen_alike}
-use Rattle.qs_world_lawful.specs.Tables.{is_seen}
 use Rattle.qs_world_lawful.proofs.Quiet.{waits_quiet, quiet, at_quiet, all_heard, heard_nodes, heard_owners}
 use Rattle.qs_world_lawful.proofs.Steps.{next_again}
 
@@ -57,16 +32,13 @@ AreApart c d = (k : ClientNo) → is_at (client_cmp d) k ≡ true → is_at (cli
 pub same_client_or : (c d : ClientNo) → (c ≡ d) ⊎ ((c ≢ d) × AreApart c d)
 same_client_or c d = by (is_at (client_cmp c) d) refl
   where
-    clash : true ≡ false → ⊥
-    clash e = cc e
-
     turned : is_at (client_cmp c) d ≡ false → (k : ClientNo) → is_at (client_cmp d) k ≡ true → (b : Bool) → is_at (client_cmp c) k ≡ b → b ≡ false
     turned far k at false is = refl
-    turned far k at true is = absurd (clash (sym (subst (λ (x : ClientNo). is_at (client_cmp c) x ≡ true) (sym (client_exact d k at)) is) ∙ far))
+    turned far k at true is = absurd (true≢false (sym (subst (λ (x : ClientNo). is_at (client_cmp c) x ≡ true) (sym (client_exact d k at)) is) ∙ far))
 
     by : (b : Bool) → is_at (client_cmp c) d ≡ b → (c ≡ d) ⊎ ((c ≢ d) × AreApart c d)
     by true is = inl (client_exact c d is)
-    by false is = inr (λ same. clash (sym (subst (λ (x : ClientNo). is_at (client_cmp c) x ≡ true) same (client_itself c)) ∙ is), λ k at. turned is k at _ refl)
+    by false is = inr (λ same. true≢false (sym (subst (λ (x : ClientNo). is_at (client_cmp c) x ≡ true) same (client_itself c)) ∙ is), λ k at. turned is k at _ refl)
 
 -- what a client may be told does not hang on its line
 told_by : Owner → Owner

@@ -1,21 +1,9 @@
 -- A restart turns each transaction too, whatever votes and Commits it finds; and nothing is left undecided of what its node began.
-use Rattle.std.proofs.Common.{◌≡◌, ℕ, ◌&&◌, ◌≤◌, Bool, true, false, List, [], ◌∷◌, Option, Some, None, fold, sym, ap, subst, ◌∙◌}
-use Rattle.std.specs.Prelude.{slice_get}
-use Rattle.std.specs.List.{list_all}
-use Rattle.qs_base.specs.declared.identifiers.Member.{Member}
-use Rattle.qs_base.specs.declared.identifiers.Tid.{Tid}
-use Rattle.qs_book_journal.specs.declared.entry.Found.{Found}
-use Rattle.qs_book_laws.proofs.Holding.{left_of}
-use Rattle.qs_book_laws.proofs.Maps.{changed_at_here}
+use Rattle.qs_world_lawful.proofs.Words.{◌≡◌, ℕ, ◌≤◌, true, false, List, [], ◌∷◌, Option, Some, None, fold, sym, ap, subst, ◌∙◌, slice_get, list_all, Member, Tid, Found, left_of, changed_at_here, Age, passed, BookValue, find_transaction, inc_at, is_recoverable, abort_begun, begun_at, broken_restart, commit_found, is_open_here, new_votes, put_new_votes, restart, up_to, vote_found, votes_once, with_votes, IsOfNow, Every, and_last}
 use Rattle.qs_book_laws.proofs.Restarts.{votes_age}
-use Rattle.qs_book_laws.proofs.Faces.{Age}
-use Rattle.qs_book_laws.proofs.Steps.{past, passed}
-use Rattle.qs_book_machine.specs.Book.{BookValue, find_transaction, inc_at}
+use Rattle.qs_book_laws.proofs.Steps.{past}
 use Rattle.qs_book_machine.specs.Nodes as machine
-use Rattle.qs_book_machine.specs.Nodes.{is_recoverable}
-use Rattle.qs_book_machine.specs.Restart.{abort_begun, begun_at, broken_restart, commit_found, is_found_vote, is_open_here, new_votes, put_new_votes, restart, up_to, vote_found, votes_once, with_votes}
-use Rattle.qs_world_lawful.specs.Lasting.{IsOfNow}
-use Rattle.qs_world_lawful.specs.Logs.{Every}
+use Rattle.qs_book_machine.specs.Restart.{is_found_vote}
 use Rattle.qs_world_lawful.proofs.RestartCells.{aborts_on, aborts_shut, commits_on}
 use Rattle.qs_world_lawful.proofs.RestartGoes.{IsElsewhere, Onward, on_fold, on_then, vote_on}
 use Rattle.qs_world_lawful.proofs.Turning.{Turned, Turns, turns_quiet}
@@ -44,11 +32,7 @@ module _ (book : BookValue) (here inc : ℕ) (pend : List Found) (done : List Ti
     where
       each : (fs : List Found) → list_all (is_found_vote here book state done) fs ≡ true → Every (λ (found : Found). is_recoverable found.server.0 ≡ true) fs
       each [] all = tt
-      each (f ∷ fs) all = (left_of (is_recoverable f.server.0) _ (left_of (is_found_vote here book state done f) _ all), each fs (rest (is_found_vote here book state done f) _ all))
-        where
-          rest : (a b : Bool) → (a && b) ≡ true → b ≡ true
-          rest true b e = e
-          rest false b e = absurd (cc e)
+      each (f ∷ fs) all = (left_of (is_recoverable f.server.0) _ (left_of (is_found_vote here book state done f) _ all), each fs (and_last (is_found_vote here book state done f) _ all))
 
   to_settled : Onward here P voted settled
   to_settled = aborts_on here P was_inc (up_to (begun_at here read)) voted

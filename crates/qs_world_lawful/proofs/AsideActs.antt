@@ -1,34 +1,13 @@
 -- What an entry of a node leaves beside transactions: the state of every other node, but where a request crosses its transaction there; and what
 -- each client was told, and may be told.
-use Rattle.std.proofs.Common.{◌≡◌, ◌⊎◌, inl, inr, ℕ, ◌-◌, ◌==◌, Bool, true, false, List, [], ◌∷◌, ◌++◌, fold, Option, Some, None, refl, sym, ap, subst, ◌∙◌, if◌then◌else◌}
-use Rattle.std.specs.Prelude.{slice_get, slice_set, ⊤}
-use Rattle.std.specs.Option.{option_map}
-use Rattle.std.specs.List.{list_any}
-use Rattle.std.specs.BTreeMap.{is_at}
-use Rattle.qs_base.specs.Order.{tid_cmp}
-use Rattle.qs_base.specs.declared.identifiers.Member.{Member}
-use Rattle.qs_base.specs.declared.identifiers.Outcome.{Outcome}
+use Rattle.qs_world_lawful.proofs.Words.{◌≡◌, ◌⊎◌, inl, inr, ℕ, ◌-◌, ◌==◌, Bool, true, false, List, [], ◌∷◌, ◌++◌, fold, Option, Some, None, refl, sym, ap, subst, ◌∙◌, if◌then◌else◌, slice_get, slice_set, ⊤, option_map, list_any, is_at, tid_cmp, Member, Outcome, Tid, Act, elsewhere, changed_alike, changed_at_either, BookValue, changed_at, crosses, find_transaction, give_back_from, hear, inc_at, loan_to, owner_of, told, waiting_of, with_owner, with_transaction, with_waiting, borrower_at, is_known}
+use Rattle.qs_world_lawful.proofs.Words.{link_to, effect_act, TransactionValue, heard, issued, learnt, Asking, Owner, RequestNo, is_client_no, Answer, Cause, IsOfStep, some_same}
 use Rattle.qs_base.specs.declared.identifiers.Outcome.TheVariants as outcomes
-use Rattle.qs_base.specs.declared.identifiers.Tid.{Tid}
-use Rattle.qs_book_journal.specs.declared.entry.Act.{Act}
 use Rattle.qs_book_journal.specs.declared.entry.Act.TheVariants as acts
 use Rattle.qs_book_laws.proofs.Holding.{fold_nodes, loan_nodes, yield_nodes}
-use Rattle.qs_book_laws.proofs.Holds.{elsewhere}
-use Rattle.qs_book_laws.proofs.Maps.{changed_alike, changed_at_either}
-use Rattle.qs_book_machine.specs.Book.{BookValue, changed_at, crosses, find_transaction, give_back_from, hear, inc_at, loan_to, owner_of, told, waiting_of, with_owner, with_transaction, with_waiting}
-use Rattle.qs_book_machine.specs.Clauses.{borrower_at, is_known, link_to}
-use Rattle.qs_book_machine.specs.Lawful.{effect_act}
 use Rattle.qs_book_machine.specs.Nodes as machine
-use Rattle.qs_book_machine.specs.Transaction.{TransactionValue, heard, issued, learnt}
-use Rattle.qs_book_machine.specs.declared.state.Asking.{Asking}
-use Rattle.qs_book_machine.specs.declared.state.Owner.{Owner}
-use Rattle.qs_book_machine.specs.declared.transaction.RequestNo.{RequestNo}
 use Rattle.qs_ops.specs.Alike.{same_cause}
-use Rattle.qs_ops.specs.Servers.{is_client_no}
-use Rattle.qs_ops.specs.declared.answer.Answer.{Answer}
 use Rattle.qs_ops.specs.declared.answer.Answer.TheVariants as answers
-use Rattle.qs_ops.specs.declared.answer.Cause.{Cause}
-use Rattle.qs_world_lawful.specs.Aside.{IsOfStep}
 use Rattle.qs_world_lawful.proofs.Crossing.{crossing_owners}
 use Rattle.qs_world_lawful.proofs.RestartOwners.{told_still}
 use Rattle.qs_world_lawful.proofs.SameWaits.{crossings}
@@ -147,9 +126,6 @@ owner_changed act c f each book new same client owner is = by (slice_get book.ow
   where
     abbrev_there : slice_get new.owners client ≡ slice_get (changed_at c f book.owners) client
     abbrev_there = ap (λ (os : List Owner). slice_get os client) same
-
-    some_same : {x y : Owner} → Some x ≡ Some y → x ≡ y
-    some_same e = cc e
 
     at : (v : Owner) → ((client ≡ c) × (slice_get book.owners client ≡ Some v) × (slice_get (changed_at c f book.owners) client ≡ Some (f v))) ⊎ (slice_get (changed_at c f book.owners) client ≡ slice_get book.owners client)
         → (later : Owner) × (slice_get new.owners client ≡ Some later) × (OwnerOn owner later × ((IsAnsweredBy client act → ⊥) → later.line ≡ owner.line))

@@ -1,24 +1,7 @@
 -- An entry that neither begins nor restarts leaves when each transaction began.
-use Rattle.std.proofs.Common.{◌≡◌, ℕ, false, List, [], ◌∷◌, fold, Option, Some, None, refl, ap, ◌∙◌}
-use Rattle.std.specs.Prelude.{slice_get, ⊤}
-use Rattle.std.specs.Option.{option_map}
-use Rattle.std.specs.Map.{lookup}
-use Rattle.std.specs.BTreeMap.{is_at}
-use Rattle.qs_base.specs.Order.{tid_cmp}
-use Rattle.qs_base.specs.declared.identifiers.Member.{Member}
-use Rattle.qs_base.specs.declared.identifiers.Outcome.{Outcome}
+use Rattle.qs_world_lawful.proofs.Words.{◌≡◌, ℕ, false, List, [], ◌∷◌, fold, Option, Some, None, refl, ap, ◌∙◌, slice_get, ⊤, option_map, lookup, is_at, tid_cmp, Member, Outcome, Tid, Act, changed_alike, BookValue, crosses, find_transaction, give_back_from, hear, inc_at, loan_to, waiting_of, with_owner, with_transaction, with_waiting, borrower_at, link_to, effect_act, TransactionValue, heard, issued, learnt, Asking, Owner, RequestNo}
 use Rattle.qs_base.specs.declared.identifiers.Outcome.TheVariants as outcomes
-use Rattle.qs_base.specs.declared.identifiers.Tid.{Tid}
-use Rattle.qs_book_journal.specs.declared.entry.Act.{Act}
 use Rattle.qs_book_journal.specs.declared.entry.Act.TheVariants as acts
-use Rattle.qs_book_laws.proofs.Maps.{changed_alike}
-use Rattle.qs_book_machine.specs.Book.{BookValue, crosses, find_transaction, give_back_from, hear, inc_at, loan_to, waiting_of, with_owner, with_transaction, with_waiting}
-use Rattle.qs_book_machine.specs.Clauses.{borrower_at, link_to}
-use Rattle.qs_book_machine.specs.Lawful.{effect_act}
-use Rattle.qs_book_machine.specs.Transaction.{TransactionValue, heard, issued, learnt}
-use Rattle.qs_book_machine.specs.declared.state.Asking.{Asking}
-use Rattle.qs_book_machine.specs.declared.state.Owner.{Owner}
-use Rattle.qs_book_machine.specs.declared.transaction.RequestNo.{RequestNo}
 use Rattle.qs_world_lawful.proofs.Crossing.{crossing_txs, waiting_txs}
 
 abbrev pub begun_of : TransactionValue → ℕ

@@ -1,20 +1,10 @@
 -- What a lawful entry that another node makes in a step leaves of what the machine has beside a transaction at a node that runs.
-use Rattle.std.proofs.Common.{◌≡◌, ◌⊎◌, inl, inr, ℕ, ◌+◌, ◌≤◌, ◌==◌, ◌||◌, Bool, true, false, List, refl, sym, ap, subst, ◌∙◌}
-use Rattle.std.specs.List.{list_any}
-use Rattle.qs_base.specs.declared.identifiers.NodeNo.{NodeNo}
-use Rattle.qs_base.specs.declared.identifiers.Outcome.{Outcome}
+use Rattle.qs_world_lawful.proofs.Words.{◌≡◌, ◌⊎◌, inl, inr, ℕ, ◌+◌, ◌≤◌, ◌==◌, ◌||◌, Bool, true, false, List, refl, sym, ap, subst, ◌∙◌, list_any, NodeNo, Outcome, ServerNo, Tid, Part, TransactionValue, has_note, is_commit, is_covering, is_open, is_outcome, is_start, Cell, Participant, HoldsNotes, HoldsReads, HoldsReader, HoldsStranger, has_issued, at_server}
 use Rattle.qs_base.specs.declared.identifiers.Outcome.TheVariants as outcomes
-use Rattle.qs_base.specs.declared.identifiers.ServerNo.{ServerNo}
-use Rattle.qs_base.specs.declared.identifiers.Tid.{Tid}
 use Rattle.qs_book_machine.specs.Clauses.{note_text}
-use Rattle.qs_book_machine.specs.declared.transaction.Part.{Part}
-use Rattle.qs_book_machine.specs.Transaction.{TransactionValue, has_note, is_commit, is_covering, is_open, is_outcome, is_start, part_of}
-use Rattle.qs_book_machine.specs.declared.transaction.Cell.{Cell}
+use Rattle.qs_book_machine.specs.Transaction.{part_of}
 use Rattle.qs_book_machine.specs.declared.transaction.Cell.TheVariants as cells
 use Rattle.qs_tm.specs.Members as rules
-use Rattle.qs_tm.specs.declared.participant.Participant.{Participant}
-use Rattle.qs_world_lawful.specs.Beside.{HoldsNotes, HoldsReads, HoldsReader, HoldsStranger, has_issued}
-use Rattle.qs_world_lawful.specs.Face.{at_server}
 use Rattle.qs_world_lawful.proofs.AsideTid.{other, part_same, starts_same}
 use Rattle.qs_world_lawful.proofs.Turning.{Turns}
 

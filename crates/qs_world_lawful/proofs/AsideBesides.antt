@@ -1,34 +1,13 @@
 -- The entries that a node makes in a step leave what the machine has beside every other node that runs.
-use Rattle.std.proofs.Common.{◌≡◌, ◌⊎◌, inl, inr, ℕ, ◌++◌, true, false, List, [], ◌∷◌, Option, Some, None, refl, sym, ap, subst, ◌∙◌, is_some}
-use Rattle.std.specs.Prelude.{slice_get}
-use Rattle.std.specs.Option.{option_map}
-use Rattle.qs_base.specs.declared.identifiers.ClientNo.{ClientNo}
-use Rattle.qs_base.specs.declared.identifiers.NodeNo.{NodeNo}
-use Rattle.qs_base.specs.declared.identifiers.Outcome.{Outcome}
-use Rattle.qs_base.specs.declared.identifiers.Tid.{Tid}
-use Rattle.qs_book_journal.specs.declared.entry.Act.{Act}
+use Rattle.qs_world_lawful.proofs.Words.{◌≡◌, ◌⊎◌, inl, inr, ℕ, ◌++◌, true, false, List, [], ◌∷◌, Option, Some, None, refl, sym, ap, subst, ◌∙◌, is_some, slice_get, option_map, ClientNo, NodeNo, Outcome, Tid, Act, Entry, IsCoherent, after_both, lawful_front, lawful_rest, BookValue, find_transaction, ticks_at, has_no_record, IsLawful, book_after, broken, effect, opening, TransactionValue, begun, is_commit, is_outcome, Opened, Owner, Cell, Cause, Participant, IsAside, IsOfStep, HasOwner, HoldsBeside}
+use Rattle.qs_world_lawful.proofs.Words.{HoldsEnded, HoldsNotes, HoldsPart, HoldsReads, HoldsStranger, HoldsTidBeside, IsTrueCause, Every}
 use Rattle.qs_book_journal.specs.declared.entry.Act.TheVariants as acts
-use Rattle.qs_book_journal.specs.declared.entry.Entry.{Entry}
-use Rattle.qs_book_laws.specs.Laws.{IsCoherent}
-use Rattle.qs_book_laws.proofs.Steps.{after_both, lawful_front, lawful_rest}
-use Rattle.qs_book_machine.specs.Book.{BookValue, find_transaction, ticks_at}
-use Rattle.qs_book_machine.specs.Clauses.{has_no_record}
-use Rattle.qs_book_machine.specs.Lawful.{IsLawful, book_after, broken, effect}
 use Rattle.qs_book_machine.specs.Nodes as machine
-use Rattle.qs_book_machine.specs.Opening.{opening}
-use Rattle.qs_book_machine.specs.Transaction.{TransactionValue, begun, is_commit, is_outcome}
-use Rattle.qs_book_machine.specs.declared.opened.Opened.{Opened}
-use Rattle.qs_book_machine.specs.declared.state.Owner.{Owner}
-use Rattle.qs_book_machine.specs.declared.transaction.Cell.{Cell}
-use Rattle.qs_ops.specs.declared.answer.Cause.{Cause}
 use Rattle.qs_packet.specs.declared.message.Message.TheVariants as messages
 use Rattle.qs_node_step.specs.State.{NodeValue}
 use Rattle.qs_tm.specs.Manager as tm
-use Rattle.qs_tm.specs.declared.participant.Participant.{Participant}
-use Rattle.qs_world_lawful.specs.Aside.{BeginsOwned, IsAside, IsOfStep}
+use Rattle.qs_world_lawful.specs.Aside.{BeginsOwned}
 use Rattle.qs_world_lawful.specs.AsideLaws.{EachKeepsOthersBeside, RunsAt}
-use Rattle.qs_world_lawful.specs.Beside.{HasOwner, HoldsBeside, HoldsEnded, HoldsNotes, HoldsPart, HoldsReads, HoldsStranger, HoldsTidBeside, IsTrueCause}
-use Rattle.qs_world_lawful.specs.Logs.{Every}
 use Rattle.qs_world_lawful.proofs.Apart.{Apart, same_or_apart}
 use Rattle.qs_world_lawful.proofs.AsideActs.{owners_keep}
 use Rattle.qs_world_lawful.proofs.AsideBegun.{IsGoing, begun_of, begun_same}

@@ -1,32 +1,10 @@
 -- What each lawful entry that a node makes in a step leaves of the machine for every other node: its state, or that with a transaction hidden that
 -- is crossed there; the owners of transactions, and what they may be told; and of another home the cells.
-use Rattle.std.proofs.Common.{◌≡◌, ◌⊎◌, inl, inr, ℕ, ◌==◌, true, false, List, length, Option, Some, None, refl, sym, ap, subst, ◌∙◌, arith}
-use Rattle.std.proofs.lemmas.Bool.Decides.{nat_tests}
-use Rattle.std.specs.Prelude.{slice_get}
-use Rattle.qs_base.specs.declared.identifiers.ClientNo.{ClientNo}
-use Rattle.qs_base.specs.declared.identifiers.Member.{Member}
-use Rattle.qs_base.specs.declared.identifiers.NodeNo.{NodeNo}
-use Rattle.qs_base.specs.declared.identifiers.Outcome.{Outcome}
+use Rattle.qs_world_lawful.proofs.Words.{◌≡◌, ◌⊎◌, inl, inr, ℕ, ◌==◌, true, false, List, length, Option, Some, None, refl, sym, ap, subst, ◌∙◌, slice_get, ClientNo, Member, NodeNo, Outcome, Tid, Act, Entry, Decided, BookValue, find_transaction, broken_issue, broken, broken_node, effect, effect_act, TransactionValue, is_open, is_outcome, Cell, Op, ServersValue, held, outcome_answer, IsOfStep, HasEnded, IsOwner, MayBeTold, is_seen, seen_in, eqb-self}
 use Rattle.qs_base.specs.declared.identifiers.Outcome.TheVariants as outcomes
-use Rattle.qs_base.specs.declared.identifiers.Tid.{Tid}
-use Rattle.qs_book_journal.specs.declared.entry.Act.{Act}
 use Rattle.qs_book_journal.specs.declared.entry.Act.TheVariants as acts
-use Rattle.qs_book_journal.specs.declared.entry.Entry.{Entry}
-use Rattle.qs_node_kept.specs.declared.kept.Decided.{Decided}
-use Rattle.qs_book_machine.specs.Book.{BookValue, find_transaction}
-use Rattle.qs_book_machine.specs.Clauses.{broken_issue}
-use Rattle.qs_book_machine.specs.Lawful.{broken, broken_node, effect, effect_act}
 use Rattle.qs_book_machine.specs.Nodes as machine
-use Rattle.qs_book_machine.specs.Transaction.{TransactionValue, is_open, is_outcome}
-use Rattle.qs_book_machine.specs.declared.transaction.Cell.{Cell}
 use Rattle.qs_book_machine.specs.declared.transaction.Cell.TheVariants as cells
-use Rattle.qs_ops.specs.declared.operation.Op.{Op}
-use Rattle.qs_node_servers.specs.Servers.{ServersValue}
-use Rattle.qs_book_laws.proofs.Steps.{held}
-use Rattle.qs_node_step.specs.Commands.{outcome_answer}
-use Rattle.qs_world_lawful.specs.Aside.{IsOfStep}
-use Rattle.qs_world_lawful.specs.Holds.{HasEnded, IsOwner, MayBeTold}
-use Rattle.qs_world_lawful.specs.Tables.{is_seen, seen_in}
 use Rattle.qs_world_lawful.proofs.Apart.{Apart, same_or_apart}
 use Rattle.qs_world_lawful.proofs.AsideActs.{IsQuiet, IsStill, crossings_same, owners_keep, there_same}
 use Rattle.qs_world_lawful.proofs.AsideIssue.{NodeOn, issue_leaves, records_itself}
@@ -148,9 +126,6 @@ module _ (book : BookValue) (entry : Entry) (w : LastsWell book) (h : broken boo
   pub stood_away : (tid : Tid) (later : TransactionValue) → (tid.home.0 == entry.node.0) ≡ false → find_transaction new tid ≡ Some later → (tx : TransactionValue) × (find_transaction book tid ≡ Some tx) × Goes tid tx later
   stood_away tid later far found = by (find_transaction book tid) refl
     where
-      itself : (n : ℕ) → (n == n) ≡ true
-      itself n = grind (arith, nat_tests)
-
       by : (o : Option TransactionValue) → find_transaction book tid ≡ o → (tx : TransactionValue) × (find_transaction book tid ≡ Some tx) × Goes tid tx later
       by (Some tx) is =
           let p = goes_on tid tx is in
@@ -159,7 +134,7 @@ module _ (book : BookValue) (entry : Entry) (w : LastsWell book) (h : broken boo
         where
           of : (find_transaction new tid ≡ None) ⊎ ((b : Begins book entry) × (b.tid ≡ tid)) → ⊥
           of (inl gone) = cc (sym gone ∙ found)
-          of (inr (b, same)) = cc (far, subst (λ (t : Tid). (t.home.0 == entry.node.0) ≡ true) same (subst (λ (n : ℕ). (n == entry.node.0) ≡ true) (sym b.home) (itself entry.node.0)))
+          of (inr (b, same)) = cc (far, subst (λ (t : Tid). (t.home.0 == entry.node.0) ≡ true) same (subst (λ (n : ℕ). (n == entry.node.0) ≡ true) (sym b.home) (eqb-self entry.node.0)))
 
   pub owner_back : (tid : Tid) (client : ClientNo) → (tid.home.0 == entry.node.0) ≡ false → IsOwner new tid client → IsOwner book tid client
   owner_back tid client far o =

@@ -1,31 +1,10 @@
 -- Each lawful entry that another node makes in a step leaves what the machine has of the log of a node that is down, but for its Commits.
-use Rattle.std.proofs.Common.{◌≡◌, ◌⊎◌, inl, inr, ℕ, ◌≤◌, ◌==◌, ◌&&◌, ◌||◌, Bool, true, false, List, Option, Some, None, refl, sym, ap, subst, ◌∙◌, arith, if◌then◌else◌}
-use Rattle.std.proofs.lemmas.Bool.Decides.{nat_tests}
-use Rattle.std.specs.Prelude.{slice_get, slice_set}
-use Rattle.qs_base.specs.declared.identifiers.Member.{Member}
-use Rattle.qs_base.specs.declared.identifiers.ServerNo.{ServerNo}
-use Rattle.qs_base.specs.declared.identifiers.Tid.{Tid}
-use Rattle.qs_book_journal.specs.declared.entry.Act.{Act}
+use Rattle.qs_world_lawful.proofs.Words.{◌≡◌, ◌⊎◌, inl, inr, ℕ, ◌≤◌, ◌==◌, ◌&&◌, ◌||◌, Bool, true, false, List, Option, Some, None, refl, sym, ap, subst, ◌∙◌, if◌then◌else◌, slice_get, slice_set, Member, ServerNo, Tid, Act, Entry, Found, changed_at_either, BookValue, crosses, find_transaction, inc_at, with_crossing, with_transaction, with_waiting, link_to, broken, effect_act, crossed_node, crossed_server, could_vote, is_among, may_be_lost, member_at, TransactionValue, has_learnt, is_open, issued}
+use Rattle.qs_world_lawful.proofs.Words.{OnRecord, Voter, Cell, RequestNo, Op, Prepared, Recovery, IsOfStep, IsCutVote, IsRecordKept, IsVoteLogged, found_of, some_same, apart_turned, eqb-true, and_parts}
 use Rattle.qs_book_journal.specs.declared.entry.Act.TheVariants as acts
-use Rattle.qs_book_journal.specs.declared.entry.Entry.{Entry}
-use Rattle.qs_book_journal.specs.declared.entry.Found.{Found}
-use Rattle.qs_book_laws.proofs.Maps.{changed_at_either}
-use Rattle.qs_book_machine.specs.Book.{BookValue, crosses, find_transaction, inc_at, with_crossing, with_transaction, with_waiting}
-use Rattle.qs_book_machine.specs.Clauses.{link_to}
-use Rattle.qs_book_machine.specs.Lawful.{broken, effect_act}
 use Rattle.qs_book_machine.specs.Nodes as machine
-use Rattle.qs_book_machine.specs.Nodes.{crossed_node, crossed_server}
-use Rattle.qs_book_machine.specs.Restart.{could_vote, is_among, may_be_lost, member_at}
-use Rattle.qs_book_machine.specs.Transaction.{TransactionValue, has_learnt, is_abort, is_open, issued, part_of}
-use Rattle.qs_book_machine.specs.declared.state.OnRecord.{OnRecord}
-use Rattle.qs_book_machine.specs.declared.state.Voter.{Voter}
-use Rattle.qs_book_machine.specs.declared.transaction.Cell.{Cell}
+use Rattle.qs_book_machine.specs.Transaction.{is_abort, part_of}
 use Rattle.qs_book_machine.specs.declared.transaction.Cell.TheVariants as cells
-use Rattle.qs_book_machine.specs.declared.transaction.RequestNo.{RequestNo}
-use Rattle.qs_ops.specs.declared.operation.Op.{Op}
-use Rattle.qs_restart.specs.Recovery.{Prepared, Recovery}
-use Rattle.qs_world_lawful.specs.Aside.{IsOfStep}
-use Rattle.qs_world_lawful.specs.Logs.{IsCutVote, IsRecordKept, IsVoteLogged, found_of}
 use Rattle.qs_world_lawful.proofs.AsideActs.{IsQuiet, there_same}
 use Rattle.qs_world_lawful.proofs.AsideBook.{Goes, cell_away, goes_on, new}
 use Rattle.qs_world_lawful.proofs.AsideKept.{home_far}
@@ -34,19 +13,12 @@ use Rattle.qs_world_lawful.proofs.Crossing.{waiting_nodes}
 use Rattle.qs_world_lawful.proofs.LastsWell.{LastsWell}
 use Rattle.qs_world_lawful.proofs.AsideThen.{could_then}
 
-and_both : (a b : Bool) → (a && b) ≡ true → (a ≡ true) × (b ≡ true)
-and_both true b e = (refl, e)
-and_both false b e = absurd (cc e)
-
 module _ (book : BookValue) (entry : Entry) (w : LastsWell book) (h : broken book entry ≡ None) (k : ℕ) (far : (entry.node.0 == k) ≡ false) (of_step : IsOfStep entry.act) (s : machine.NodeValue) (there : slice_get book.nodes k ≡ Some s) where
   abbrev after : BookValue
   after = new book entry w h
 
   near : (k == entry.node.0) ≡ false
-  near = turned entry.node.0 k far
-    where
-      turned : (m n : ℕ) → (m == n) ≡ false → (n == m) ≡ false
-      turned m n e = grind (arith, nat_tests, e)
+  near = apart_turned entry.node.0 k far
 
   low : s.stopped ≤ book.place
   low = w.stopped k s there
@@ -72,9 +44,6 @@ module _ (book : BookValue) (entry : Entry) (w : LastsWell book) (h : broken boo
 
           there_inner : slice_get inner.nodes k ≡ Some s
           there_inner = ap (λ (ns : List machine.NodeValue). slice_get ns k) (waiting_nodes tid issuer member one) ∙ there
-
-          some_same : {x y : machine.NodeValue} → Some x ≡ Some y → x ≡ y
-          some_same e = cc e
 
           left : crossed_node tid member.server.0 s ≡ s
           left = ap (λ (b : Bool). if b then crossed_server tid member.server.0 s else s) down
@@ -130,11 +99,8 @@ module _ (book : BookValue) (entry : Entry) (w : LastsWell book) (h : broken boo
   cell_shut tid tx later (inl same) shut = ap (λ (x : TransactionValue). x.cell) same
   cell_shut tid tx later (inr r) shut = r.1.decided shut
 
-  no_is : (a b : ℕ) → (a == b) ≡ true → a ≡ b
-  no_is a b e = grind (arith, nat_tests, e)
-
   same_cell : (tid : Tid) (tx later : TransactionValue) → Goes book entry w h tid tx later → (tid.home.0 == k) ≡ true → later.cell ≡ tx.cell
-  same_cell tid tx later g e = cell_away book entry w h tid tx later g (home_far book entry w h k far of_step tid (no_is tid.home.0 k e))
+  same_cell tid tx later g e = cell_away book entry w h tid tx later g (home_far book entry w h k far of_step tid (eqb-true tid.home.0 k e))
 
   lost_on : (tid : Tid) → may_be_lost k tid (find_transaction book tid) ≡ true → may_be_lost k tid (find_transaction after tid) ≡ true
   lost_on tid is = by (find_transaction book tid) refl is
@@ -152,7 +118,7 @@ module _ (book : BookValue) (entry : Entry) (w : LastsWell book) (h : broken boo
 
           of : (next : TransactionValue) → Goes book entry w h tid tx next → (b : Bool) → is_abort tx.cell ≡ b → (is_abort next.cell || (is_open next.cell && (tid.home.0 == k))) ≡ true
           of next g true a = subst (λ (c : Cell). (is_abort c || (is_open c && (tid.home.0 == k))) ≡ true) (sym (cell_shut tid tx next g (shut tx.cell a))) (rw a refl)
-          of next g false a = subst (λ (c : Cell). (is_abort c || (is_open c && (tid.home.0 == k))) ≡ true) (sym (same_cell tid tx next g (and_both (is_open tx.cell) (tid.home.0 == k) (rw a at e)).1)) e
+          of next g false a = subst (λ (c : Cell). (is_abort c || (is_open c && (tid.home.0 == k))) ≡ true) (sym (same_cell tid tx next g (and_parts (is_open tx.cell) (tid.home.0 == k) (rw a at e)).1)) e
 
   learnt_on : (tid : Tid) (tx next : TransactionValue) → Goes book entry w h tid tx next → (m : Member) → (has_learnt tx m ≡ true) ⊎ (is_among s.committed tid ≡ true) → (has_learnt next m ≡ true) ⊎ (is_among s.committed tid ≡ true)
   learnt_on tid tx next g m (inl is) = inl (has_learnt_on tid tx next g m is)

@@ -1,32 +1,10 @@
 -- What an issue of another node makes of the state of a node: where the request crosses its transaction at a server there, the machine hides it
 -- there from then on; else it leaves the state.
-use Rattle.std.proofs.Common.{◌≡◌, ◌≢◌, ◌⊎◌, inl, inr, ℕ, ◌==◌, ◌&&◌, not, Bool, true, false, List, Option, Some, None, refl, sym, ap, subst, ◌∙◌, arith, is_some, if◌then◌else◌}
-use Rattle.std.proofs.lemmas.Bool.Decides.{nat_tests}
-use Rattle.std.specs.Prelude.{slice_get}
-use Rattle.std.specs.Map.{lookup}
-use Rattle.std.specs.BTreeMap.{is_at}
-use Rattle.qs_base.specs.Order.{member_cmp, tid_cmp}
-use Rattle.qs_base.specs.declared.identifiers.Member.{Member}
-use Rattle.qs_base.specs.declared.identifiers.NodeNo.{NodeNo}
-use Rattle.qs_base.specs.declared.identifiers.Tid.{Tid}
-use Rattle.qs_book_laws.proofs.Alikes.{tid_itself}
-use Rattle.qs_book_laws.proofs.Holding.{same_number}
-use Rattle.qs_book_laws.proofs.Holds.{elsewhere}
-use Rattle.qs_book_laws.proofs.Maps.{changed_at_here}
-use Rattle.qs_book_machine.specs.Book.{BookValue, crosses, find_transaction, inc_at, issue, with_crossing, with_transaction, with_waiting}
-use Rattle.qs_book_machine.specs.Clauses.{link_to}
+use Rattle.qs_world_lawful.proofs.Words.{◌≡◌, ◌≢◌, ◌⊎◌, inl, inr, ℕ, ◌==◌, ◌&&◌, not, Bool, true, false, List, Option, Some, None, refl, sym, ap, subst, ◌∙◌, is_some, if◌then◌else◌, slice_get, lookup, is_at, member_cmp, tid_cmp, Member, NodeNo, Tid, tid_itself, same_number, elsewhere, changed_at_here, BookValue, crosses, find_transaction, inc_at, with_crossing, with_transaction, with_waiting, link_to, crossed_names, crossed_node, crossed_server, crossed_table, with_table, TransactionValue}
+use Rattle.qs_world_lawful.proofs.Words.{crossed_by, is_crossed, issued, standing_request, Request, RequestNo, names_no, scratch_no, windows_no, TableValue, released, timers_ended, Op, ServersValue, SameContents, HoldsServers, is_seen, seen_in, eqb-self, and_false, and_true}
+use Rattle.qs_book_machine.specs.Book.{issue}
 use Rattle.qs_book_machine.specs.Nodes as machine
-use Rattle.qs_book_machine.specs.Nodes.{crossed_names, crossed_node, crossed_server, crossed_table, with_table}
-use Rattle.qs_book_machine.specs.Transaction.{TransactionValue, crossed_by, is_crossed, issued, standing_request}
-use Rattle.qs_book_machine.specs.declared.transaction.Request.{Request}
-use Rattle.qs_book_machine.specs.declared.transaction.RequestNo.{RequestNo}
-use Rattle.qs_ops.specs.Servers.{audit_no, files_no, names_no, scratch_no, timers_no, windows_no}
-use Rattle.qs_ops.specs.Table.{TableValue, released}
-use Rattle.qs_ops.specs.Timers.{timers_ended}
-use Rattle.qs_ops.specs.declared.operation.Op.{Op}
-use Rattle.qs_node_servers.specs.Servers.{ServersValue}
-use Rattle.qs_world_lawful.specs.Said.{SameContents}
-use Rattle.qs_world_lawful.specs.Tables.{HoldsServers, is_seen, seen_in}
+use Rattle.qs_ops.specs.Servers.{audit_no, files_no, timers_no}
 use Rattle.qs_world_lawful.proofs.Apart.{Apart, same_or_apart}
 use Rattle.qs_world_lawful.proofs.CrossedTables.{crossed_up, servers_alike}
 use Rattle.qs_world_lawful.proofs.Crossing.{crossing_txs, waiting_nodes, waiting_txs}
@@ -144,12 +122,9 @@ module _ (book : BookValue) (acting : ℕ) (tid : Tid) (issuer member : Member) 
     crossed_far : (member.node.0 == here.0) ≡ false → NodeOn book new here state servers
     crossed_far far = same_there (new_nodes here.0 ∙ (elsewhere (crossed_node tid member.server.0) inner.nodes member.node.0 here.0 far ∙ inner_there)) (λ n t. seen_apart n (apart n _ refl) t)
       where
-        itself : (n : ℕ) → (n == n) ≡ true
-        itself n = grind (arith, nat_tests)
-
         apart : (n : ℕ) (b : Bool) → is_at (member_cmp (record { node = here; server = record { 0 = n } })) member ≡ b → b ≡ false
         apart n false at = refl
-        apart n true at = absurd (cc (far, subst (λ (m : Member). (m.node.0 == here.0) ≡ true) (member_found (record { node = here; server = record { 0 = n } }) member at) (itself here.0)))
+        apart n true at = absurd (cc (far, subst (λ (m : Member). (m.node.0 == here.0) ≡ true) (member_found (record { node = here; server = record { 0 = n } }) member at) (eqb-self here.0)))
 
     -- here
     crossed_near : (member.node.0 == here.0) ≡ true → NodeOn book new here state servers
@@ -169,14 +144,6 @@ module _ (book : BookValue) (acting : ℕ) (tid : Tid) (issuer member : Member) 
 
         member_is : member ≡ record { node = here; server = record { 0 = member.server.0 } }
         member_is = ap (λ (n : ℕ). record { node = record { 0 = n }; server = member.server }) own
-
-        and_false : (b : Bool) → (b && false) ≡ false
-        and_false true = refl
-        and_false false = refl
-
-        and_true : (b : Bool) → (b && true) ≡ b
-        and_true true = refl
-        and_true false = refl
 
         itself : (u : Tid) → is_at (tid_cmp u) u ≡ true
         itself u = rw (tid_itself u) refl

@@ -1,14 +1,8 @@
 -- From what the machine has beside a node that runs: each note that its files issued is noted or waited for.
-use Rattle.std.proofs.Common.{◌≡◌, ◌⊎◌, inl, inr, ℕ, ◌==◌, ◌||◌, ◌&&◌, not, Bool, true, false, List, [], ◌∷◌, Option, Some, None, refl, sym, ◌∙◌, is_some}
-use Rattle.std.specs.List.{list_any}
-use Rattle.qs_book_machine.specs.Transaction.{is_commit}
+use Rattle.qs_world_lawful.proofs.Words.{◌≡◌, ◌⊎◌, inl, inr, ℕ, ◌==◌, ◌||◌, ◌&&◌, not, Bool, true, false, List, [], ◌∷◌, Option, Some, None, refl, sym, ◌∙◌, is_some, list_any, is_commit, awaits_note, has_noted, Outstanding, Participant, awaits_count, is_note_with, part_or_new}
 use Rattle.qs_tm.specs.Manager as tm
-use Rattle.qs_tm.specs.Participant.{awaits_note, has_noted, is_by_files}
-use Rattle.qs_tm.specs.declared.participant.Outstanding.{Outstanding}
-use Rattle.qs_tm.specs.declared.participant.Participant.{Participant}
+use Rattle.qs_tm.specs.Participant.{is_by_files}
 use Rattle.qs_world_lawful.specs.AsideLaws.{EachHoldsIssued}
-use Rattle.qs_world_lawful.specs.Beside.{awaits_count, is_note_with}
-use Rattle.qs_world_lawful.specs.Face.{part_or_new}
 
 any_less : (count : ℕ) (xs : List Outstanding) → list_any (is_note_with count) xs ≡ true → list_any is_by_files xs ≡ true
 any_less count [] is = absurd (cc is)

@@ -1,26 +1,8 @@
 -- Each lawful entry that another node makes in a step leaves what a log says of contents and changes, and what is kept for clients.
-use Rattle.std.proofs.Common.{◌≡◌, inl, inr, ℕ, ◌==◌, true, false, List, Option, Some, None, refl, sym, ap, ◌∙◌, arith, is_some}
-use Rattle.std.proofs.lemmas.Bool.Decides.{nat_tests}
-use Rattle.std.specs.Prelude.{slice_get}
-use Rattle.qs_base.specs.declared.identifiers.ClientNo.{ClientNo}
-use Rattle.qs_base.specs.declared.identifiers.Member.{Member}
-use Rattle.qs_base.specs.declared.identifiers.NodeNo.{NodeNo}
-use Rattle.qs_base.specs.declared.identifiers.Tid.{Tid}
-use Rattle.qs_book_journal.specs.declared.entry.Entry.{Entry}
+use Rattle.qs_world_lawful.proofs.Words.{◌≡◌, inl, inr, ℕ, ◌==◌, true, false, List, Option, Some, None, refl, sym, ap, ◌∙◌, is_some, slice_get, ClientNo, Member, NodeNo, Tid, Entry, BookValue, cell_of_transaction, crossed_in, find_transaction, broken, member_at, TransactionValue, is_crossed, is_open, OnRecord, Owner, TableValue, Op, Prepared, Recovery, IsOfStep, HoldsSaid, IsAsRecorded, IsMadeBy, IsRecorded, SameContents, HoldsKept, IsLeftOpen, IsLoanOf, IsOpenStill, apart_turned}
 use Rattle.qs_node_kept.specs.declared.kept.Kept.{Kept}
-use Rattle.qs_book_machine.specs.Book.{BookValue, cell_of_transaction, crossed_in, find_transaction}
-use Rattle.qs_book_machine.specs.Lawful.{broken}
 use Rattle.qs_book_machine.specs.Nodes as machine
-use Rattle.qs_book_machine.specs.Restart.{member_at}
-use Rattle.qs_book_machine.specs.Transaction.{TransactionValue, is_crossed, is_open}
-use Rattle.qs_book_machine.specs.declared.state.OnRecord.{OnRecord}
-use Rattle.qs_book_machine.specs.declared.state.Owner.{Owner}
-use Rattle.qs_ops.specs.Table.{TableValue}
-use Rattle.qs_ops.specs.declared.operation.Op.{Op}
-use Rattle.qs_restart.specs.Recovery.{Prepared, Recovery}
-use Rattle.qs_world_lawful.specs.Aside.{IsOfStep}
-use Rattle.qs_world_lawful.specs.Said.{HoldsSaid, IsAsRecorded, IsMadeBy, IsRecorded, IsUndone, SameContents}
-use Rattle.qs_world_lawful.specs.Worlds.{HoldsKept, IsLeftOpen, IsLoanOf, IsOpenStill}
+use Rattle.qs_world_lawful.specs.Said.{IsUndone}
 use Rattle.qs_world_lawful.proofs.AsideActs.{owners_keep}
 use Rattle.qs_world_lawful.proofs.AsideBook.{Goes, cell_away, ended_on, goes_on, new, owner_on, owner_same, stood_away}
 use Rattle.qs_world_lawful.proofs.AsideIssue.{SameRecords}
@@ -37,10 +19,7 @@ module _ (book : BookValue) (entry : Entry) (w : LastsWell book) (h : broken boo
 
   module _ (k : ℕ) (far : (entry.node.0 == k) ≡ false) (of_step : IsOfStep entry.act) where
     pub home_far : (tid : Tid) → tid.home.0 ≡ k → (tid.home.0 == entry.node.0) ≡ false
-    home_far tid home = ap (λ (n : ℕ). n == entry.node.0) home ∙ turned entry.node.0 k far
-      where
-        turned : (m n : ℕ) → (m == n) ≡ false → (n == m) ≡ false
-        turned m n e = grind (arith, nat_tests, e)
+    home_far tid home = ap (λ (n : ℕ). n == entry.node.0) home ∙ apart_turned entry.node.0 k far
 
     -- whatever stands stands
     pub stands_on : (tid : Tid) → is_some (find_transaction book tid) ≡ true → is_some (find_transaction after tid) ≡ true

@@ -1,29 +1,12 @@
 -- Each lawful entry that another node makes in a step leaves what a node that is down will find in its log as it restarts.
-use Rattle.std.proofs.Common.{◌≡◌, ◌⊎◌, inl, inr, ℕ, ◌==◌, ◌&&◌, ◌++◌, not, Bool, true, false, List, [], ◌∷◌, flat_map, Option, Some, None, fold, refl, sym, ap, subst, ◌∙◌, if◌then◌else◌}
-use Rattle.std.specs.Prelude.{slice_get}
-use Rattle.qs_base.specs.declared.identifiers.ClientNo.{ClientNo}
-use Rattle.qs_base.specs.declared.identifiers.Tid.{Tid}
-use Rattle.qs_book_journal.specs.declared.entry.Entry.{Entry}
-use Rattle.qs_book_journal.specs.declared.entry.Found.{Found}
-use Rattle.qs_book_laws.proofs.Maps.{changed_at_here}
-use Rattle.qs_book_machine.specs.Book.{BookValue, find_transaction, pending_in, ticks_at}
-use Rattle.qs_book_machine.specs.Clauses.{has_vote}
-use Rattle.qs_book_machine.specs.Lawful.{broken}
+use Rattle.qs_world_lawful.proofs.Words.{◌≡◌, ◌⊎◌, inl, inr, ℕ, ◌==◌, ◌&&◌, ◌++◌, not, Bool, true, false, List, [], ◌∷◌, flat_map, Option, Some, None, fold, refl, sym, ap, subst, ◌∙◌, if◌then◌else◌, slice_get, ClientNo, Tid, Entry, Found, changed_at_here, BookValue, find_transaction, pending_in, ticks_at, has_vote, broken, crossed_node, crossed_server, add_commit, commits_found, could_vote, has_record, is_among, is_new_vote, is_on_record, member_at, new_vote, new_votes, record_at, with_votes}
+use Rattle.qs_world_lawful.proofs.Words.{TransactionValue, begun, OnRecord, Voter, Part, applied, Op, Recovery, IsOfStep, found_votes, HoldsLeft, IsMadeBy, IsRecorded, IsToBeRecorded, book_found}
 use Rattle.qs_book_machine.specs.Nodes as machine
-use Rattle.qs_book_machine.specs.Nodes.{crossed_node, crossed_server}
-use Rattle.qs_book_machine.specs.Restart.{add_commit, changes_at, commits_found, could_vote, has_record, is_among, is_new_vote, is_on_record, member_at, new_vote, new_votes, record_at, with_votes}
-use Rattle.qs_book_machine.specs.Transaction.{TransactionValue, begun, part_of}
-use Rattle.qs_book_machine.specs.declared.state.OnRecord.{OnRecord}
-use Rattle.qs_book_machine.specs.declared.state.Voter.{Voter}
-use Rattle.qs_book_machine.specs.declared.transaction.Part.{Part}
+use Rattle.qs_book_machine.specs.Restart.{changes_at}
+use Rattle.qs_book_machine.specs.Transaction.{part_of}
 use Rattle.qs_ops.specs.Servers.{audit_no, files_no}
-use Rattle.qs_ops.specs.Table.{applied}
-use Rattle.qs_ops.specs.declared.operation.Op.{Op}
 use Rattle.qs_ops.specs.declared.vote.Vote.TheVariants as votes
-use Rattle.qs_restart.specs.Recovery.{Recovery}
-use Rattle.qs_world_lawful.specs.Aside.{IsOfStep}
-use Rattle.qs_world_lawful.specs.Logs.{found_votes}
-use Rattle.qs_world_lawful.specs.Said.{HoldsLeft, IsMadeBy, IsRecorded, IsToBeRecorded, IsUndone, book_found}
+use Rattle.qs_world_lawful.specs.Said.{IsUndone}
 use Rattle.qs_world_lawful.proofs.AsideBook.{goes_on, new, new_begins}
 use Rattle.qs_world_lawful.proofs.AsideKept.{recorded_on, undone_on}
 use Rattle.qs_world_lawful.proofs.AsideDown.{could_same, part_on, there_on}

@@ -1,31 +1,10 @@
 -- Each lawful entry that another node makes in a step leaves all that is held of a node that runs.
-use Rattle.std.proofs.Common.{◌≡◌, ◌⊎◌, inl, inr, ℕ, ◌==◌, Bool, true, false, List, [], ◌∷◌, Option, Some, None, refl, sym, ap, subst, ◌∙◌, arith, is_some, nat_lt}
-use Rattle.std.proofs.lemmas.Bool.Decides.{nat_tests}
-use Rattle.std.specs.Prelude.{slice_get}
-use Rattle.std.specs.Map.{lookup}
-use Rattle.std.specs.BTreeMap.{is_at}
-use Rattle.qs_base.specs.declared.identifiers.ClientNo.{ClientNo}
-use Rattle.qs_base.specs.declared.identifiers.NodeNo.{NodeNo}
-use Rattle.qs_base.specs.declared.identifiers.Tid.{Tid}
-use Rattle.qs_book_journal.specs.declared.entry.Act.{Act}
+use Rattle.qs_world_lawful.proofs.Words.{◌≡◌, ◌⊎◌, inl, inr, ℕ, ◌==◌, Bool, true, false, List, [], ◌∷◌, Option, Some, None, refl, sym, ap, subst, ◌∙◌, is_some, nat_lt, slice_get, lookup, is_at, ClientNo, NodeNo, Tid, Act, Entry, Delivery, same_number, ran_run, BookValue, find_transaction, ticks_at, broken, TransactionValue, begun, held, client_cmp, OpenCommand, Participant, IsAside, at_server, face_of, HoldsAt, HoldsClients, HoldsNode, HoldsStill, HoldsTid, IsBehind, StandsOnce, HoldsWaits}
+use Rattle.qs_world_lawful.proofs.Words.{HoldsWaitsAt, IsWithin, standing_ops, waiting_ops, apart_turned}
 use Rattle.qs_book_journal.specs.declared.entry.Act.TheVariants as acts
-use Rattle.qs_book_journal.specs.declared.entry.Entry.{Entry}
-use Rattle.qs_ipc.specs.declared.delivery.Delivery.{Delivery}
-use Rattle.qs_book_laws.proofs.Holding.{same_number}
-use Rattle.qs_book_laws.proofs.InRun.{ran_run}
-use Rattle.qs_book_machine.specs.Book.{BookValue, find_transaction, ticks_at}
-use Rattle.qs_book_machine.specs.Lawful.{broken}
 use Rattle.qs_book_machine.specs.Nodes as machine
-use Rattle.qs_book_machine.specs.Transaction.{TransactionValue, begun}
-use Rattle.qs_book_laws.proofs.Steps.{held}
-use Rattle.qs_node_step.specs.State.{NodeValue, client_cmp}
-use Rattle.qs_node_step.specs.declared.state.OpenCommand.{OpenCommand}
-use Rattle.qs_tm.specs.declared.participant.Participant.{Participant}
-use Rattle.qs_world_lawful.specs.Aside.{AnswersElsewhere, HoldsIssued, HoldsIssuedOf, IsAside}
-use Rattle.qs_world_lawful.specs.Face.{at_server, face_of}
-use Rattle.qs_world_lawful.specs.Holds.{HoldsAt, HoldsClients, HoldsNode, HoldsStill, HoldsTid, IsBehind}
-use Rattle.qs_world_lawful.specs.Lasting.{StandsOnce}
-use Rattle.qs_world_lawful.specs.Waits.{HoldsWaits, HoldsWaitsAt, IsWithin, standing_ops, waiting_ops}
+use Rattle.qs_node_step.specs.State.{NodeValue}
+use Rattle.qs_world_lawful.specs.Aside.{AnswersElsewhere, HoldsIssued, HoldsIssuedOf}
 use Rattle.qs_world_lawful.proofs.AsideActs.{IsAnsweredBy, owners_keep}
 use Rattle.qs_world_lawful.proofs.AsideBook.{Goes, ended_on, goes_on, new, new_begins, node_on, owner_back, owner_on, stood_away}
 use Rattle.qs_world_lawful.proofs.AsideIssue.{NodeOn}
@@ -53,10 +32,7 @@ module _ (book : BookValue) (entry : Entry) (w : LastsWell book) (h : broken boo
         by true is = absurd (aside.far (same_number entry.node.0 here.0 is))
 
     pub near : (here.0 == entry.node.0) ≡ false
-    near = turned entry.node.0 here.0 far
-      where
-        turned : (m n : ℕ) → (m == n) ≡ false → (n == m) ≡ false
-        turned m n e = grind (arith, nat_tests, e)
+    near = apart_turned entry.node.0 here.0 far
 
     pub home_far : (tid : Tid) → tid.home ≡ here → (tid.home.0 == entry.node.0) ≡ false
     home_far tid home = ap (λ (n : NodeNo). n.0 == entry.node.0) home ∙ near

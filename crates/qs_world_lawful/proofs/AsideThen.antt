@@ -1,20 +1,8 @@
 -- What a member could vote as its node stopped it could vote then whatever other nodes entered since.
-use Rattle.std.proofs.Common.{◌≡◌, ◌⊎◌, inl, inr, ℕ, ◌≤◌, ◌==◌, ◌&&◌, ◌||◌, not, Bool, true, false, List, Option, Some, None, refl, sym, ap, subst, ◌∙◌, arith, is_some, nat_lt}
-use Rattle.std.proofs.lemmas.Bool.Decides.{nat_tests}
-use Rattle.std.specs.Map.{lookup}
-use Rattle.std.specs.BTreeMap.{insert_entry, is_at}
-use Rattle.qs_base.specs.Order.{member_cmp}
-use Rattle.qs_base.specs.declared.identifiers.Member.{Member}
-use Rattle.qs_base.specs.declared.identifiers.Tid.{Tid}
-use Rattle.qs_book_journal.specs.declared.entry.Found.{Found}
-use Rattle.qs_book_laws.proofs.Maps.{lookup_put, lookup_put_apart}
+use Rattle.qs_world_lawful.proofs.Words.{◌≡◌, ◌⊎◌, inl, inr, ℕ, ◌≤◌, ◌==◌, ◌&&◌, ◌||◌, not, true, false, List, Option, Some, None, refl, sym, ap, subst, ◌∙◌, arith, is_some, nat_lt, nat_tests, lookup, insert_entry, is_at, member_cmp, Member, Tid, Found, lookup_put, lookup_put_apart, crossed_node, crossed_server, could_vote, member_at, TransactionValue, crossed_by, crossed_from, is_commit, is_open, standing_request, Cell, Request, and_false}
 use Rattle.qs_book_machine.specs.Nodes as machine
-use Rattle.qs_book_machine.specs.Nodes.{crossed_node, crossed_server}
-use Rattle.qs_book_machine.specs.Restart.{could_vote, member_at}
-use Rattle.qs_book_machine.specs.Transaction.{TransactionValue, crossed_by, crossed_from, is_before, is_commit, is_open, part_of, standing_request, was_committed, was_crossed}
-use Rattle.qs_book_machine.specs.declared.transaction.Cell.{Cell}
+use Rattle.qs_book_machine.specs.Transaction.{is_before, part_of, was_committed, was_crossed}
 use Rattle.qs_book_machine.specs.declared.transaction.Cell.TheVariants as cells
-use Rattle.qs_book_machine.specs.declared.transaction.Request.{Request}
 use Rattle.qs_world_lawful.proofs.AsideBook.{new}
 use Rattle.qs_world_lawful.proofs.AsideTid.{part_same, starts_same}
 use Rattle.qs_world_lawful.proofs.Keys.{KeyApart, member_exact, member_itself, same_key_or}
@@ -69,10 +57,6 @@ module _ (acting now place : ℕ) (k i : ℕ) (tid : Tid) (tx later : Transactio
       open_not cells.Open e = refl
       open_not cells.Commit e = absurd (cc e)
       open_not cells.Abort e = absurd (cc e)
-
-      and_false : (a : Bool) → (a && false) ≡ false
-      and_false true = refl
-      and_false false = refl
 
       late : later.decided ≡ Some place → was_committed stopped later ≡ false
       late at = subst (λ (o : Option ℕ). (is_commit later.cell && (not (is_some o) || is_before stopped o)) ≡ false) (sym at) (rw (no_more stopped place low) (and_false (is_commit later.cell)))

@@ -1,33 +1,14 @@
 -- What an entry of another node makes of a transaction leaves what is held of it at a node: what its members did, what it sent and what it
 -- learnt; more may wait for it, and a note that counts as served was issued.
-use Rattle.std.proofs.Common.{◌≡◌, ◌⊎◌, inl, inr, ℕ, ◌≤◌, ◌==◌, ◌||◌, not, Bool, true, false, List, [], ◌∷◌, ◌++◌, length, map, Some, None, refl, sym, ap, subst, ◌∙◌, arith, is_some, suc}
-use Rattle.std.proofs.lemmas.Bool.Decides.{nat_tests}
-use Rattle.std.specs.List.{filter, list_any}
-use Rattle.qs_base.specs.declared.identifiers.ClientNo.{ClientNo}
-use Rattle.qs_base.specs.declared.identifiers.NodeNo.{NodeNo}
-use Rattle.qs_base.specs.declared.identifiers.Outcome.{Outcome}
+use Rattle.qs_world_lawful.proofs.Words.{◌≡◌, ◌⊎◌, inl, inr, ℕ, ◌≤◌, ◌==◌, ◌||◌, not, Bool, true, false, List, [], ◌∷◌, ◌++◌, length, map, Some, None, refl, sym, ap, subst, ◌∙◌, is_some, suc, filter, list_any, ClientNo, NodeNo, Outcome, ServerNo, Tid, Delivery, TransactionValue, begun, has_note, is_commit, is_open, is_outcome, is_standing, is_start, learnt_abort, requests_at, sent_in, sent_on, Cell, Part, Request, RequestNo, client_no, ServersValue, awaits_note, begun_participant, has_noted}
+use Rattle.qs_world_lawful.proofs.Words.{member_of, MemberPart, has_issued, IsEmpty, at_server, is_held, part_in, HoldsHome, HoldsMember, HoldsTid, StandsOnce, HoldsWaits, IsWithin, op_in, waiting_ops, eqb-self, le_suc, or-true}
 use Rattle.qs_base.specs.declared.identifiers.Outcome.TheVariants as outcomes
-use Rattle.qs_base.specs.declared.identifiers.ServerNo.{ServerNo}
-use Rattle.qs_base.specs.declared.identifiers.Tid.{Tid}
-use Rattle.qs_ipc.specs.declared.delivery.Delivery.{Delivery}
 use Rattle.qs_book_machine.specs.Clauses.{note_text}
-use Rattle.qs_book_machine.specs.Transaction.{TransactionValue, begun, has_note, is_commit, is_open, is_outcome, is_standing, is_start, learnt_abort, part_of, requests_at, sent_in, sent_on}
-use Rattle.qs_book_machine.specs.declared.transaction.Cell.{Cell}
+use Rattle.qs_book_machine.specs.Transaction.{part_of}
 use Rattle.qs_book_machine.specs.declared.transaction.Cell.TheVariants as cells
-use Rattle.qs_book_machine.specs.declared.transaction.Part.{Part}
-use Rattle.qs_book_machine.specs.declared.transaction.Request.{Request}
-use Rattle.qs_book_machine.specs.declared.transaction.RequestNo.{RequestNo}
-use Rattle.qs_ops.specs.Servers.{client_no}
-use Rattle.qs_node_servers.specs.Servers.{ServersValue}
 use Rattle.qs_tm.specs.Members as rules
-use Rattle.qs_tm.specs.Participant.{awaits_note, begun_participant, has_noted, member_of}
-use Rattle.qs_tm.specs.declared.members.MemberPart.{MemberPart}
 use Rattle.qs_world_lawful.specs.Aside.{HoldsIssuedOf}
-use Rattle.qs_world_lawful.specs.Beside.{has_issued}
-use Rattle.qs_world_lawful.specs.Face.{Face, IsEmpty, at_server, is_held, part_in}
-use Rattle.qs_world_lawful.specs.Holds.{HoldsHome, HoldsMember, HoldsTid}
-use Rattle.qs_world_lawful.specs.Lasting.{StandsOnce}
-use Rattle.qs_world_lawful.specs.Waits.{HoldsWaits, IsWithin, op_in, waiting_ops}
+use Rattle.qs_world_lawful.specs.Face.{Face}
 use Rattle.qs_world_lawful.proofs.Begins.{begun_tid, new_member, new_peer}
 use Rattle.qs_world_lawful.proofs.Faces.{filter_last, filter_more}
 use Rattle.qs_world_lawful.proofs.Parts.{member_like}
@@ -64,12 +45,8 @@ module _ (acting now place : ℕ) (here : NodeNo) (i : ℕ) (tid : Tid) (tx late
   pub held_back : (face : Face) → is_held later face ≡ true → is_held tx face ≡ true
   held_back face h = by (is_commit tx.cell) refl
     where
-      or_true : (a : Bool) → (a || true) ≡ true
-      or_true true = refl
-      or_true false = refl
-
       by : (b : Bool) → is_commit tx.cell ≡ b → is_held tx face ≡ true
-      by false e = rw e (or_true (is_some face.known))
+      by false e = rw e (or-true (is_some face.known))
       by true e = ap (λ (c : Cell). is_some face.known || not (is_commit c)) (sym (t.decided (commit_not tx.cell e))) ∙ h
 
   shut : (o : Outcome) (c : Cell) → is_outcome o c ≡ true → is_open c ≡ false
@@ -87,9 +64,6 @@ module _ (acting now place : ℕ) (here : NodeNo) (i : ℕ) (tid : Tid) (tx late
 
   -- ---- what waits here stands
 
-  weaker : (a b : ℕ) → a ≤ b → a ≤ suc b
-  weaker a b h = grind (arith, h)
-
   length_more : (xs : List Request) (x : Request) → length (xs ++ x ∷ []) ≡ suc (length xs)
   length_more [] x = refl
   length_more (y ∷ ys) x = ap suc (length_more ys x)
@@ -98,10 +72,7 @@ module _ (acting now place : ℕ) (here : NodeNo) (i : ℕ) (tid : Tid) (tx late
   not_served at to s = cc (far, near)
     where
       near : (here.0 == acting) ≡ true
-      near = subst (λ (n : NodeNo). (n.0 == acting) ≡ true) (sym s.to ∙ to) (subst (λ (k : ℕ). (k == acting) ≡ true) (sym s.own) (itself acting))
-        where
-          itself : (n : ℕ) → (n == n) ≡ true
-          itself n = grind (arith, nat_tests)
+      near = subst (λ (n : NodeNo). (n.0 == acting) ≡ true) (sym s.to ∙ to) (subst (λ (k : ℕ). (k == acting) ≡ true) (sym s.own) (eqb-self acting))
 
   pub queued_on : (server : ServerNo) (at : RequestNo) → at.link.to ≡ here → (n : ℕ) → n ≤ length (filter (is_standing (at_server here server)) (requests_at tx at)) → n ≤ length (filter (is_standing (at_server here server)) (requests_at later at))
   queued_on server at to n h = by (at_number acting now place tx later t.requests at)
@@ -113,7 +84,7 @@ module _ (acting now place : ℕ) (here : NodeNo) (i : ℕ) (tid : Tid) (tx late
         where
           of : (b : Bool) → is_standing (at_server here server) m.request ≡ b → n ≤ length (filter (is_standing (at_server here server)) (requests_at tx at ++ m.request ∷ []))
           of false is = rw (filter_more (is_standing (at_server here server)) (requests_at tx at) m.request is) h
-          of true is = rw (filter_last (is_standing (at_server here server)) (requests_at tx at) m.request is, length_more (filter (is_standing (at_server here server)) (requests_at tx at)) m.request) (weaker n _ h)
+          of true is = rw (filter_last (is_standing (at_server here server)) (requests_at tx at) m.request is, length_more (filter (is_standing (at_server here server)) (requests_at tx at)) m.request) (le_suc n _ h)
 
   pub within_on : (server : ServerNo) (at : RequestNo) → at.link.to ≡ here → (ops : List _) → IsWithin ops (map op_in (filter (is_standing (at_server here server)) (requests_at tx at))) → IsWithin ops (map op_in (filter (is_standing (at_server here server)) (requests_at later at)))
   within_on server at to ops h = by (at_number acting now place tx later t.requests at)

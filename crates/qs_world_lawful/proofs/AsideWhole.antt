@@ -1,22 +1,9 @@
 -- The entries that a node makes in a step leave all that is held of every other node, whether it runs or not.
-use Rattle.std.proofs.Common.{◌≡◌, ◌⊎◌, ℕ, ◌==◌, ◌++◌, Bool, true, false, List, [], ◌∷◌, Some, None, refl, sym, ap, subst, ◌∙◌}
-use Rattle.std.specs.Prelude.{slice_get}
-use Rattle.qs_book_journal.specs.declared.entry.Entry.{Entry}
-use Rattle.qs_book_laws.proofs.Holding.{same_number}
-use Rattle.qs_book_laws.proofs.Steps.{after_both, lawful_front, lawful_rest}
-use Rattle.qs_book_machine.specs.Book.{BookValue}
-use Rattle.qs_book_machine.specs.Lawful.{IsLawful, book_after, broken, effect}
+use Rattle.qs_world_lawful.proofs.Words.{◌≡◌, ◌⊎◌, ℕ, ◌==◌, ◌++◌, Bool, true, false, List, [], ◌∷◌, Some, None, refl, sym, ap, subst, ◌∙◌, slice_get, Entry, same_number, after_both, lawful_front, lawful_rest, BookValue, IsLawful, book_after, broken, effect, opening, Prepared, recovery, Host, IsAside, IsMarked, StandsIn, Every, IsCommitLogged, IsCutVote, IsRecordKept, IsVoteLogged, HoldsLeft, HoldsDown, HoldsKept, HoldsNodeOf, HoldsUp}
 use Rattle.qs_book_machine.specs.Nodes as machine
-use Rattle.qs_book_machine.specs.Opening.{opening}
-use Rattle.qs_restart.specs.Recovery.{Prepared, recovery}
 use Rattle.qs_node_step.specs.State.{NodeValue}
-use Rattle.qs_world.specs.World.{Host}
-use Rattle.qs_world_lawful.specs.Aside.{IsAside, StaysUnanimous}
+use Rattle.qs_world_lawful.specs.Aside.{StaysUnanimous}
 use Rattle.qs_world_lawful.specs.AsideLaws.{EachKeepsOthers, HoldsAside}
-use Rattle.qs_world_lawful.specs.Logged.{IsMarked, StandsIn}
-use Rattle.qs_world_lawful.specs.Logs.{Every, IsCommitLogged, IsCutVote, IsRecordKept, IsVoteLogged}
-use Rattle.qs_world_lawful.specs.Said.{HoldsLeft}
-use Rattle.qs_world_lawful.specs.Worlds.{HoldsDown, HoldsKept, HoldsNodeOf, HoldsUp}
 use Rattle.qs_world_lawful.proofs.AsideBook.{node_on}
 use Rattle.qs_world_lawful.proofs.AsideDown.{record_on, there_on, vote_on}
 use Rattle.qs_world_lawful.proofs.AsideGoes.{commits_on, goes_aside}

@@ -1,23 +1,11 @@
 -- An AskVote comes from the node that another answers to: it is asked, and asks on. The rule as a whole.
-use Rattle.std.proofs.Common.{◌≡◌, ◌≢◌, ◌⊎◌, inl, inr, ℕ, Bool, true, false, Option, Some, None, refl, sym, ap, subst, ◌∙◌}
-use Rattle.std.specs.Prelude.{not, ◌&&◌, is_some, if◌then◌else◌}
-use Rattle.qs_base.specs.declared.identifiers.ClientNo.{ClientNo}
-use Rattle.qs_base.specs.declared.identifiers.NodeNo.{NodeNo}
-use Rattle.qs_base.specs.declared.identifiers.Tid.{Tid}
-use Rattle.qs_engage.specs.Engage.{is_node, uncovered}
-use Rattle.qs_engage.specs.Nodes.{listed}
-use Rattle.qs_book_machine.specs.Book.{BookValue, find_transaction}
-use Rattle.qs_book_machine.specs.Transaction.{TransactionValue}
+use Rattle.qs_world_lawful.proofs.Words.{◌≡◌, ◌≢◌, ◌⊎◌, inl, inr, ℕ, Bool, true, false, Option, Some, None, refl, sym, ap, subst, ◌∙◌, not, ◌&&◌, is_some, if◌then◌else◌, ClientNo, NodeNo, Tid, is_node, uncovered, listed, BookValue, find_transaction, TransactionValue, ask_came, asked_by, become_asked, Work, with_manager, Participant, HoldsWork, book_at, face_of, HoldsAt, HoldsTid, IsAsking, IsOwner}
 use Rattle.qs_packet.specs.declared.message.Message.TheVariants as messages
-use Rattle.qs_node_step.specs.Asking.{ask_came, asked_by, become_asked}
-use Rattle.qs_node_step.specs.State.{NodeValue, Work, with_manager}
+use Rattle.qs_node_step.specs.State.{NodeValue}
 use Rattle.qs_tm.specs.Manager as tm
 use Rattle.qs_tm.specs.Participant as participant
-use Rattle.qs_tm.specs.declared.participant.Participant.{Participant}
-use Rattle.qs_world_lawful.specs.Entering.{HoldsWork, book_at}
-use Rattle.qs_world_lawful.specs.Face.{Face, face_of}
+use Rattle.qs_world_lawful.specs.Face.{Face}
 use Rattle.qs_world_lawful.specs.GivenStep.{MayBeAsked}
-use Rattle.qs_world_lawful.specs.Holds.{HoldsAt, HoldsTid, IsAsking, IsOwner}
 use Rattle.qs_world_lawful.proofs.Apart.{Apart, same_or_apart}
 use Rattle.qs_world_lawful.proofs.Asking.{by_send_each}
 use Rattle.qs_world_lawful.proofs.Clauses.{of_tid}

@@ -1,28 +1,11 @@
 -- The owner asks for commit: the rule as a whole.
-use Rattle.std.proofs.Common.{◌≡◌, ◌⊎◌, inl, inr, ℕ, Bool, true, false, List, [], ◌∷◌, ◌++◌, Option, Some, None, refl, sym, ap, subst, ◌∙◌}
-use Rattle.std.specs.Prelude.{if◌then◌else◌}
-use Rattle.qs_base.specs.declared.identifiers.ClientNo.{ClientNo}
-use Rattle.qs_base.specs.declared.identifiers.Member.{Member}
-use Rattle.qs_base.specs.declared.identifiers.NodeNo.{NodeNo}
-use Rattle.qs_base.specs.declared.identifiers.Tid.{Tid}
-use Rattle.qs_engage.specs.Engage.{uncovered}
-use Rattle.qs_engage.specs.Nodes.{listed}
+use Rattle.qs_world_lawful.proofs.Words.{◌≡◌, ◌⊎◌, inl, inr, ℕ, Bool, true, false, List, [], ◌∷◌, ◌++◌, Option, Some, None, refl, sym, ap, subst, ◌∙◌, if◌then◌else◌, ClientNo, Member, NodeNo, Tid, uncovered, listed, TransactionValue, asked_at, BookValue, find_transaction, Message, MemberPart, Participant, become_asked, send, send_each, is_other, enter_ask, ask, Work, with_manager, face_of, Holds, HoldsTid, HoldsHome, HoldsMember, HoldsClients, IsOwner, IsAsking, HoldsWork, book_at, some_same}
 use Rattle.qs_book_journal.specs.declared.entry.Act.TheVariants as acts
-use Rattle.qs_book_machine.specs.Transaction.{TransactionValue, asked_at}
-use Rattle.qs_book_machine.specs.Book.{BookValue, find_transaction}
-use Rattle.qs_packet.specs.declared.message.Message.{Message}
 use Rattle.qs_packet.specs.declared.message.Message.TheVariants as messages
 use Rattle.qs_tm.specs.Manager as tm
 use Rattle.qs_tm.specs.Participant as participant
-use Rattle.qs_tm.specs.declared.members.MemberPart.{MemberPart}
-use Rattle.qs_tm.specs.declared.participant.Participant.{Participant}
-use Rattle.qs_node_step.specs.Asking.{become_asked}
-use Rattle.qs_node_step.specs.Bringing.{send, send_each, is_other}
-use Rattle.qs_node_step.specs.Commands.{enter_ask, ask}
-use Rattle.qs_node_step.specs.State.{Work, NodeValue, with_manager}
-use Rattle.qs_world_lawful.specs.Face.{Face, face_of}
-use Rattle.qs_world_lawful.specs.Holds.{Holds, HoldsTid, HoldsHome, HoldsMember, HoldsClients, IsOwner, IsAsking}
-use Rattle.qs_world_lawful.specs.Entering.{HoldsWork, book_at}
+use Rattle.qs_node_step.specs.State.{NodeValue}
+use Rattle.qs_world_lawful.specs.Face.{Face}
 use Rattle.qs_world_lawful.proofs.Apart.{Apart, same_or_apart}
 use Rattle.qs_world_lawful.proofs.Faces.{part_apart, part_changed}
 use Rattle.qs_world_lawful.proofs.Frames.{SameFace, SameClients, clients_with, asking_on, KeepsSeen}
@@ -87,14 +70,11 @@ asked_tid place here inc tid tx face part h = record {
   home = λ at in_inc. asked_home (h.home at in_inc);
 }
   where
-    same_some : {X : Type 0} {x y : X} → Some x ≡ Some y → x ≡ y
-    same_some e = cc e
-
     asked_home : HoldsHome tx (Some part) → HoldsHome (asked_at place tx) (Some (participant.ask part))
     asked_home k = record {
       runs = λ still. refl;
-      undecided = λ p same unknown. k.undecided part refl (ap (λ q. q.outcome) (same_some same) ∙ unknown);
-      asked = λ p same still. ap (λ q. q.asked) (same_some same);
+      undecided = λ p same unknown. k.undecided part refl (ap (λ q. q.outcome) (some_same same) ∙ unknown);
+      asked = λ p same still. ap (λ q. q.asked) (some_same same);
     }
 
 module _ (stamp : ℕ) (before : BookValue) (work : Work) (tid : Tid) (part : Participant) (tx : TransactionValue) (h : HoldsWork stamp before work)
@@ -129,13 +109,10 @@ module _ (stamp : ℕ) (before : BookValue) (work : Work) (tid : Tid) (part : Pa
         kept : SameClients work.node asked_node
         kept = record { commands = refl; labels = refl; outcomes = refl }
 
-        same_tx : {X : Type 0} {x y : X} → Some x ≡ Some y → x ≡ y
-        same_tx e = cc e
-
         asking_at : (t : Tid) (client : ClientNo) (p : Participant) → t.home ≡ work.node.setting.node → tm.part_of t asked_node.manager ≡ Some p → p.outcome ≡ None → p.asked ≡ true → IsOwner book t client → (tid ≡ t) ⊎ Apart tid t → IsAsking asked_node t client
         asking_at t client p at is unknown asked owns (inl same) =
             subst (λ (u : Tid). IsAsking asked_node u client) same
-            (asking_on work.node asked_node kept tid client (waits client (ap (λ (x : TransactionValue). x.owner) (same_tx (sym found ∙ subst (λ (u : Tid). find_transaction book u ≡ Some owns.tx) (sym same) owns.found)) ∙ owns.owns)))
+            (asking_on work.node asked_node kept tid client (waits client (ap (λ (x : TransactionValue). x.owner) (some_same (sym found ∙ subst (λ (u : Tid). find_transaction book u ≡ Some owns.tx) (sym same) owns.found)) ∙ owns.owns)))
         asking_at t client p at is unknown asked owns (inr far) = asking_on work.node asked_node kept t client (h.holds.clients.asking t client p at (sym (part_apart tid t participant.ask work.node.manager far) ∙ is) unknown asked owns)
 
     -- from what holds before the rule its entry is lawful, and what holds before holds after it

@@ -1,25 +1,9 @@
 -- What a node keeps of a transaction beside its members, its outcome and its numbers: nothing is held of that.
-use Rattle.std.proofs.Common.{◌≡◌, ◌⊎◌, ℕ, true, false, [], Option, Some, None, refl, sym, ap, subst, ◌∙◌, length}
-use Rattle.std.specs.Option.{option_map}
-use Rattle.std.specs.BTreeMap.{is_at}
-use Rattle.qs_base.specs.Order.{tid_cmp}
-use Rattle.qs_base.specs.declared.identifiers.NodeNo.{NodeNo}
-use Rattle.qs_base.specs.declared.identifiers.Tid.{Tid}
+use Rattle.qs_world_lawful.proofs.Words.{◌≡◌, ◌⊎◌, ℕ, true, false, [], Option, Some, None, refl, sym, ap, subst, ◌∙◌, length, option_map, is_at, tid_cmp, NodeNo, Tid, changed_alike, TransactionValue, BookValue, find_transaction, Record, Manager, Participant, log, log_if, tid_of, Work, with_manager, peer_of, member_of, has_noted, awaits_note, face_of, at_server, Holds, HoldsHome, HoldsMember, HoldsTid, HoldsAt, HoldsWork, book_at, some_same}
 use Rattle.qs_engage.specs.Nodes.{no_nodes}
-use Rattle.qs_book_laws.proofs.Maps.{changed_alike}
-use Rattle.qs_book_machine.specs.Transaction.{TransactionValue}
-use Rattle.qs_book_machine.specs.Book.{BookValue, find_transaction}
-use Rattle.qs_record.specs.declared.record.Record.{Record}
 use Rattle.qs_tm.specs.Manager as tm
-use Rattle.qs_tm.specs.declared.manager.Manager.{Manager}
-use Rattle.qs_tm.specs.declared.participant.Participant.{Participant}
-use Rattle.qs_node_step.specs.Bringing.{log, log_if, tid_of}
-use Rattle.qs_node_step.specs.State.{Work, NodeValue, with_manager}
-use Rattle.qs_engage.specs.Engage.{peer_of}
-use Rattle.qs_tm.specs.Participant.{member_of, has_noted, awaits_note}
-use Rattle.qs_world_lawful.specs.Face.{Face, face_of, at_server}
-use Rattle.qs_world_lawful.specs.Holds.{Holds, HoldsHome, HoldsMember, HoldsTid, HoldsAt}
-use Rattle.qs_world_lawful.specs.Entering.{HoldsWork, book_at}
+use Rattle.qs_node_step.specs.State.{NodeValue}
+use Rattle.qs_world_lawful.specs.Face.{Face}
 use Rattle.qs_world_lawful.proofs.Frames.{told_of, held_on, clients_on}
 use Rattle.qs_world_lawful.proofs.Growing.{kept_on}
 
@@ -40,14 +24,11 @@ bare part = record part {
 abbrev with_known : Face → Option Participant → Face
 with_known face known = record face { known = known }
 
-of_some : {X : Type 0} {x y : X} → Some x ≡ Some y → x ≡ y
-of_some e = cc e
-
 home_bare : (tx : TransactionValue) (part other : Participant) → bare other ≡ bare part → HoldsHome tx (Some part) → HoldsHome tx (Some other)
 home_bare tx part other same h = record {
   runs = λ is. refl;
-  undecided = λ p is unknown. h.undecided part refl (sym (ap (λ (q : Participant). q.outcome) same) ∙ (ap (λ (q : Participant). q.outcome) (of_some is) ∙ unknown));
-  asked = λ p is still. h.asked part refl still ∙ (sym (ap (λ (q : Participant). q.asked) same) ∙ ap (λ (q : Participant). q.asked) (of_some is));
+  undecided = λ p is unknown. h.undecided part refl (sym (ap (λ (q : Participant). q.outcome) same) ∙ (ap (λ (q : Participant). q.outcome) (some_same is) ∙ unknown));
+  asked = λ p is still. h.asked part refl still ∙ (sym (ap (λ (q : Participant). q.asked) same) ∙ ap (λ (q : Participant). q.asked) (some_same is));
 }
 
 tid_bare : (here : NodeNo) (inc : ℕ) (tid : Tid) (tx : TransactionValue) (face : Face) (part other : Participant) → bare other ≡ bare part → HoldsTid here inc tid tx (with_known face (Some part)) → HoldsTid here inc tid tx (with_known face (Some other))
@@ -75,13 +56,13 @@ at_bare here inc tid None face (Some x) (Some y) same h = absurd (nothing h.know
   where
     nothing : Some x ≡ None → ⊥
     nothing e = cc e
-at_bare here inc tid (Some tx) face (Some x) (Some y) same h = tid_bare here inc tid tx face x y (of_some same) h
+at_bare here inc tid (Some tx) face (Some x) (Some y) same h = tid_bare here inc tid tx face x y (some_same same) h
 
 told_bare : (known other : Option Participant) → option_map bare other ≡ option_map bare known → option_map told_of other ≡ option_map told_of known
 told_bare None None same = refl
 told_bare None (Some y) same = absurd (cc same)
 told_bare (Some x) None same = absurd (cc same)
-told_bare (Some x) (Some y) same = ap (λ (q : Participant). Some (told_of q)) (of_some same)
+told_bare (Some x) (Some y) same = ap (λ (q : Participant). Some (told_of q)) (some_same same)
 
 -- the manager keeps the same of each transaction but for that
 pub record SameManager (manager new : Manager) : Type 0 where

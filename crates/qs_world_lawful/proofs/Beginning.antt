@@ -1,52 +1,27 @@
 -- The rule by which a client begins a transaction, but for its answer.
-use Rattle.std.proofs.Common.{◌≡◌, ◌⊎◌, inl, inr, ℕ, ◌+◌, ◌≤◌, ◌<◌, true, false, List, [], Option, Some, None, refl, sym, ap, subst, ◌∙◌, arith}
-use Rattle.std.specs.Prelude.{slice_get, is_some}
-use Rattle.std.specs.List.{find}
-use Rattle.std.specs.BTreeMap.{is_at}
-use Rattle.qs_base.specs.Order.{tid_cmp}
-use Rattle.qs_base.specs.declared.identifiers.ClientNo.{ClientNo}
-use Rattle.qs_base.specs.declared.identifiers.NodeNo.{NodeNo}
-use Rattle.qs_base.specs.declared.identifiers.Tid.{Tid}
-use Rattle.qs_base.proofs.TidOrder.{tid_exact}
-use Rattle.qs_book_laws.proofs.Alikes.{tid_itself}
-use Rattle.qs_book_laws.proofs.Maps.{lookup_put, lookup_put_apart, changed_at_here}
+use Rattle.qs_world_lawful.proofs.Words.{◌≡◌, ◌⊎◌, inl, inr, ℕ, ◌+◌, ◌≤◌, ◌<◌, true, List, [], Option, Some, None, refl, sym, ap, subst, ◌∙◌, arith, le_refl, true≢false, slice_get, is_some, find, is_at, tid_cmp, ClientNo, NodeNo, Tid, tid_exact, tid_itself, lookup_put, lookup_put_apart, changed_at_here, TransactionValue, begun, BookValue, find_transaction, ticks_at, is_fresh, begun_participant, Participant, Begun, Decided, enter, put_label, label_at, has_label, Work, with_manager, face_of, IsEmpty}
+use Rattle.qs_world_lawful.proofs.Words.{Holds, HoldsTid, HoldsAt, HoldsClients, IsOwner, IsAsking, HasEnded, HoldsWork, book_at, HoldsServers, Delivery, share_of, is_seen, seen_in, HoldsWaits, HoldsWaitsAt, IsWithin, waiting_ops, is_idle, some_same, false≢true}
 use Rattle.qs_book_journal.specs.declared.entry.Act.TheVariants as acts
-use Rattle.qs_book_machine.specs.Transaction.{TransactionValue, begun}
-use Rattle.qs_book_machine.specs.Book.{BookValue, find_transaction, ticks_at}
-use Rattle.qs_book_machine.specs.Clauses.{is_fresh}
 use Rattle.qs_book_machine.specs.Nodes as machine
 use Rattle.qs_tm.specs.Manager as tm
-use Rattle.qs_tm.specs.Participant.{begun_participant}
-use Rattle.qs_tm.specs.declared.participant.Participant.{Participant}
-use Rattle.qs_node_kept.specs.declared.kept.KeptLabel.{KeptLabel}
-use Rattle.qs_node_kept.specs.declared.kept.Decided.{Decided}
-use Rattle.qs_node_step.specs.Bringing.{enter}
-use Rattle.qs_node_step.specs.Serving.{put_label, label_at}
-use Rattle.qs_node_kept.specs.Keeping.{has_label}
-use Rattle.qs_node_step.specs.State.{Work, NodeValue, with_manager}
-use Rattle.qs_world_lawful.specs.Face.{face_of, IsEmpty}
-use Rattle.qs_world_lawful.specs.Holds.{Holds, HoldsTid, HoldsAt, HoldsClients, HasBegun, IsOwner, IsAsking, HasEnded}
-use Rattle.qs_world_lawful.specs.Entering.{HoldsWork, book_at}
-use Rattle.qs_world_lawful.specs.Tables.{HoldsServers}
+use Rattle.qs_node_step.specs.State.{NodeValue}
+use Rattle.qs_world_lawful.specs.Holds.{HasBegun}
 use Rattle.qs_world_lawful.proofs.Apart.{Apart, same_or_apart}
 use Rattle.qs_world_lawful.proofs.Clauses.{may_begin}
 use Rattle.qs_world_lawful.proofs.Faces.{put_apart}
 use Rattle.qs_world_lawful.proofs.Frames.{SameFace, at_each}
 use Rattle.qs_world_lawful.proofs.Growing.{entered, book_with}
 use Rattle.qs_world_lawful.proofs.Steps.{next_again, changed_length}
-use Rattle.qs_ipc.specs.declared.delivery.Delivery.{Delivery}
-use Rattle.qs_ops.specs.Table.{share_of}
-use Rattle.qs_world_lawful.specs.Tables.{is_seen, seen_in}
-use Rattle.qs_world_lawful.specs.Waits.{HoldsWaits, HoldsWaitsAt, IsWithin, waiting_ops, is_idle}
 use Rattle.qs_world_lawful.proofs.Alike.{other_state}
 use Rattle.qs_world_lawful.proofs.CrossedTables.{servers_alike}
 use Rattle.qs_world_lawful.proofs.Begins.{begun_tid, label_stays, label_more}
+use Rattle.qs_base_lemmas.proofs.Tests.{le_one_more}
 
 module _ (stamp : ℕ) (before : BookValue) (work : Work) (label : List ℕ) (client : ClientNo) (h : HoldsWork stamp before work) (fresh : is_fresh (book_at stamp before work).labels label ≡ true) where
   abbrev tid : Tid
   tid = tm.next_tid work.node.manager
 
-  abbrev entry_label : KeptLabel
+  abbrev entry_label : Begun
   entry_label = record { label = label; tid = Some tid; owner = Some client }
 
   -- the work with the transaction begun
@@ -121,33 +96,24 @@ module _ (stamp : ℕ) (before : BookValue) (work : Work) (label : List ℕ) (cl
   begun_on : (t : Tid) → t.home ≡ here → is_some (find_transaction new_book t) ≡ true → HasBegun node.setting.inc (node.manager.begun + 1) t
   begun_on t home is = by (same_or_apart tid t)
     where
-      itself : (n : ℕ) → n ≤ n
-      itself n = grind arith
-
-      more : (a b : ℕ) → a ≤ b → a ≤ b + 1
-      more a b e = grind (arith, e)
-
       weaker : HasBegun node.setting.inc node.manager.begun t → HasBegun node.setting.inc (node.manager.begun + 1) t
       weaker (inl less) = inl less
-      weaker (inr k) = inr (k.0, more t.seq node.manager.begun k.1)
+      weaker (inr k) = inr (k.0, le_one_more t.seq node.manager.begun k.1)
 
       by : (tid ≡ t) ⊎ Apart tid t → HasBegun node.setting.inc (node.manager.begun + 1) t
-      by (inl same) = subst (λ (u : Tid). HasBegun node.setting.inc (node.manager.begun + 1) u) same (inr (h.holds.same.in_inc, itself (node.manager.begun + 1)))
+      by (inl same) = subst (λ (u : Tid). HasBegun node.setting.inc (node.manager.begun + 1) u) same (inr (h.holds.same.in_inc, le_refl (node.manager.begun + 1)))
       by (inr far) = weaker (h.holds.begun t home (sym (ap is_some (found_apart t far)) ∙ is))
 
   owner_on : (t : Tid) (c : ClientNo) → IsOwner book t c → IsOwner new_book t c
   owner_on t c o = record { tx = o.tx; found = found_on t o.tx o.found; owns = o.owns }
 
-  labels_on : (l : List ℕ) (b : KeptLabel) (t : Tid) (c : ClientNo) → label_at l new ≡ Some b → b.tid ≡ Some t → b.owner ≡ Some c → IsOwner new_book t c
+  labels_on : (l : List ℕ) (b : Begun) (t : Tid) (c : ClientNo) → label_at l new ≡ Some b → b.tid ≡ Some t → b.owner ≡ Some c → IsOwner new_book t c
   labels_on l b t c is of owned = by (label_more l entry_label node.kept.now.labels b is)
     where
-      of_some : {X : Type 0} {x y : X} → Some x ≡ Some y → x ≡ y
-      of_some e = cc e
-
       mine : entry_label ≡ b → IsOwner new_book t c
       mine same =
-          subst (λ (u : Tid). IsOwner new_book u c) (of_some (ap (λ (x : KeptLabel). x.tid) same ∙ of))
-          (record { tx = tx; found = found_here; owns = ap (λ (x : KeptLabel). x.owner) same ∙ owned })
+          subst (λ (u : Tid). IsOwner new_book u c) (some_same (ap (λ (x : Begun). x.tid) same ∙ of))
+          (record { tx = tx; found = found_here; owns = ap (λ (x : Begun). x.owner) same ∙ owned })
 
       by : (find (has_label l) node.kept.now.labels ≡ Some b) ⊎ (entry_label ≡ b) → IsOwner new_book t c
       by (inl was) = owner_on t c (h.holds.clients.labels l b t c was of owned)
@@ -159,12 +125,6 @@ module _ (stamp : ℕ) (before : BookValue) (work : Work) (label : List ℕ) (cl
   asking_on : (t : Tid) (c : ClientNo) (part : Participant) → t.home ≡ here → tm.part_of t new.manager ≡ Some part → part.outcome ≡ None → part.asked ≡ true → IsOwner new_book t c → IsAsking new t c
   asking_on t c part at is undecided asked owns = by (same_or_apart tid t)
     where
-      of_some : {X : Type 0} {x y : X} → Some x ≡ Some y → x ≡ y
-      of_some e = cc e
-
-      not_asked : false ≡ true → ⊥
-      not_asked e = cc e
-
       on : IsAsking node t c → IsAsking new t c
       on a = record {
         command = a.command;
@@ -181,7 +141,7 @@ module _ (stamp : ℕ) (before : BookValue) (work : Work) (label : List ℕ) (cl
       by (inl same) =
           let it : Some (begun_participant client node.manager.ticks) ≡ Some part =
           sym (lookup_put tid_cmp tid (begun_participant client node.manager.ticks) (tid_itself tid) node.manager.known) ∙ subst (λ (u : Tid). tm.part_of u new.manager ≡ Some part) (sym same) is in
-          absurd (not_asked (ap (λ (p : Participant). p.asked) (of_some it) ∙ asked))
+          absurd (false≢true (ap (λ (p : Participant). p.asked) (some_same it) ∙ asked))
       by (inr far) = on (h.holds.clients.asking t c part at (sym (faces t far).known ∙ is) undecided asked (record { tx = owns.tx; found = sym (found_apart t far) ∙ owns.found; owns = owns.owns }))
 
   clients : HoldsClients new_book new
@@ -203,9 +163,6 @@ module _ (stamp : ℕ) (before : BookValue) (work : Work) (label : List ℕ) (cl
   waits_on : (t : Tid) → HoldsWaitsAt here node.setting.inc t (find_transaction new_book t) (face_of new t).waiting new.servers
   waits_on t = by (same_or_apart tid t)
     where
-      clash : true ≡ false → ⊥
-      clash e = cc e
-
       idle : is_idle (share_of node.servers.files.table tid) ≡ true
       idle = subst (λ (o : Option TransactionValue). HoldsWaitsAt here node.setting.inc tid o (face_of node tid).waiting node.servers) unknown (h.holds.waits tid)
 
@@ -214,8 +171,8 @@ module _ (stamp : ℕ) (before : BookValue) (work : Work) (label : List ℕ) (cl
 
       own_waits : HoldsWaits here node.setting.inc tid tx (face_of node tid).waiting node.servers
       own_waits = record {
-        whole = λ is. absurd (clash (sym is));
-        due = λ busy. absurd (clash (sym idle ∙ busy));
+        whole = λ is. absurd (true≢false (sym is));
+        due = λ busy. absurd (true≢false (sym idle ∙ busy));
         within = λ server at near. subst (λ (ds : List Delivery). IsWithin (waiting_ops at ds) []) (sym (none.waiting server)) tt;
         once = λ server at is. nothing;
         fits = λ server at near. tt;

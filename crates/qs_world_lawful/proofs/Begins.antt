@@ -1,25 +1,8 @@
 -- A transaction begins: the rule as a whole, but for its answer.
-use Rattle.std.proofs.Common.{◌≡◌, ◌⊎◌, inl, inr, ℕ, ◌≤◌, Bool, true, false, List, [], ◌∷◌, ◌++◌, Some, None, zero, suc, refl, sym, ap, subst, arith, length}
-use Rattle.std.specs.Prelude.{replicate, slice_index_or, if◌then◌else◌}
-use Rattle.std.specs.List.{find, filter}
-use Rattle.qs_base.specs.declared.identifiers.Class.{Class}
+use Rattle.qs_world_lawful.proofs.Words.{◌≡◌, ◌⊎◌, inl, inr, ℕ, Bool, true, false, List, [], ◌∷◌, ◌++◌, Some, None, zero, suc, refl, sym, ap, subst, arith, length, replicate, slice_index_or, if◌then◌else◌, find, filter, Class, ClientNo, Member, NodeNo, ServerNo, Tid, class_of, begun, no_peer, peer_of, new_engage, new_participant, begun_participant, member_of, MemberPart, Participant, Begun, has_label, is_loan_here, is_given_back, IsEmpty, HoldsMember, HoldsTid, some_same, zero_le}
 use Rattle.qs_base.specs.declared.identifiers.Class.TheVariants as classes
-use Rattle.qs_base.specs.declared.identifiers.ClientNo.{ClientNo}
-use Rattle.qs_base.specs.declared.identifiers.Member.{Member}
-use Rattle.qs_base.specs.declared.identifiers.NodeNo.{NodeNo}
-use Rattle.qs_base.specs.declared.identifiers.ServerNo.{ServerNo}
-use Rattle.qs_base.specs.declared.identifiers.Tid.{Tid}
-use Rattle.qs_ops.specs.Members.{class_of}
-use Rattle.qs_book_machine.specs.Transaction.{begun}
-use Rattle.qs_engage.specs.Engage.{no_peer, peer_of, new_engage}
 use Rattle.qs_tm.specs.Members as rules
-use Rattle.qs_tm.specs.Participant.{new_participant, begun_participant, member_of}
-use Rattle.qs_tm.specs.declared.members.MemberPart.{MemberPart}
-use Rattle.qs_tm.specs.declared.participant.Participant.{Participant}
-use Rattle.qs_node_kept.specs.declared.kept.KeptLabel.{KeptLabel}
-use Rattle.qs_node_kept.specs.Keeping.{has_label}
-use Rattle.qs_world_lawful.specs.Face.{Face, is_loan_here, is_given_back, IsEmpty}
-use Rattle.qs_world_lawful.specs.Holds.{HoldsMember, HoldsTid}
+use Rattle.qs_world_lawful.specs.Face.{Face}
 
 -- ---- a transaction of which nothing was done yet
 
@@ -51,9 +34,6 @@ none_served label client ticks member inc = record {
   ends = λ is. refl;
 }
 
-nothing_less : (n : ℕ) → 0 ≤ n
-nothing_less n = grind arith
-
 pub begun_tid : (here : NodeNo) (inc : ℕ) (tid : Tid) (label : List ℕ) (client : ClientNo) (ticks own_ticks : ℕ) (face : Face) → IsEmpty face
     → HoldsTid here inc tid (begun label client ticks) (record face { known = Some (begun_participant client own_ticks) })
 begun_tid here inc tid label client ticks own_ticks face none = record {
@@ -66,22 +46,19 @@ begun_tid here inc tid label client ticks own_ticks face none = record {
   sent = λ held peer far. sym (ap (λ p. p.sent) (new_peer true peer));
   pending = sym none.changes;
   noted = λ held count some is. absurd (cc is);
-  queued = λ server at near. rw (none.waiting server) (nothing_less _);
+  queued = λ server at near. rw (none.waiting server) (zero_le _);
   made = λ c small. sym (ap (λ ls. length (filter (is_loan_here c inc) ls)) none.loans);
   yielded = λ c small. sym (ap (λ ls. length (filter (is_given_back c inc) ls)) none.loans);
   home = λ at in_inc. record { runs = λ is. refl; undecided = λ part is unknown. refl; asked = λ part same is. asked_as part same };
 }
   where
     asked_as : (part : Participant) → Some (begun_participant client own_ticks) ≡ Some part → false ≡ part.asked
-    asked_as part same = ap (λ (p : Participant). p.asked) (of_some same)
-      where
-        of_some : {X : Type 0} {x y : X} → Some x ≡ Some y → x ≡ y
-        of_some e = cc e
+    asked_as part same = ap (λ (p : Participant). p.asked) (some_same same)
 
 -- ---- labels
 
 -- a label that is found is found with one more
-pub label_stays : (label : List ℕ) (b : KeptLabel) (labels : List KeptLabel) (was : KeptLabel) → find (has_label label) labels ≡ Some was → find (has_label label) (labels ++ b ∷ []) ≡ Some was
+pub label_stays : (label : List ℕ) (b : Begun) (labels : List Begun) (was : Begun) → find (has_label label) labels ≡ Some was → find (has_label label) (labels ++ b ∷ []) ≡ Some was
 label_stays label b [] was is = absurd (cc is)
 label_stays label b (x ∷ labels) was is = by (has_label label x) refl (label_stays label b labels was)
   where
@@ -90,14 +67,11 @@ label_stays label b (x ∷ labels) was is = by (has_label label x) refl (label_s
     by false so more = rw so (more (rw so at is))
 
 -- and what is found with one more was there, or is that one
-pub label_more : (label : List ℕ) (b : KeptLabel) (labels : List KeptLabel) (now : KeptLabel) → find (has_label label) (labels ++ b ∷ []) ≡ Some now → (find (has_label label) labels ≡ Some now) ⊎ (b ≡ now)
+pub label_more : (label : List ℕ) (b : Begun) (labels : List Begun) (now : Begun) → find (has_label label) (labels ++ b ∷ []) ≡ Some now → (find (has_label label) labels ≡ Some now) ⊎ (b ≡ now)
 label_more label b [] now is = by (has_label label b) is
   where
-    of_some : {X : Type 0} {x y : X} → Some x ≡ Some y → x ≡ y
-    of_some e = cc e
-
     by : (t : Bool) → (if t then Some b else None) ≡ Some now → (None ≡ Some now) ⊎ (b ≡ now)
-    by true e = inr (of_some e)
+    by true e = inr (some_same e)
     by false e = absurd (cc e)
 label_more label b (x ∷ labels) now is = by (has_label label x) refl (label_more label b labels now)
   where

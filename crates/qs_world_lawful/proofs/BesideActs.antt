@@ -1,31 +1,12 @@
 -- What an entry of a node leaves of each transaction, of the node and of owners, as far as the machine has it beside the node.
-use Rattle.std.proofs.Common.{◌≡◌, ◌≢◌, inl, inr, ℕ, true, List, [], ◌∷◌, Option, Some, None, refl, sym, ap, subst, ◌∙◌, fold}
-use Rattle.std.specs.BTreeMap.{is_at}
-use Rattle.std.specs.Map.{lookup, set_value}
-use Rattle.std.specs.Option.{option_map}
-use Rattle.std.specs.Prelude.{◌&&◌, is_none, is_some, slice_get, unwrap_or}
-use Rattle.qs_base.proofs.TidOrder.{tid_exact}
-use Rattle.qs_base.specs.Order.{tid_cmp}
-use Rattle.qs_base.specs.declared.identifiers.ClientNo.{ClientNo}
-use Rattle.qs_base.specs.declared.identifiers.Member.{Member}
-use Rattle.qs_base.specs.declared.identifiers.NodeNo.{NodeNo}
-use Rattle.qs_base.specs.declared.identifiers.ServerNo.{ServerNo}
-use Rattle.qs_base.specs.declared.identifiers.Tid.{Tid}
+use Rattle.qs_world_lawful.proofs.Words.{◌≡◌, ◌≢◌, inl, inr, ℕ, true, List, [], ◌∷◌, Option, Some, None, refl, sym, ap, subst, ◌∙◌, fold, is_at, lookup, set_value, option_map, ◌&&◌, is_none, is_some, slice_get, unwrap_or, tid_exact, tid_cmp, ClientNo, Member, NodeNo, ServerNo, Tid, BookValue, begin, end_node, find_transaction, give_back_from, hear, inc_at, loan_to, waiting_of, with_owner, with_transaction, has_no_record, TransactionValue, asked_at, changed_value, ended_part, lent, life, life_cmp}
+use Rattle.qs_world_lawful.proofs.Words.{made_part, no_part, yielded_part, OnRecord, Owner, Voter, Life, Part, Age, Alike, age, face, Either, changed_either, lookup_put_apart, HasOwner, at_server}
 use Rattle.qs_ops.specs.Servers.{audit_no, extra_no, files_no}
-use Rattle.qs_book_machine.specs.Book.{BookValue, answer, begin, count, end, end_node, find_transaction, give_back_from, hear, inc_at, loan_to, waiting_of, with_node, with_owner, with_transaction}
-use Rattle.qs_book_machine.specs.Clauses.{has_no_record}
+use Rattle.qs_book_machine.specs.Book.{answer, count, end, with_node}
 use Rattle.qs_book_machine.specs.Nodes as machine
-use Rattle.qs_book_machine.specs.Transaction.{TransactionValue, asked_at, changed_value, ended, ended_part, given_back, lent, life, life_cmp, made_part, no_part, part_of, yielded_part}
-use Rattle.qs_book_machine.specs.declared.state.OnRecord.{OnRecord}
-use Rattle.qs_book_machine.specs.declared.state.Owner.{Owner}
-use Rattle.qs_book_machine.specs.declared.state.Voter.{Voter}
-use Rattle.qs_book_machine.specs.declared.transaction.Life.{Life}
-use Rattle.qs_book_machine.specs.declared.transaction.Part.{Part}
-use Rattle.qs_book_laws.proofs.Faces.{Age, Alike, Face, age, face, told_of}
-use Rattle.qs_book_laws.proofs.Maps.{Either, changed_either, lookup_put_apart}
+use Rattle.qs_book_machine.specs.Transaction.{ended, given_back, part_of}
+use Rattle.qs_book_laws.proofs.Faces.{Face, told_of}
 use Rattle.qs_tm.specs.Members as rules
-use Rattle.qs_world_lawful.specs.Beside.{HasOwner}
-use Rattle.qs_world_lawful.specs.Face.{at_server}
 use Rattle.qs_world_lawful.proofs.Apart.{Apart}
 use Rattle.qs_world_lawful.proofs.BesideParts.{SameWhole, TxStep, step_same, whole_then}
 use Rattle.qs_world_lawful.proofs.MemberRule.{parts_alike}

@@ -1,37 +1,12 @@
 -- A transaction begins: what the machine has beside the node stands on.
-use Rattle.std.proofs.Common.{◌≡◌, ◌⊎◌, inl, inr, ℕ, ◌+◌, true, Some, None, refl, sym, ap, subst, ◌∙◌}
-use Rattle.std.specs.BTreeMap.{is_at}
-use Rattle.std.specs.Prelude.{◌&&◌, not, is_some, slice_get}
-use Rattle.qs_base.proofs.TidOrder.{tid_exact}
-use Rattle.qs_base.specs.Order.{tid_cmp}
-use Rattle.qs_base.specs.declared.identifiers.ClientNo.{ClientNo}
-use Rattle.qs_base.specs.declared.identifiers.NodeNo.{NodeNo}
-use Rattle.qs_base.specs.declared.identifiers.Tid.{Tid}
-use Rattle.qs_book_journal.specs.declared.entry.Act.{Act}
+use Rattle.qs_world_lawful.proofs.Words.{◌≡◌, ◌⊎◌, inl, inr, ℕ, ◌+◌, true, Some, None, refl, sym, ap, subst, ◌∙◌, is_at, ◌&&◌, not, is_some, slice_get, tid_exact, tid_cmp, ClientNo, NodeNo, Tid, Act, ScriptLine, tid_itself, changed_at_here, lookup_put, lookup_put_apart, Inv, BookValue, find_transaction, ticks_at, broken, effect, TransactionValue, begun, is_commit, Cause, enter, begin_as, put_label, Work, with_manager, begun_participant, MemberPart, Participant, entry_of, InRun, HasOwner}
+use Rattle.qs_world_lawful.proofs.Words.{HoldsBeside, HoldsPart, HoldsTidBeside, IsTrueCause, book_at}
 use Rattle.qs_book_journal.specs.declared.entry.Act.TheVariants as acts
-use Rattle.qs_book_journal.specs.declared.script_line.ScriptLine.{ScriptLine}
-use Rattle.qs_book_laws.proofs.Alikes.{tid_itself}
-use Rattle.qs_book_laws.proofs.Maps.{changed_at_here, lookup_put, lookup_put_apart}
-use Rattle.qs_book_laws.proofs.Outcomes.{Inv}
-use Rattle.qs_book_machine.specs.Book.{BookValue, find_transaction, ticks_at}
-use Rattle.qs_book_machine.specs.Lawful.{broken, effect}
 use Rattle.qs_book_machine.specs.Nodes as machine
-use Rattle.qs_book_machine.specs.Transaction.{TransactionValue, begun, is_commit}
 use Rattle.qs_ops.specs.declared.answer.Answer.TheVariants as answers
-use Rattle.qs_ops.specs.declared.answer.Cause.{Cause}
-use Rattle.qs_node_step.specs.Bringing.{enter}
-use Rattle.qs_node_step.specs.Commands.{begin_as}
-use Rattle.qs_node_step.specs.Serving.{put_label}
-use Rattle.qs_node_step.specs.State.{NodeValue, Work, with_manager}
+use Rattle.qs_node_step.specs.State.{NodeValue}
 use Rattle.qs_tm.specs.Manager as tm
 use Rattle.qs_tm.specs.Members as rules
-use Rattle.qs_tm.specs.Participant.{begun_participant}
-use Rattle.qs_tm.specs.declared.members.MemberPart.{MemberPart}
-use Rattle.qs_tm.specs.declared.participant.Participant.{Participant}
-use Rattle.qs_world.specs.Posting.{entry_of}
-use Rattle.qs_world_lawful.specs.Amid.{InRun}
-use Rattle.qs_world_lawful.specs.Beside.{HasOwner, HoldsBeside, HoldsPart, HoldsTidBeside, IsTrueCause}
-use Rattle.qs_world_lawful.specs.Entering.{book_at}
 use Rattle.qs_world_lawful.proofs.Apart.{Apart, same_or_apart}
 use Rattle.qs_world_lawful.proofs.Begins.{new_member}
 use Rattle.qs_world_lawful.proofs.BesideActs.{others_begun}

@@ -1,16 +1,7 @@
 -- No rule but a tick moves the clock of timers.
-use Rattle.std.proofs.Common.{◌≡◌, ◌==◌, Bool, true, false, refl, if◌then◌else◌}
-use Rattle.qs_base.specs.declared.identifiers.ServerNo.{ServerNo}
-use Rattle.qs_base.specs.declared.identifiers.Tid.{Tid}
-use Rattle.qs_ops.specs.Server.{ServerValue, after_notice, after_serving, after_vote, noted_by, served_by, voted_by}
-use Rattle.qs_ops.specs.declared.vote.Notice.{Notice}
+use Rattle.qs_world_lawful.proofs.Words.{◌≡◌, ◌==◌, Bool, true, false, refl, if◌then◌else◌, ServerNo, Tid, ServerValue, after_notice, after_serving, after_vote, noted_by, served_by, voted_by, Notice, Op, Reply, ServerKind, Vote, ServersValue, with_server}
 use Rattle.qs_ops.specs.declared.vote.Notice.TheVariants as notices
-use Rattle.qs_ops.specs.declared.operation.Op.{Op}
-use Rattle.qs_ops.specs.declared.reply.Reply.{Reply}
-use Rattle.qs_ops.specs.declared.server.ServerKind.{ServerKind}
 use Rattle.qs_ops.specs.declared.server.ServerKind.TheVariants as kinds
-use Rattle.qs_ops.specs.declared.vote.Vote.{Vote}
-use Rattle.qs_node_servers.specs.Servers.{ServersValue, with_server}
 
 pub ticks_still : (server : ServerNo) (f : ServerValue → ServerValue) → ((value : ServerValue) → (f value).timers.ticks ≡ value.timers.ticks) → (servers : ServersValue) → (with_server server f servers).timers.timers.ticks ≡ servers.timers.timers.ticks
 ticks_still server f keeps servers = by (server.0 == 0) (server.0 == 1) (server.0 == 2) (server.0 == 3) (server.0 == 4) (server.0 == 5)

@@ -1,51 +1,21 @@
 -- What clients command, as it comes and while it waits: what stands before stands after.
-use Rattle.std.proofs.Common.{◌≡◌, ℕ, ◌==◌, ◌+◌, true, Option, Some, None, refl, sym, ap, ◌∙◌, arith, if◌then◌else◌}
-use Rattle.std.proofs.lemmas.Bool.Decides.{nat_tests}
-use Rattle.std.specs.BTreeMap.{is_at}
-use Rattle.std.specs.Map.{lookup}
-use Rattle.std.specs.Prelude.{is_some, slice_get}
-use Rattle.qs_base.specs.declared.identifiers.ClientNo.{ClientNo}
-use Rattle.qs_base.specs.declared.identifiers.Member.{Member}
+use Rattle.qs_world_lawful.proofs.Words.{◌≡◌, ℕ, ◌==◌, ◌+◌, true, Option, Some, None, refl, sym, ap, ◌∙◌, arith, if◌then◌else◌, nat_tests, is_at, lookup, is_some, slice_get, ClientNo, Member, Tid, uncovered, listed, Command, ScriptLine, first_untaken, last_taken, take_first, Begun, Lent, BookValue, find_transaction, with_transaction, TransactionValue, asked_at, changed_none, lookup_changed, tid_cmp, Op, client_server, kept_outcome, become_asked, borrower_command, is_aborted, is_void, lent_command}
+use Rattle.qs_world_lawful.proofs.Words.{loan_command, take, take_command, yield, enter, ask, begin_or_refuse, decided_answer, enter_ask, open_command, owner_command, refuse_begin, request_as, request_command, with_issued, next_number, label_at, put_label, Work, client_cmp, with_doings, with_kept, with_manager, borrower_waits, command_came, is_owner, labelled, obey, owner_waits, wait_command, wait_on, waits_at, with_command, Issued, OpenCommand, BeginFault, Participant, InRun, book_at}
 use Rattle.qs_base.specs.declared.identifiers.Outcome.TheVariants as outcomes
-use Rattle.qs_base.specs.declared.identifiers.Tid.{Tid}
-use Rattle.qs_engage.specs.Engage.{uncovered}
-use Rattle.qs_engage.specs.Nodes.{listed}
 use Rattle.qs_book_journal.specs.declared.entry.Act.TheVariants as acts
-use Rattle.qs_book_journal.specs.declared.script_line.Command.{Command}
 use Rattle.qs_book_journal.specs.declared.script_line.Command.TheVariants as commands
-use Rattle.qs_book_journal.specs.declared.script_line.ScriptLine.{ScriptLine}
-use Rattle.qs_node_kept.specs.Loans.{first_untaken, give_back, last_taken, take_first}
-use Rattle.qs_node_kept.specs.declared.kept.KeptLabel.{KeptLabel}
-use Rattle.qs_node_kept.specs.declared.kept.Lent.{Lent}
-use Rattle.qs_book_machine.specs.Book.{BookValue, find_transaction, with_transaction}
+use Rattle.qs_node_kept.specs.Loans.{give_back}
 use Rattle.qs_book_machine.specs.Nodes as machine
-use Rattle.qs_book_machine.specs.Transaction.{TransactionValue, asked_at}
-use Rattle.qs_book_laws.proofs.Maps.{changed_none, lookup_changed}
-use Rattle.qs_base.specs.Order.{tid_cmp}
 use Rattle.qs_ops.specs.declared.answer.Answer.TheVariants as answers
 use Rattle.qs_ops.specs.declared.answer.Cause.TheVariants as causes
-use Rattle.qs_ops.specs.declared.operation.Op.{Op}
 use Rattle.qs_packet.specs.declared.message.Message.TheVariants as messages
-use Rattle.qs_node_servers.specs.Servers.{client_server}
-use Rattle.qs_node_step.specs.Answering.{kept_outcome}
-use Rattle.qs_node_step.specs.Asking.{become_asked}
-use Rattle.qs_node_step.specs.Borrowing.{borrower_command, is_aborted, is_void, lent_command, loan_command, take, take_command, yield}
-use Rattle.qs_node_step.specs.Bringing.{answer, enter}
-use Rattle.qs_node_step.specs.Commands.{ask, begin_or_refuse, decided_answer, enter_ask, open_command, owner_command, refuse_begin, request_as, request_command, with_issued}
+use Rattle.qs_node_step.specs.Bringing.{answer}
 use Rattle.qs_node_step.specs.Deciding.{decide}
-use Rattle.qs_node_step.specs.Requests.{next_number}
-use Rattle.qs_node_step.specs.Serving.{label_at, put_label}
-use Rattle.qs_node_step.specs.State.{NodeValue, Work, client_cmp, part_of, with_doings, with_kept, with_manager}
-use Rattle.qs_node_step.specs.Step.{borrower_waits, command_came, is_owner, labelled, obey, owner_waits, request_waits, wait_command, wait_on, waits_at, with_command}
-use Rattle.qs_node_step.specs.declared.state.Issued.{Issued}
-use Rattle.qs_node_step.specs.declared.state.OpenCommand.{OpenCommand}
+use Rattle.qs_node_step.specs.State.{NodeValue, part_of}
+use Rattle.qs_node_step.specs.Step.{request_waits}
 use Rattle.qs_tm.specs.Manager as tm
 use Rattle.qs_tm.specs.Participant as participant
-use Rattle.qs_tm.specs.declared.manager.BeginFault.{BeginFault}
 use Rattle.qs_tm.specs.declared.manager.BeginFault.TheVariants as faults
-use Rattle.qs_tm.specs.declared.participant.Participant.{Participant}
-use Rattle.qs_world_lawful.specs.Amid.{InRun}
-use Rattle.qs_world_lawful.specs.Entering.{book_at}
 use Rattle.qs_world_lawful.proofs.BesideBegin.{goes_begin}
 use Rattle.qs_world_lawful.proofs.BesideGoes.{Goes, goes_alike, goes_elim, goes_if, goes_self, goes_sends, goes_then, goes_where}
 use Rattle.qs_world_lawful.proofs.BesidePlain.{goes_answer, goes_asked, goes_yield}
@@ -154,7 +124,7 @@ module _ (stamp : ℕ) (before : BookValue) (run : InRun before) where
   goes_owner client (Some tid) command work = goes_elim stamp before run (kept_outcome tid work.node) work (open_command client tid command work) (λ decided. answer client (decided_answer decided command) work) (λ none. goes_open client tid command work)
       (λ decided is. goes_answer stamp before run client (decided_answer decided command) work)
 
-  goes_labelled : (client : ClientNo) (begun : KeptLabel) (command : Command) (work : Work) → On work (labelled client begun command work)
+  goes_labelled : (client : ClientNo) (begun : Begun) (command : Command) (work : Work) → On work (labelled client begun command work)
   goes_labelled client begun command work = goes_if stamp before run (is_owner client begun.owner) work (owner_command client begun.tid command work) (elim begun.tid [ None ↦ work | Some tid ↦ borrower_command client tid command work ])
       (λ is. goes_owner client begun.tid command work) (λ is. goes_elim stamp before run begun.tid work work (λ tid. borrower_command client tid command work) (λ none. goes_self stamp before run work) (λ tid at. goes_borrower client tid command work))
 
@@ -201,7 +171,7 @@ module _ (stamp : ℕ) (before : BookValue) (run : InRun before) where
   goes_borrower_waits client None None command work = goes_self stamp before run work
   goes_borrower_waits client None (Some tid) command work = goes_borrower client tid command work
 
-  goes_waits_at : (client : ClientNo) (command : OpenCommand) (begun : KeptLabel) (work : Work) → On work (waits_at client command begun work)
+  goes_waits_at : (client : ClientNo) (command : OpenCommand) (begun : Begun) (work : Work) → On work (waits_at client command begun work)
   goes_waits_at client command begun work = goes_if stamp before run (is_owner client begun.owner) work (owner_waits client begun.tid command.line.command work) (borrower_waits client command.issued begun.tid command.line.command work)
       (λ is. goes_owner_waits client begun.tid command.line.command work) (λ is. goes_borrower_waits client command.issued begun.tid command.line.command work)
 

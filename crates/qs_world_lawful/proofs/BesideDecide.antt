@@ -1,45 +1,16 @@
 -- A home decides: what the machine has beside the node stands on, and what it commits is kept so for its owner.
-use Rattle.std.proofs.Common.{◌≡◌, ◌⊎◌, inl, inr, ℕ, Bool, true, false, List, [], ◌∷◌, ◌++◌, Option, Some, None, refl, sym, ap, subst, ◌∙◌, ◌<◌, ◌^◌, ◌==◌}
-use Rattle.std.specs.List.{find, list_any}
-use Rattle.std.specs.Option.{option_map}
-use Rattle.std.specs.Prelude.{◌||◌, is_some, slice_get}
-use Rattle.qs_base.specs.Order.{same_tid}
-use Rattle.qs_base.proofs.Same.{same_tid-self}
-use Rattle.qs_base.specs.declared.identifiers.ClientNo.{ClientNo}
-use Rattle.qs_base.specs.declared.identifiers.NodeNo.{NodeNo}
-use Rattle.qs_base.specs.declared.identifiers.Outcome.{Outcome}
+use Rattle.qs_world_lawful.proofs.Words.{◌≡◌, ◌⊎◌, inl, inr, ℕ, Bool, true, false, List, [], ◌∷◌, ◌++◌, Option, Some, None, refl, sym, ap, subst, ◌∙◌, ◌<◌, ◌^◌, ◌==◌, find, list_any, option_map, ◌||◌, is_some, slice_get, same_tid, same_tid-self, ClientNo, NodeNo, Outcome, Tid, Act, is_outcome_of, Decided, changed_at_alike, held, BookValue, find_transaction, owner_of, told, told_owner, broken_decide, may_decide, broken, effect, TransactionValue, cell_of, decided_at, is_commit, is_open, Owner, Cell}
+use Rattle.qs_world_lawful.proofs.Words.{Cause, Record, is_kept_commit, kept_outcome, enter, log_if, send_each, tid_of, give_notices, keep_outcome, Work, with_manager, Decision, has_noted, is_count, Outstanding, Participant, entry_of, InRun, HasOwner, HoldsBeside, HoldsEnded, HoldsNotes, HoldsPart, HoldsStranger, IsTrueCause, awaits_count, is_note_with, book_at}
 use Rattle.qs_base.specs.declared.identifiers.Outcome.TheVariants as outcomes
-use Rattle.qs_base.specs.declared.identifiers.Tid.{Tid}
-use Rattle.qs_book_journal.specs.declared.entry.Act.{Act}
 use Rattle.qs_book_journal.specs.declared.entry.Act.TheVariants as acts
-use Rattle.qs_node_kept.specs.Keeping.{is_outcome_of}
-use Rattle.qs_node_kept.specs.declared.kept.Decided.{Decided}
-use Rattle.qs_book_laws.proofs.Maps.{changed_at_alike}
-use Rattle.qs_book_laws.proofs.Steps.{held}
-use Rattle.qs_book_machine.specs.Book.{BookValue, find_transaction, owner_of, told, told_owner}
-use Rattle.qs_book_machine.specs.Clauses.{broken_decide, may_decide}
-use Rattle.qs_book_machine.specs.Lawful.{broken, effect}
-use Rattle.qs_book_machine.specs.Transaction.{TransactionValue, cell_of, decided_at, is_abort, is_commit, is_open}
-use Rattle.qs_book_machine.specs.declared.state.Owner.{Owner}
-use Rattle.qs_book_machine.specs.declared.transaction.Cell.{Cell}
+use Rattle.qs_book_machine.specs.Transaction.{is_abort}
 use Rattle.qs_book_machine.specs.declared.transaction.Cell.TheVariants as cells
-use Rattle.qs_ops.specs.declared.answer.Cause.{Cause}
 use Rattle.qs_packet.specs.declared.message.Message.TheVariants as messages
-use Rattle.qs_record.specs.declared.record.Record.{Record}
-use Rattle.qs_node_step.specs.Answering.{is_kept_commit, kept_outcome, was_committed}
-use Rattle.qs_node_step.specs.Bringing.{enter, log_if, send_each, tid_of}
-use Rattle.qs_node_step.specs.Deciding.{decide, give_notices, keep_outcome}
-use Rattle.qs_node_step.specs.State.{NodeValue, Work, with_manager}
+use Rattle.qs_node_step.specs.Answering.{was_committed}
+use Rattle.qs_node_step.specs.Deciding.{decide}
+use Rattle.qs_node_step.specs.State.{NodeValue}
 use Rattle.qs_tm.specs.Manager as tm
 use Rattle.qs_tm.specs.Outcomes as outcome_rules
-use Rattle.qs_tm.specs.declared.manager.Decision.{Decision}
-use Rattle.qs_tm.specs.Participant.{has_noted, is_count}
-use Rattle.qs_tm.specs.declared.participant.Outstanding.{Outstanding}
-use Rattle.qs_tm.specs.declared.participant.Participant.{Participant}
-use Rattle.qs_world.specs.Posting.{entry_of}
-use Rattle.qs_world_lawful.specs.Amid.{InRun}
-use Rattle.qs_world_lawful.specs.Beside.{HasOwner, HoldsBeside, HoldsEnded, HoldsNotes, HoldsPart, HoldsStranger, IsTrueCause, awaits_count, is_note_with}
-use Rattle.qs_world_lawful.specs.Entering.{book_at}
 use Rattle.qs_world_lawful.proofs.Apart.{Apart, same_or_apart}
 use Rattle.qs_world_lawful.proofs.BesideActs.{others_changed}
 use Rattle.qs_world_lawful.proofs.BesideGoes.{Goes, goes_entry, goes_self, goes_sends, goes_then}

@@ -1,37 +1,12 @@
 -- What stands in the middle of a rule stands on through all that rules are made of, as long as their entries are lawful.
-use Rattle.std.proofs.Common.{◌≡◌, ◌⊎◌, inl, inr, ◌<◌, ◌^◌, ℕ, Bool, true, false, List, [], ◌∷◌, ◌++◌, Option, Some, None, refl, sym, ap, subst, ◌∙◌, fold, append_assoc, if◌then◌else◌}
-use Rattle.std.proofs.lemmas.List.{append-nil}
-use Rattle.std.specs.Prelude.{is_none, slice_get}
-use Rattle.qs_base.specs.declared.identifiers.NodeNo.{NodeNo}
-use Rattle.qs_base.specs.declared.identifiers.Outcome.{Outcome}
-use Rattle.qs_base.specs.declared.identifiers.Tid.{Tid}
-use Rattle.qs_book_journal.specs.declared.entry.Act.{Act}
-use Rattle.qs_book_journal.specs.declared.entry.Entry.{Entry}
-use Rattle.qs_book_laws.proofs.Openings.{opening_holds}
-use Rattle.qs_book_laws.proofs.Outcomes.{Inv}
-use Rattle.qs_book_laws.proofs.Steps.{after_both, ran}
-use Rattle.qs_book_machine.specs.Book.{BookValue}
-use Rattle.qs_book_machine.specs.Lawful.{IsLawful, book_after, broken, effect}
-use Rattle.qs_book_machine.specs.Opening.{opening}
-use Rattle.qs_ops.specs.declared.answer.Cause.{Cause}
-use Rattle.qs_packet.specs.declared.message.Message.{Message}
+use Rattle.qs_world_lawful.proofs.Words.{◌≡◌, ◌⊎◌, inl, inr, ◌<◌, ◌^◌, ℕ, Bool, true, false, List, [], ◌∷◌, ◌++◌, Option, Some, None, refl, sym, ap, subst, ◌∙◌, fold, append_assoc, if◌then◌else◌, append-nil, slice_get, NodeNo, Tid, Act, Entry, opening_holds, Inv, after_both, ran, BookValue, IsLawful, book_after, broken, effect, opening, Cause, Message, where_undecided, is_other, send, send_each, Work, here, with_manager, Sending, Setting, is_undecided, Manager, Participant, entries_of, entry_of}
+use Rattle.qs_world_lawful.proofs.Words.{InRun, IsSent, HoldsBeside, IsTrueCause, book_at, entries_so_far, Every, GoesTo, IsSaid, none_is}
 use Rattle.qs_packet.specs.declared.message.Message.TheVariants as messages
 use Rattle.qs_node_step.specs.Answering.{was_committed}
-use Rattle.qs_node_step.specs.Asking.{where_undecided}
-use Rattle.qs_node_step.specs.Bringing.{is_other, send, send_each, send_next}
-use Rattle.qs_node_step.specs.State.{NodeValue, Work, here, part_of, with_manager}
-use Rattle.qs_node_step.specs.declared.event.Sending.{Sending}
-use Rattle.qs_node_step.specs.declared.setting.Setting.{Setting}
+use Rattle.qs_node_step.specs.Bringing.{send_next}
+use Rattle.qs_node_step.specs.State.{NodeValue, part_of}
 use Rattle.qs_tm.specs.Manager as tm
-use Rattle.qs_tm.specs.Participant.{is_undecided}
-use Rattle.qs_tm.specs.declared.manager.Manager.{Manager}
-use Rattle.qs_tm.specs.declared.participant.Participant.{Participant}
-use Rattle.qs_world.specs.Posting.{entries_of, entry_of}
-use Rattle.qs_world_lawful.specs.Amid.{GoesOn, InRun, IsSent}
-use Rattle.qs_world_lawful.specs.Beside.{HoldsBeside, IsTrueCause}
-use Rattle.qs_world_lawful.specs.Entering.{book_at, entries_so_far}
-use Rattle.qs_world_lawful.specs.Logs.{Every}
-use Rattle.qs_world_lawful.specs.Parcels.{GoesTo, IsSaid}
+use Rattle.qs_world_lawful.specs.Amid.{GoesOn}
 use Rattle.qs_world_lawful.proofs.Apart.{Apart, same_or_apart}
 use Rattle.qs_world_lawful.proofs.BesideActs.{steps_self}
 use Rattle.qs_world_lawful.proofs.BesideParts.{PartOn, PartStep, part_same, tid_on}
@@ -111,13 +86,9 @@ module _ (stamp : ℕ) (before : BookValue) (run : InRun before) where
   goes_fold f each [] work = goes_self work
   goes_fold f each (x ∷ xs) work = goes_then work (f work x) (fold f (f work x) xs) (each work x) (goes_fold f each xs (f work x))
 
-  none_of : (o : Option Outcome) → is_none o ≡ true → o ≡ None
-  none_of None e = refl
-  none_of (Some outcome) e = absurd (cc e)
-
   pub goes_where : (tid : Tid) (rule : Participant → Work → Work) (work : Work) → ((part : Participant) → part_of tid work ≡ Some part → part.outcome ≡ None → Goes work (rule part work)) → Goes work (where_undecided tid rule work)
   goes_where tid rule work each = goes_elim (part_of tid work) work work (λ part. if is_undecided part then rule part work else work) (λ none. goes_self work)
-      (λ part known. goes_if (is_undecided part) work (rule part work) work (λ is. each part known (none_of part.outcome is)) (λ is. goes_self work))
+      (λ part known. goes_if (is_undecided part) work (rule part work) work (λ is. each part known (none_is part.outcome is)) (λ is. goes_self work))
 
   -- ---- what enters nothing
 

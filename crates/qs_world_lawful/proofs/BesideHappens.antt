@@ -1,39 +1,16 @@
 -- What comes in a step, and all that waits being served: what stands before stands after.
-use Rattle.std.proofs.Common.{◌≡◌, inl, ℕ, true, false, List, [], ◌∷◌, Option, Some, None, refl, sym, ap, ◌∙◌, fold, if◌then◌else◌}
-use Rattle.std.specs.Prelude.{◌&&◌, not, is_some, slice_get}
-use Rattle.qs_base.specs.declared.identifiers.NodeNo.{NodeNo}
-use Rattle.qs_base.specs.declared.identifiers.ServerNo.{ServerNo}
-use Rattle.qs_base.specs.declared.identifiers.Tid.{Tid}
-use Rattle.qs_engage.specs.Engage.{is_node}
-use Rattle.qs_engage.specs.Nodes.{same_node}
+use Rattle.qs_world_lawful.proofs.Words.{◌≡◌, inl, ℕ, true, false, List, [], ◌∷◌, Option, Some, None, refl, sym, ap, ◌∙◌, fold, if◌then◌else◌, ◌&&◌, not, is_some, slice_get, NodeNo, ServerNo, Tid, is_node, same_node, BookValue, find_transaction, TransactionValue, is_commit, Cause, Message, ask_came, asked_by, become_asked, block, closer_came, pass_unknown, refusal_came, send, serve_next, Work, here, with_manager, happen, message_came, Event, is_undecided, Participant, InRun, IsTrueCause}
+use Rattle.qs_world_lawful.proofs.Words.{ComesMessage, ComesTo, HoldsWork, book_at, face_of, AtEach, HoldsTid, CanCount, HoldsHomes, Stands}
 use Rattle.qs_ipc.specs.Ipc as ipc
-use Rattle.qs_book_machine.specs.Book.{BookValue, find_transaction}
 use Rattle.qs_book_machine.specs.Nodes as machine
-use Rattle.qs_book_machine.specs.Transaction.{TransactionValue, is_commit}
-use Rattle.qs_ops.specs.declared.answer.Cause.{Cause}
-use Rattle.qs_packet.specs.declared.message.Message.{Message}
 use Rattle.qs_packet.specs.declared.message.Message.TheVariants as messages
-use Rattle.qs_node_step.specs.Asking.{ask_came, asked_by, become_asked, block, closer_came, count, pass_unknown, refusal_came}
-use Rattle.qs_node_step.specs.Bringing.{send}
-use Rattle.qs_node_step.specs.Serving.{serve_next}
-use Rattle.qs_node_step.specs.State.{NodeValue, Work, here, part_of, with_manager}
-use Rattle.qs_node_step.specs.Step.{happen, message_came}
-use Rattle.qs_node_step.specs.declared.event.Event.{Event}
+use Rattle.qs_node_step.specs.Asking.{count}
+use Rattle.qs_node_step.specs.State.{NodeValue, part_of}
 use Rattle.qs_node_step.specs.declared.event.Event.TheVariants as events
 use Rattle.qs_tm.specs.Manager as tm
 use Rattle.qs_tm.specs.Participant as participant
-use Rattle.qs_tm.specs.Participant.{is_undecided}
-use Rattle.qs_tm.specs.declared.participant.Participant.{Participant}
 use Rattle.qs_world_lawful.specs.Agreed.{AgreesEvent, AgreesMessage}
-use Rattle.qs_world_lawful.specs.Amid.{InRun}
-use Rattle.qs_world_lawful.specs.Beside.{IsTrueCause}
 use Rattle.qs_world_lawful.specs.BesideStep.{AreCommitted, HappensSo}
-use Rattle.qs_world_lawful.specs.Coming.{ComesMessage, ComesTo}
-use Rattle.qs_world_lawful.specs.Entering.{HoldsWork, book_at}
-use Rattle.qs_world_lawful.specs.Face.{face_of}
-use Rattle.qs_world_lawful.specs.Given.{AtEach}
-use Rattle.qs_world_lawful.specs.Holds.{HoldsTid}
-use Rattle.qs_world_lawful.specs.Standing.{CanCount, HoldsHomes, Stands}
 use Rattle.qs_world_lawful.proofs.BesideCommands.{goes_become, goes_command}
 use Rattle.qs_world_lawful.proofs.BesideGoes.{Goes, goes_elim, goes_if, goes_part, goes_self, goes_send, goes_then, goes_where}
 use Rattle.qs_world_lawful.proofs.BesideParts.{PartOn}

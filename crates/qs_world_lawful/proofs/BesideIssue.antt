@@ -1,41 +1,14 @@
 -- A request is issued: what the machine has beside the node stands on, and a note that files issue is waited for with its count.
-use Rattle.std.proofs.Common.{◌≡◌, ◌⊎◌, inl, inr, ℕ, ◌≤◌, ◌<◌, ◌==◌, ◌^◌, Bool, true, false, List, [], ◌∷◌, Option, Some, None, refl, sym, ap, subst, ◌∙◌, arith, length}
-use Rattle.std.proofs.lemmas.Bool.Decides.{nat_tests}
-use Rattle.std.proofs.lemmas.List.Folds.{list_any-append}
-use Rattle.std.specs.BTreeMap.{is_at}
-use Rattle.std.specs.List.{list_any}
-use Rattle.std.specs.Map.{lookup}
-use Rattle.std.specs.Prelude.{◌&&◌, ◌||◌, is_some}
-use Rattle.qs_base.proofs.Same.{same_bytes-true}
-use Rattle.qs_base.specs.Order.{tid_cmp}
-use Rattle.qs_base.specs.declared.identifiers.NodeNo.{NodeNo}
-use Rattle.qs_base.specs.declared.identifiers.Tid.{Tid}
-use Rattle.qs_book_journal.specs.declared.entry.Act.{Act}
+use Rattle.qs_world_lawful.proofs.Words.{◌≡◌, ◌⊎◌, inl, inr, ℕ, ◌≤◌, ◌<◌, ◌==◌, ◌^◌, Bool, true, false, List, [], ◌∷◌, Option, Some, None, refl, sym, ap, subst, ◌∙◌, length, list_any-append, is_at, list_any, lookup, ◌&&◌, ◌||◌, is_some, same_bytes-true, tid_cmp, NodeNo, Tid, Act, held, BookValue, crosses, find_transaction, inc_at, with_transaction, with_waiting, broken_issue, has_no_record, link_to, broken, effect, TransactionValue, is_commit, issued, Request, RequestNo, Cause, Op, Note}
+use Rattle.qs_world_lawful.proofs.Words.{member_here, enter_issue, Work, here, Outstanding, Participant, entry_of, InRun, HoldsBeside, HoldsEnded, HoldsNotes, HoldsPart, HoldsReads, HoldsStranger, HoldsTidBeside, IsTrueCause, awaits_count, has_issued, is_note_by, is_note_with, book_at, at_server, eqb-self}
 use Rattle.qs_book_journal.specs.declared.entry.Act.TheVariants as acts
 use Rattle.qs_book_laws.proofs.Acts as of
-use Rattle.qs_book_laws.proofs.Steps.{held}
-use Rattle.qs_book_machine.specs.Book.{BookValue, crosses, find_transaction, inc_at, with_transaction, with_waiting}
-use Rattle.qs_book_machine.specs.Clauses.{broken_issue, has_no_record, is_note, link_to, note_text}
-use Rattle.qs_book_machine.specs.Lawful.{broken, effect}
-use Rattle.qs_book_machine.specs.Transaction.{TransactionValue, is_commit, issued, part_of}
-use Rattle.qs_book_machine.specs.declared.transaction.Request.{Request}
-use Rattle.qs_book_machine.specs.declared.transaction.RequestNo.{RequestNo}
-use Rattle.qs_ops.specs.declared.answer.Cause.{Cause}
-use Rattle.qs_ops.specs.declared.operation.Op.{Op}
-use Rattle.qs_ops.specs.declared.operation.Op.TheVariants.{Note}
-use Rattle.qs_node_step.specs.Bringing.{member_here}
-use Rattle.qs_node_step.specs.Requests.{enter_issue}
-use Rattle.qs_node_step.specs.State.{NodeValue, Work, here}
+use Rattle.qs_book_machine.specs.Clauses.{is_note, note_text}
+use Rattle.qs_book_machine.specs.Transaction.{part_of}
+use Rattle.qs_node_step.specs.State.{NodeValue}
 use Rattle.qs_tm.specs.Manager as tm
 use Rattle.qs_tm.specs.Members as rules
 use Rattle.qs_tm.specs.Participant as participant
-use Rattle.qs_tm.specs.declared.participant.Outstanding.{Outstanding}
-use Rattle.qs_tm.specs.declared.participant.Participant.{Participant}
-use Rattle.qs_world.specs.Posting.{entry_of}
-use Rattle.qs_world_lawful.specs.Amid.{InRun}
-use Rattle.qs_world_lawful.specs.Beside.{HoldsBeside, HoldsEnded, HoldsNotes, HoldsPart, HoldsReads, HoldsStranger, HoldsTidBeside, IsTrueCause, awaits_count, has_issued, is_note_by, is_note_with}
-use Rattle.qs_world_lawful.specs.Entering.{book_at}
-use Rattle.qs_world_lawful.specs.Face.{at_server}
 use Rattle.qs_world_lawful.proofs.Apart.{Apart, same_or_apart}
 use Rattle.qs_world_lawful.proofs.BesideActs.{others_changed}
 use Rattle.qs_world_lawful.proofs.BesideGoes.{Goes, goes_entry}
@@ -127,11 +100,8 @@ module _ (stamp : ℕ) (before : BookValue) (run : InRun before) (tid : Tid) (re
         waits_with : is_note_with count request ≡ true
         waits_with = subst (λ (n : ℕ). is_note_with n request ≡ true) (sym count_is) (both (participant.is_by_files request) files)
           where
-            itself : (n : ℕ) → (n == n) ≡ true
-            itself n = grind (arith, nat_tests)
-
             both : (b : Bool) → b ≡ true → (b && (request.count == request.count)) ≡ true
-            both b e = rw (e, itself request.count) refl
+            both b e = rw (e, eqb-self request.count) refl
 
       -- ---- where it is known
 

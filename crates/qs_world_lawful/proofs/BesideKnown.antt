@@ -1,33 +1,14 @@
 -- What a node keeps of one transaction changes, begins or ends, and nothing is entered: what the machine has beside the node stands on.
-use Rattle.std.proofs.Common.{◌≡◌, ◌⊎◌, inl, inr, ℕ, ◌<◌, ◌^◌, Bool, true, false, Option, Some, None, refl, sym, ap, subst, ◌∙◌, if◌then◌else◌}
-use Rattle.std.specs.BTreeMap.{is_at}
-use Rattle.std.specs.Prelude.{◌&&◌, not, is_some, unwrap_or}
-use Rattle.qs_base.specs.Order.{tid_cmp}
-use Rattle.qs_base.specs.declared.identifiers.NodeNo.{NodeNo}
+use Rattle.qs_world_lawful.proofs.Words.{◌≡◌, ◌⊎◌, inl, inr, ℕ, ◌<◌, ◌^◌, Bool, true, false, Option, Some, None, refl, sym, ap, subst, ◌∙◌, if◌then◌else◌, is_at, ◌&&◌, not, is_some, unwrap_or, tid_cmp, NodeNo, Tid, at_exact, lookup_put, IsRising, removed, tid_itself, BookValue, find_transaction, TransactionValue, is_commit, is_covering, is_outcome, Cell, Work, with_manager, forget, awaits_note, has_noted, member_of, new_participant, MemberPart, Manager, Participant, InRun, HoldsBeside, HoldsEnded}
+use Rattle.qs_world_lawful.proofs.Words.{HoldsNotes, HoldsPart, HoldsReads, HoldsStranger, HoldsTidBeside, book_at, at_server, face_of, is_held, part_in, HoldsTid, false≢true}
 use Rattle.qs_base.specs.declared.identifiers.Outcome.TheVariants as outcomes
-use Rattle.qs_base.specs.declared.identifiers.Tid.{Tid}
-use Rattle.qs_book_laws.proofs.Alikes.{at_exact}
-use Rattle.qs_book_laws.proofs.Maps.{lookup_put}
-use Rattle.qs_book_laws.proofs.Rising.{IsRising, removed}
-use Rattle.qs_book_laws.proofs.Alikes.{tid_itself}
-use Rattle.qs_book_machine.specs.Book.{BookValue, find_transaction}
-use Rattle.qs_book_machine.specs.Transaction.{TransactionValue, is_abort, is_commit, is_covering, is_outcome}
-use Rattle.qs_book_machine.specs.declared.transaction.Cell.{Cell}
+use Rattle.qs_book_machine.specs.Transaction.{is_abort}
 use Rattle.qs_book_machine.specs.declared.transaction.Cell.TheVariants as cells
-use Rattle.qs_node_step.specs.State.{NodeValue, Work, with_manager}
-use Rattle.qs_node_step.specs.Telling.{forget}
+use Rattle.qs_node_step.specs.State.{NodeValue}
 use Rattle.qs_tm.specs.Manager as tm
 use Rattle.qs_tm.specs.Members as rules
 use Rattle.qs_tm.specs.Outcomes as outcome_rules
-use Rattle.qs_tm.specs.Participant.{awaits_note, has_noted, member_of, new_participant}
-use Rattle.qs_tm.specs.declared.members.MemberPart.{MemberPart}
-use Rattle.qs_tm.specs.declared.manager.Manager.{Manager}
-use Rattle.qs_tm.specs.declared.participant.Participant.{Participant}
-use Rattle.qs_world_lawful.specs.Amid.{InRun}
-use Rattle.qs_world_lawful.specs.Beside.{HoldsBeside, HoldsEnded, HoldsNotes, HoldsPart, HoldsReads, HoldsStranger, HoldsTidBeside}
-use Rattle.qs_world_lawful.specs.Entering.{book_at}
-use Rattle.qs_world_lawful.specs.Face.{Face, at_server, face_of, is_held, part_in}
-use Rattle.qs_world_lawful.specs.Holds.{HoldsTid}
+use Rattle.qs_world_lawful.specs.Face.{Face}
 use Rattle.qs_world_lawful.proofs.Apart.{Apart, same_or_apart}
 use Rattle.qs_world_lawful.proofs.Begins.{new_member}
 use Rattle.qs_world_lawful.proofs.BesideActs.{steps_self}
@@ -122,28 +103,19 @@ module _ (here : NodeNo) (inc : ℕ) (tid : Tid) (tx : TransactionValue) (face :
   }
     where
       of : (count : ℕ) → (has_noted count (part_in face) ≡ true) ⊎ (awaits_note (part_in face) ≡ true) → ⊥
-      of count (inl is) = never (sym (ap (has_noted count) part_is) ∙ is)
-        where
-          never : false ≡ true → ⊥
-          never e = cc e
-      of count (inr is) = never (sym (ap awaits_note part_is) ∙ is)
-        where
-          never : false ≡ true → ⊥
-          never e = cc e
+      of count (inl is) = false≢true (sym (ap (has_noted count) part_is) ∙ is)
+      of count (inr is) = false≢true (sym (ap awaits_note part_is) ∙ is)
 
   pub new_reads : (home : Bool) → HoldsReads here inc tid tx (new_participant home)
   new_reads home = record {
     readers = λ server kept. record {
       anew = λ two read. subst (λ (m : MemberPart). is_covering tx (at_server here server) inc m.served ≡ true) (ap (λ (p : Participant). member_of p server) part_is ∙ new_member false server) ((h.members held server kept).covers two);
       unfresh = λ two read. ap (λ (m : MemberPart). m.fresh && not (rules.is_let_go m)) (new_member home server);
-      told = λ told fresh. absurd (never (sym (ap (λ (m : MemberPart). m.fresh) (new_member home server)) ∙ fresh));
+      told = λ told fresh. absurd (false≢true (sym (ap (λ (m : MemberPart). m.fresh) (new_member home server)) ∙ fresh));
     };
     unchanged = λ read. s.unchanged;
     counted = λ count one is. absurd (clash (sym (s.unissued count one) ∙ is));
   }
-    where
-      never : false ≡ true → ⊥
-      never e = cc e
 
 -- ---- as steps
 

@@ -1,43 +1,15 @@
 -- A server learns how a transaction ends, and all servers do in their order: what the machine has beside the node stands on.
-use Rattle.std.proofs.Common.{◌≡◌, ℕ, Bool, true, false, List, [], ◌∷◌, Option, Some, None, refl, sym, ap, subst, ◌∙◌, fold}
-use Rattle.std.specs.BTreeMap.{is_at}
-use Rattle.std.specs.Map.{lookup}
-use Rattle.std.specs.Prelude.{is_some, slice_get}
-use Rattle.qs_base.specs.declared.identifiers.NodeNo.{NodeNo}
-use Rattle.qs_base.specs.declared.identifiers.Outcome.{Outcome}
+use Rattle.qs_world_lawful.proofs.Words.{◌≡◌, ℕ, Bool, true, List, [], ◌∷◌, Option, Some, None, refl, sym, ap, subst, ◌∙◌, fold, is_at, lookup, is_some, slice_get, NodeNo, Outcome, ServerNo, Tid, Act, voter_exact, Inv, removed_apart, BookValue, find_transaction, inc_at, has_no_record, effect, TransactionValue, is_commit, is_outcome, learnt, OnRecord, Voter, after_notice, Cause, with_server, member_here, due_endings, end_member, end_members, give_notices, learn_member, learn_members, learners_at}
+use Rattle.qs_world_lawful.proofs.Words.{notice_of, Work, learners, servers_due, Participant, entry_of, InRun, HoldsBeside, HoldsPart, IsTrueCause, book_at, is_plain, false≢true, false_from_ne_true}
 use Rattle.qs_base.specs.declared.identifiers.Outcome.TheVariants as outcomes
-use Rattle.qs_base.specs.declared.identifiers.ServerNo.{ServerNo}
-use Rattle.qs_base.specs.declared.identifiers.Tid.{Tid}
-use Rattle.qs_book_journal.specs.declared.entry.Act.{Act}
 use Rattle.qs_book_journal.specs.declared.entry.Act.TheVariants as acts
 use Rattle.qs_book_laws.proofs.Acts as of
-use Rattle.qs_book_laws.proofs.Alikes.{voter_exact}
-use Rattle.qs_book_laws.proofs.Outcomes.{Inv}
-use Rattle.qs_book_laws.proofs.Shares.{removed_apart}
-use Rattle.qs_book_machine.specs.Book.{BookValue, find_transaction, inc_at}
-use Rattle.qs_book_machine.specs.Clauses.{has_no_record}
-use Rattle.qs_book_machine.specs.Lawful.{effect}
 use Rattle.qs_book_machine.specs.Nodes as machine
-use Rattle.qs_book_machine.specs.Transaction.{TransactionValue, is_commit, is_outcome, learnt}
-use Rattle.qs_book_machine.specs.declared.state.OnRecord.{OnRecord}
-use Rattle.qs_book_machine.specs.declared.state.Voter.{Voter}
-use Rattle.qs_ops.specs.Server.{after_notice}
 use Rattle.qs_ops.specs.Servers.{audit_no, extra_no, files_no}
-use Rattle.qs_ops.specs.declared.answer.Cause.{Cause}
-use Rattle.qs_node_servers.specs.Servers.{with_server}
-use Rattle.qs_node_step.specs.Bringing.{member_here}
-use Rattle.qs_node_step.specs.Deciding.{due_endings, end_member, end_members, give_notices, learn_member, learn_members, learners_at, notice_of}
-use Rattle.qs_node_step.specs.State.{NodeValue, Work}
+use Rattle.qs_node_step.specs.State.{NodeValue}
 use Rattle.qs_tm.specs.Manager as tm
 use Rattle.qs_tm.specs.Outcomes as outcome_rules
-use Rattle.qs_tm.specs.Participant.{learners, servers_due}
 use Rattle.qs_tm.specs.declared.participant.Due.TheVariants as dues
-use Rattle.qs_tm.specs.declared.participant.Participant.{Participant}
-use Rattle.qs_world.specs.Posting.{entry_of}
-use Rattle.qs_world_lawful.specs.Amid.{InRun}
-use Rattle.qs_world_lawful.specs.Beside.{HoldsBeside, HoldsPart, IsTrueCause}
-use Rattle.qs_world_lawful.specs.Entering.{book_at}
-use Rattle.qs_world_lawful.specs.Logged.{is_plain}
 use Rattle.qs_world_lawful.proofs.Apart.{Apart}
 use Rattle.qs_world_lawful.proofs.BesideActs.{others_changed}
 use Rattle.qs_world_lawful.proofs.BesideClocks.{notice_ticks, ticks_still}
@@ -108,17 +80,13 @@ module _ (stamp : ℕ) (before : BookValue) (run : InRun before) where
       taken : (t : Tid) → Apart tid t → (next : machine.NodeValue) → slice_get (effect book (entry_of own_node.0 stamp (acts.Learn tid (member_here work server) outcomes.Commit))).nodes own_node.0 ≡ Some next → has_no_record next t ≡ has_no_record h.state t
       taken t far next there = ap (λ (s : machine.NodeValue). has_no_record s t) (of_some (sym there ∙ logs.next_there book stamp own_node.0 h.state inv h.there tid server)) ∙ rw (one files_no, one audit_no, one extra_no) refl
         where
-          false_by : (b : Bool) → (b ≡ true → ⊥) → b ≡ false
-          false_by false x = refl
-          false_by true x = absurd (x refl)
-
           test : Voter → Bool
           test = is_at (machine.voter_cmp (machine.voter tid server.0))
 
           one : (s : ℕ) → machine.record_of (logs.next book stamp own_node.0 h.state inv h.there tid server) t s ≡ machine.record_of h.state t s
           one s = ap (λ (rs : List (Voter × OnRecord)). lookup (is_at (machine.voter_cmp (machine.voter t s))) rs) (logs.records_are book stamp own_node.0 h.state inv h.there tid server)
               ∙ removed_apart test (is_at (machine.voter_cmp (machine.voter t s)))
-              (λ k at. false_by (test k) (λ is. far.differ (ap (λ (v : Voter). v.tid) (voter_exact (machine.voter tid server.0) k is ∙ sym (voter_exact (machine.voter t s) k at))))) h.state.records
+              (λ k at. false_from_ne_true (test k) (λ is. far.differ (ap (λ (v : Voter). v.tid) (voter_exact (machine.voter tid server.0) k is ∙ sym (voter_exact (machine.voter t s) k at))))) h.state.records
 
       records : (x : Outcome) → outcome ≡ x → (t : Tid) → Apart tid t → has_no_record h.state t ≡ true → has_no_record machine_on.next t ≡ true
       records outcomes.Commit is t far none = taken t far machine_on.next (subst (λ (x : Outcome). slice_get (effect book (entry_of own_node.0 stamp (acts.Learn tid (member_here work server) x))).nodes own_node.0 ≡ Some machine_on.next) is machine_on.there) ∙ none
@@ -147,10 +115,7 @@ module _ (stamp : ℕ) (before : BookValue) (run : InRun before) where
     goes_learnt = goes_entry stamp before run work (learn_member tid outcome work server) learning refl refl refl refl (λ fine inv causes h. of h inv (find_transaction book tid) refl ((h.at tid).stands p known) causes)
       where
         of : (h : HoldsBeside book node) → Inv book → (x : Option TransactionValue) → find_transaction book tid ≡ x → is_some (find_transaction book tid) ≡ true → ((t : Tid) (cause : Cause) → IsTrueCause book t cause → IsTrueCause new t cause) → HoldsBeside new fresh
-        of h inv None is there causes = absurd (no (sym (ap is_some is) ∙ there))
-          where
-            no : false ≡ true → ⊥
-            no e = cc e
+        of h inv None is there causes = absurd (false≢true (sym (ap is_some is) ∙ there))
         of h inv (Some tx) is there causes = learnt_beside causes inv h tx is
 
   -- ---- all of them, in their order

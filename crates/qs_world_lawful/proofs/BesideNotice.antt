@@ -1,39 +1,17 @@
 -- A server is told that a transaction ends, or learns how: what the machine has beside the node stands on.
-use Rattle.std.proofs.Common.{◌≡◌, ◌≢◌, ℕ, ◌==◌, ◌≤◌, Bool, true, false, Option, Some, None, refl, sym, ap, subst, ◌∙◌, arith, if◌then◌else◌}
-use Rattle.std.proofs.lemmas.Bool.Decides.{nat_tests}
-use Rattle.std.specs.Prelude.{◌&&◌}
-use Rattle.qs_base.specs.declared.identifiers.Class.{Class}
+use Rattle.qs_world_lawful.proofs.Words.{◌≡◌, ◌≢◌, ℕ, ◌==◌, ◌≤◌, Bool, true, false, Option, Some, None, refl, sym, ap, subst, ◌∙◌, if◌then◌else◌, ◌&&◌, Class, NodeNo, ServerNo, Tid, Act, held, BookValue, find_transaction, inc_at, has_no_record, broken, effect, effect_act, TransactionValue, is_commit, is_outcome, class_of, is_two_phase, after_notice, Cause, Notice, with_server, member_here, end_member, Work, here, member_of, Participant, entry_of, InRun, HoldsBeside, HoldsPart, HoldsReader}
+use Rattle.qs_world_lawful.proofs.Words.{HoldsReads, HoldsStranger, IsTrueCause, book_at, eqb-false, eqb-true}
 use Rattle.qs_base.specs.declared.identifiers.Class.TheVariants as classes
-use Rattle.qs_base.specs.declared.identifiers.NodeNo.{NodeNo}
-use Rattle.qs_base.specs.declared.identifiers.ServerNo.{ServerNo}
-use Rattle.qs_base.specs.declared.identifiers.Tid.{Tid}
-use Rattle.qs_book_journal.specs.declared.entry.Act.{Act}
 use Rattle.qs_book_journal.specs.declared.entry.Act.TheVariants as acts
 use Rattle.qs_book_laws.proofs.Acts as of
-use Rattle.qs_book_laws.proofs.Steps.{held}
-use Rattle.qs_book_machine.specs.Book.{BookValue, find_transaction, inc_at}
-use Rattle.qs_book_machine.specs.Clauses.{broken_ending, has_no_record, is_immediate, may_end}
-use Rattle.qs_book_machine.specs.Lawful.{broken, effect, effect_act}
+use Rattle.qs_book_machine.specs.Clauses.{broken_ending, is_immediate, may_end}
 use Rattle.qs_book_machine.specs.Nodes as machine
-use Rattle.qs_book_machine.specs.Transaction.{TransactionValue, is_abort, is_commit, is_outcome}
-use Rattle.qs_ops.specs.Members.{class_of, is_two_phase}
-use Rattle.qs_ops.specs.Server.{after_notice}
-use Rattle.qs_ops.specs.declared.answer.Cause.{Cause}
-use Rattle.qs_ops.specs.declared.vote.Notice.{Notice}
+use Rattle.qs_book_machine.specs.Transaction.{is_abort}
 use Rattle.qs_ops.specs.declared.vote.Notice.TheVariants as notices
-use Rattle.qs_node_servers.specs.Servers.{with_server}
-use Rattle.qs_node_step.specs.Bringing.{member_here}
-use Rattle.qs_node_step.specs.Deciding.{end_member}
-use Rattle.qs_node_step.specs.State.{NodeValue, Work, here}
+use Rattle.qs_node_step.specs.State.{NodeValue}
 use Rattle.qs_tm.specs.Manager as tm
 use Rattle.qs_tm.specs.Members as rules
 use Rattle.qs_tm.specs.Outcomes as outcome_rules
-use Rattle.qs_tm.specs.Participant.{member_of}
-use Rattle.qs_tm.specs.declared.participant.Participant.{Participant}
-use Rattle.qs_world.specs.Posting.{entry_of}
-use Rattle.qs_world_lawful.specs.Amid.{InRun}
-use Rattle.qs_world_lawful.specs.Beside.{HoldsBeside, HoldsPart, HoldsReader, HoldsReads, HoldsStranger, IsTrueCause}
-use Rattle.qs_world_lawful.specs.Entering.{book_at}
 use Rattle.qs_world_lawful.proofs.Apart.{Apart}
 use Rattle.qs_world_lawful.proofs.BesideActs.{Steps, ended_steps, steps_as}
 use Rattle.qs_world_lawful.proofs.BesideClocks.{notice_ticks, ticks_still}
@@ -45,7 +23,7 @@ use Rattle.qs_world_lawful.proofs.Faces.{part_apart, part_changed, part_unknown}
 use Rattle.qs_world_lawful.proofs.LogActs as logs
 use Rattle.qs_world_lawful.proofs.LogFrames.{every_on}
 use Rattle.qs_world_lawful.proofs.Parts.{with_other}
-use Rattle.qs_world_lawful.proofs.Truths.{left_true, number_is}
+use Rattle.qs_world_lawful.proofs.Truths.{left_true}
 
 -- ---- classes
 
@@ -73,9 +51,6 @@ as_rule classes.Standard = refl
 as_rule classes.Delayed = refl
 as_rule classes.Activity = refl
 
-differ : (a b : ℕ) → (a == b) ≡ false → a ≢ b
-differ a b e same = grind (arith, nat_tests, e, same)
-
 -- ---- an immediate server that is told leaves what is held of the others
 
 settled_reads : (here : NodeNo) (inc : ℕ) (tid : Tid) (tx later : TransactionValue) (p : Participant) (server : ServerNo) → rules.is_immediate (class_of server.0) ≡ true → SameWhole here inc tx later → HoldsReads here inc tid tx p → HoldsReads here inc tid later (outcome_rules.settled server p)
@@ -102,8 +77,8 @@ settled_reads here inc tid tx later p server imm t r = record {
     }
       where
         imm_other : rules.is_immediate (class_of other.0) ≡ true
-        imm_other = subst (λ (n : ℕ). rules.is_immediate (class_of n) ≡ true) (number_is server.0 other.0 is) imm
-    reader other false is g = reader_on here inc tx later p (outcome_rules.settled server p) other t.same (apart other (differ server.0 other.0 is)) (λ i. i) g
+        imm_other = subst (λ (n : ℕ). rules.is_immediate (class_of n) ≡ true) (eqb-true server.0 other.0 is) imm
+    reader other false is g = reader_on here inc tx later p (outcome_rules.settled server p) other t.same (apart other (eqb-false server.0 other.0 is)) (λ i. i) g
 
 -- ---- the entries
 

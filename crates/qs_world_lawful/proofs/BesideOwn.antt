@@ -1,20 +1,9 @@
 -- An entry that changes one transaction: what the machine has beside the node stands on where it does for that one.
-use Rattle.std.proofs.Common.{◌≡◌, ◌⊎◌, inl, inr, true, false, List, Option, Some, None, refl, sym, ap, subst, ◌∙◌}
-use Rattle.std.specs.BTreeMap.{is_at}
-use Rattle.std.specs.Map.{lookup}
-use Rattle.std.specs.Prelude.{is_some}
-use Rattle.qs_base.specs.Order.{tid_cmp}
-use Rattle.qs_base.specs.declared.identifiers.Tid.{Tid}
-use Rattle.qs_book_machine.specs.Book.{BookValue, find_transaction, with_transaction}
-use Rattle.qs_book_machine.specs.Clauses.{has_no_record}
+use Rattle.qs_world_lawful.proofs.Words.{◌≡◌, ◌⊎◌, inl, inr, true, false, List, Option, Some, None, refl, sym, ap, subst, ◌∙◌, is_at, lookup, is_some, tid_cmp, Tid, BookValue, find_transaction, with_transaction, has_no_record, TransactionValue, is_commit, Cause, Participant, HoldsBeside, HoldsClock, HoldsEnded, HoldsPart, HoldsStranger, HoldsTidBeside, IsTrueCause}
 use Rattle.qs_book_machine.specs.Nodes as machine
-use Rattle.qs_book_machine.specs.Transaction.{TransactionValue, is_commit}
-use Rattle.qs_ops.specs.declared.answer.Cause.{Cause}
 use Rattle.qs_node_step.specs.Answering.{was_committed}
 use Rattle.qs_node_step.specs.State.{NodeValue}
 use Rattle.qs_tm.specs.Manager as tm
-use Rattle.qs_tm.specs.declared.participant.Participant.{Participant}
-use Rattle.qs_world_lawful.specs.Beside.{HoldsBeside, HoldsClock, HoldsEnded, HoldsPart, HoldsStranger, HoldsTidBeside, IsTrueCause}
 use Rattle.qs_world_lawful.proofs.Apart.{Apart, same_or_apart}
 use Rattle.qs_world_lawful.proofs.BesideParts.{CommittedOn, TxStep, part_same, tid_on}
 use Rattle.qs_world_lawful.proofs.BesidePlain.{MachineOn, beside_by}

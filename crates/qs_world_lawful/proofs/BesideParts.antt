@@ -1,31 +1,13 @@
 -- What the machine has of one transaction beside its node stands where the machine and the node go on with it.
-use Rattle.std.proofs.Common.{◌≡◌, ◌⊎◌, inl, inr, ℕ, ◌≤◌, ◌&&◌, not, Bool, true, false, List, [], Option, Some, None, refl, sym, ap, subst, ◌∙◌}
-use Rattle.std.specs.BTreeMap.{is_at}
-use Rattle.std.specs.List.{list_any}
-use Rattle.std.specs.Prelude.{is_some, slice_index_or}
-use Rattle.qs_base.specs.declared.identifiers.NodeNo.{NodeNo}
-use Rattle.qs_base.specs.declared.identifiers.Outcome.{Outcome}
-use Rattle.qs_base.specs.declared.identifiers.ServerNo.{ServerNo}
-use Rattle.qs_base.specs.declared.identifiers.Tid.{Tid}
-use Rattle.qs_book_machine.specs.Book.{BookValue, find_transaction}
-use Rattle.qs_book_machine.specs.Clauses.{has_no_record, note_text}
+use Rattle.qs_world_lawful.proofs.Words.{◌≡◌, ◌⊎◌, inl, inr, ℕ, ◌≤◌, ◌&&◌, not, Bool, true, false, List, [], Option, Some, None, refl, sym, ap, subst, ◌∙◌, is_at, list_any, is_some, slice_index_or, NodeNo, Outcome, ServerNo, Tid, BookValue, find_transaction, has_no_record, TransactionValue, is_commit, is_covering, is_outcome, noted_cmp, Noted, Request, RequestNo, Cause, Setting, has_noted, member_of, MemberPart, Participant, HoldsEnded, HoldsNotes, HoldsPart, HoldsReader, HoldsReads, HoldsStranger}
+use Rattle.qs_world_lawful.proofs.Words.{HoldsTidBeside, IsTrueCause, awaits_count, has_issued, has_note_in, at_server, Every}
+use Rattle.qs_book_machine.specs.Clauses.{note_text}
 use Rattle.qs_book_machine.specs.Nodes as machine
-use Rattle.qs_book_machine.specs.Transaction.{TransactionValue, is_abort, is_commit, is_covering, is_outcome, noted_cmp, part_of}
-use Rattle.qs_book_machine.specs.declared.transaction.Noted.{Noted}
-use Rattle.qs_book_machine.specs.declared.transaction.Request.{Request}
-use Rattle.qs_book_machine.specs.declared.transaction.RequestNo.{RequestNo}
-use Rattle.qs_ops.specs.declared.answer.Cause.{Cause}
+use Rattle.qs_book_machine.specs.Transaction.{is_abort, part_of}
 use Rattle.qs_node_step.specs.Answering.{was_committed}
 use Rattle.qs_node_step.specs.State.{NodeValue}
-use Rattle.qs_node_step.specs.declared.setting.Setting.{Setting}
 use Rattle.qs_tm.specs.Manager as tm
 use Rattle.qs_tm.specs.Members as rules
-use Rattle.qs_tm.specs.Participant.{has_noted, member_of}
-use Rattle.qs_tm.specs.declared.members.MemberPart.{MemberPart}
-use Rattle.qs_tm.specs.declared.participant.Participant.{Participant}
-use Rattle.qs_world_lawful.specs.Beside.{HoldsEnded, HoldsNotes, HoldsPart, HoldsReader, HoldsReads, HoldsStranger, HoldsTidBeside, IsTrueCause, awaits_count, has_issued, has_note_in}
-use Rattle.qs_world_lawful.specs.Face.{at_server}
-use Rattle.qs_world_lawful.specs.Logs.{Every}
 use Rattle.qs_world_lawful.proofs.LogFrames.{every_on}
 use Rattle.qs_world_lawful.proofs.Truths.{clash, of_some}
 

@@ -1,44 +1,23 @@
 -- A vote pass: what stands in the middle of it stands after it, where the counts that notes tell have room.
-use Rattle.std.proofs.Common.{◌≡◌, ℕ, ◌==◌, ◌<◌, ◌≤◌, ◌^◌, Bool, true, false, List, [], ◌∷◌, Option, Some, None, refl, sym, ap, subst, ◌∙◌, arith, length, fold, nat_lt, if◌then◌else◌}
-use Rattle.std.proofs.lemmas.Bool.Decides.{nat_tests}
-use Rattle.std.specs.List.{filter}
-use Rattle.std.specs.Prelude.{◌&&◌, ◌||◌, not, is_some}
-use Rattle.qs_base.specs.declared.identifiers.NodeNo.{NodeNo}
-use Rattle.qs_base.specs.declared.identifiers.ServerNo.{ServerNo}
-use Rattle.qs_base.specs.declared.identifiers.Tid.{Tid}
+use Rattle.qs_world_lawful.proofs.Words.{◌≡◌, ℕ, ◌==◌, ◌<◌, ◌≤◌, ◌^◌, Bool, true, false, List, [], ◌∷◌, Option, Some, None, refl, sym, ap, subst, ◌∙◌, arith, length, fold, nat_lt, if◌then◌else◌, nat_tests, filter, ◌&&◌, ◌||◌, not, is_some, NodeNo, ServerNo, Tid, BookValue, find_transaction, TransactionValue, class_of, is_two_phase, ServerValue, after_vote, changes_in, changes_vote, vote_of, has_changes, share_of, Note, ServerKind, Vote, Reason, Record, server_at, end_member, is_lent, is_pass_due}
+use Rattle.qs_world_lawful.proofs.Words.{is_put_off, pass_rule, Work, doings_of, here, change_count, due_votes, enter_vote, issue_note, log_vote, owes_note, served_count, vote_frame, vote_next, vote_pass, vote_with, awaits_note, is_due_at, member_of, needs_pass, servers_due, Participant, InRun, HoldsWork, book_at, at_server, face_of, MayPass, HoldsTid, and_first}
 use Rattle.qs_ipc.specs.Ipc as ipc
-use Rattle.qs_book_machine.specs.Book.{BookValue, find_transaction}
-use Rattle.qs_book_machine.specs.Transaction.{TransactionValue, part_of}
-use Rattle.qs_ops.specs.Members.{class_of, is_two_phase}
-use Rattle.qs_ops.specs.Server.{ServerValue, after_vote, changes_in, changes_vote, vote_need, vote_of}
-use Rattle.qs_ops.specs.Table.{has_changes, share_of, view_bytes}
-use Rattle.qs_ops.specs.declared.operation.Op.TheVariants.{Note}
-use Rattle.qs_ops.specs.declared.server.ServerKind.{ServerKind}
+use Rattle.qs_book_machine.specs.Transaction.{part_of}
+use Rattle.qs_ops.specs.Server.{vote_need}
+use Rattle.qs_ops.specs.Table.{view_bytes}
 use Rattle.qs_ops.specs.declared.server.ServerKind.TheVariants as kinds
-use Rattle.qs_ops.specs.declared.vote.Vote.{Vote}
 use Rattle.qs_ops.specs.declared.vote.Vote.TheVariants as votes
-use Rattle.qs_ops.specs.declared.vote.Reason.{Reason}
 use Rattle.qs_ops.specs.declared.vote.Reason.TheVariants as reasons
-use Rattle.qs_record.specs.declared.record.Record.{Record}
 use Rattle.qs_record.specs.declared.record.Record.TheVariants as records
-use Rattle.qs_node_servers.specs.Servers.{audit_no, server_at}
-use Rattle.qs_node_step.specs.Deciding.{end_member}
-use Rattle.qs_node_step.specs.Settling.{is_lent, is_pass_due, is_put_off, pass_rule}
-use Rattle.qs_node_step.specs.State.{Work, doings_of, here}
-use Rattle.qs_node_step.specs.Voting.{change_count, due_votes, enter_vote, issue_note, log_vote, note_text, owes_note, served_count, vote_frame, vote_next, vote_pass, vote_with}
+use Rattle.qs_node_servers.specs.Servers.{audit_no}
+use Rattle.qs_node_step.specs.Voting.{note_text}
 use Rattle.qs_tm.specs.Manager as tm
 use Rattle.qs_tm.specs.Members as rules
 use Rattle.qs_tm.specs.Members.{all_servers}
 use Rattle.qs_tm.specs.Outcomes as outcome_rules
 use Rattle.qs_tm.specs.Participant as participant
-use Rattle.qs_tm.specs.Participant.{awaits_note, is_due_at, member_of, needs_pass, servers_due}
 use Rattle.qs_tm.specs.declared.participant.Due.TheVariants as dues
-use Rattle.qs_tm.specs.declared.participant.Participant.{Participant}
-use Rattle.qs_world_lawful.specs.Amid.{InRun}
-use Rattle.qs_world_lawful.specs.Entering.{HoldsWork, book_at}
-use Rattle.qs_world_lawful.specs.Face.{at_server, face_of}
-use Rattle.qs_world_lawful.specs.Given.{MayPass}
-use Rattle.qs_world_lawful.specs.Holds.{HoldsTid, is_kept}
+use Rattle.qs_world_lawful.specs.Holds.{is_kept}
 use Rattle.qs_world_lawful.proofs.Apart.{Apart}
 use Rattle.qs_world_lawful.proofs.BesideClocks.{ticks_still, voting_ticks}
 use Rattle.qs_world_lawful.proofs.BesideGoes.{Goes, goes_if, goes_self, goes_then}
@@ -90,11 +69,7 @@ module _ (stamp : ℕ) (before : BookValue) (run : InRun before) (tid : Tid) whe
     its t found = subst (λ (o : Option Participant). HoldsTid work.node.setting.node work.node.setting.inc tid t (record (face_of work.node tid) { known = o })) m.known (of_tid stamp (book_at stamp before work) work.node m.held.holds tid t found)
 
     two : is_two_phase (class_of server.0) ≡ true
-    two = first (rules.votes_here server) (not (rules.is_covering (member_of m.part server))) due
-      where
-        first : (a b : Bool) → (a && b) ≡ true → a ≡ true
-        first true b e = refl
-        first false b e = absurd (cc e)
+    two = and_first (rules.votes_here server) (not (rules.is_covering (member_of m.part server))) due
 
     count_is : served_count tid server work ≡ (member_of m.part server).served
     count_is = ap (λ (o : Option Participant). elim o [ None ↦ 0 | Some p ↦ (member_of p server).served ]) m.known
@@ -166,11 +141,7 @@ module _ (stamp : ℕ) (before : BookValue) (run : InRun before) (tid : Tid) whe
     goes_vote_next room = goes_if stamp before run (owes_note tid server work) work _ _ (λ owes. goes_note (room (files owes)) work.node.setting.audit) (λ none. goes_vote)
       where
         files : owes_note tid server work ≡ true → rules.same_server server rules.files_no ≡ true
-        files owes = first (rules.same_server server rules.files_no) (is_some work.node.setting.audit) (first (rules.same_server server rules.files_no && is_some work.node.setting.audit) _ owes)
-          where
-            first : (a b : Bool) → (a && b) ≡ true → a ≡ true
-            first true b e = refl
-            first false b e = absurd (cc e)
+        files owes = and_first (rules.same_server server rules.files_no) (is_some work.node.setting.audit) (and_first (rules.same_server server rules.files_no && is_some work.node.setting.audit) _ owes)
 
   -- ---- all of them, files first
 

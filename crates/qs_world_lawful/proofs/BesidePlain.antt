@@ -1,33 +1,10 @@
 -- What an entry does that leaves each transaction as it is looked at: what the machine has beside the node stands on.
-use Rattle.std.proofs.Common.{◌≡◌, ℕ, true, [], ◌∷◌, ◌++◌, Option, Some, None, refl, sym, ap, subst, ◌∙◌}
-use Rattle.std.specs.BTreeMap.{is_at}
-use Rattle.std.specs.Map.{lookup, remove_entry}
-use Rattle.std.specs.Option.{option_map}
-use Rattle.std.specs.Prelude.{slice_get}
-use Rattle.qs_base.specs.declared.identifiers.ClientNo.{ClientNo}
-use Rattle.qs_base.specs.declared.identifiers.NodeNo.{NodeNo}
-use Rattle.qs_base.specs.declared.identifiers.Tid.{Tid}
-use Rattle.qs_book_journal.specs.declared.entry.Act.{Act}
+use Rattle.qs_world_lawful.proofs.Words.{◌≡◌, ℕ, true, [], ◌∷◌, ◌++◌, Option, Some, None, refl, sym, ap, subst, ◌∙◌, is_at, lookup, remove_entry, option_map, slice_get, ClientNo, NodeNo, Tid, Act, Alike, age, Facet, facet, BookValue, find_transaction, borrower_at, has_no_record, effect, effect_act, TransactionValue, Answer, Cause, enter, Work, client_cmp, here, Setting, OpenCommand, entry_of, InRun, HasOwner, HoldsBeside, HoldsClock, HoldsTidBeside, IsTrueCause, book_at, is_plain}
 use Rattle.qs_book_journal.specs.declared.entry.Act.TheVariants as acts
 use Rattle.qs_book_laws.proofs.Acts as of
-use Rattle.qs_book_laws.proofs.Faces.{Alike, age}
-use Rattle.qs_book_laws.proofs.Stills.{Facet, facet}
-use Rattle.qs_book_machine.specs.Book.{BookValue, find_transaction}
-use Rattle.qs_book_machine.specs.Clauses.{borrower_at, has_no_record}
-use Rattle.qs_book_machine.specs.Lawful.{effect, effect_act}
 use Rattle.qs_book_machine.specs.Nodes as machine
-use Rattle.qs_book_machine.specs.Transaction.{TransactionValue}
-use Rattle.qs_ops.specs.declared.answer.Answer.{Answer}
-use Rattle.qs_ops.specs.declared.answer.Cause.{Cause}
-use Rattle.qs_node_step.specs.Bringing.{answer, enter}
-use Rattle.qs_node_step.specs.State.{NodeValue, Work, client_cmp, here}
-use Rattle.qs_node_step.specs.declared.setting.Setting.{Setting}
-use Rattle.qs_node_step.specs.declared.state.OpenCommand.{OpenCommand}
-use Rattle.qs_world.specs.Posting.{entry_of}
-use Rattle.qs_world_lawful.specs.Amid.{InRun}
-use Rattle.qs_world_lawful.specs.Beside.{HasOwner, HoldsBeside, HoldsClock, HoldsTidBeside, IsTrueCause}
-use Rattle.qs_world_lawful.specs.Entering.{book_at}
-use Rattle.qs_world_lawful.specs.Logged.{is_plain}
+use Rattle.qs_node_step.specs.Bringing.{answer}
+use Rattle.qs_node_step.specs.State.{NodeValue}
 use Rattle.qs_world_lawful.proofs.BesideActs.{Steps, answered_steps, asked_steps, counted_steps, given_steps, inc_on, lent_steps, owners_alike, records_same, steps_as}
 use Rattle.qs_world_lawful.proofs.BesideGoes.{Goes, goes_elim, goes_entry, goes_self}
 use Rattle.qs_world_lawful.proofs.BesideParts.{CommittedOn, PartStep, part_same, tid_on}

@@ -1,31 +1,10 @@
 -- A reply comes, commit is asked for, a cause is kept: what the machine has beside the node stands on.
-use Rattle.std.proofs.Common.{◌≡◌, ◌⊎◌, inl, inr, ℕ, ◌==◌, Bool, true, false, List, [], ◌∷◌, Option, Some, None, refl, sym, ap, subst, ◌∙◌, if◌then◌else◌}
-use Rattle.std.proofs.lemmas.List.Folds.{list_any-append}
-use Rattle.std.specs.List.{filter, find, list_any}
-use Rattle.std.specs.Prelude.{◌||◌, not, is_some}
-use Rattle.qs_base.specs.declared.identifiers.Member.{Member}
-use Rattle.qs_base.specs.declared.identifiers.Tid.{Tid}
-use Rattle.qs_book_machine.specs.Book.{BookValue, find_transaction}
-use Rattle.qs_book_machine.specs.Transaction.{TransactionValue}
-use Rattle.qs_ops.specs.declared.answer.Cause.{Cause}
-use Rattle.qs_ops.specs.declared.reply.Reply.{Reply}
-use Rattle.qs_node_step.specs.Asking.{block}
+use Rattle.qs_world_lawful.proofs.Words.{◌≡◌, ◌⊎◌, inl, inr, ℕ, ◌==◌, Bool, true, false, List, [], ◌∷◌, Option, Some, None, refl, sym, ap, subst, ◌∙◌, if◌then◌else◌, list_any-append, filter, find, list_any, ◌||◌, not, is_some, Member, Tid, BookValue, find_transaction, TransactionValue, Cause, Reply, block, answer_issuer, reply_came, take_reply, waits_as, Work, client_cmp, with_manager, is_at, lookup, client_of, answer_of, has_noted, is_answered_by, is_count, waiting_for, Outstanding, Participant}
+use Rattle.qs_world_lawful.proofs.Words.{InRun, HoldsBeside, IsTrueCause, awaits_count, is_note_with, book_at, AreApart, or_right}
 use Rattle.qs_node_step.specs.Requests as requests
-use Rattle.qs_node_step.specs.Requests.{answer_issuer, reply_came, take_reply, waits_as}
-use Rattle.qs_node_step.specs.State.{Work, client_cmp, with_manager}
-use Rattle.std.specs.BTreeMap.{is_at}
-use Rattle.std.specs.Map.{lookup}
-use Rattle.qs_node_servers.specs.Servers.{client_of}
-use Rattle.qs_ops.specs.Operations.{answer_of}
 use Rattle.qs_tm.specs.Manager as tm
 use Rattle.qs_tm.specs.Participant as participant
-use Rattle.qs_tm.specs.Participant.{drop_waiting, has_noted, is_answered_by, is_by_files, is_count, note_served, waiting_for}
-use Rattle.qs_tm.specs.declared.participant.Outstanding.{Outstanding}
-use Rattle.qs_tm.specs.declared.participant.Participant.{Participant}
-use Rattle.qs_world_lawful.specs.Amid.{InRun}
-use Rattle.qs_world_lawful.specs.Beside.{HoldsBeside, IsTrueCause, awaits_count, is_note_with}
-use Rattle.qs_world_lawful.specs.Entering.{book_at}
-use Rattle.qs_world_lawful.specs.NodeFacts.{AreApart}
+use Rattle.qs_tm.specs.Participant.{drop_waiting, is_by_files, note_served}
 use Rattle.qs_world_lawful.proofs.BesideGoes.{Goes, goes_elim, goes_if, goes_part, goes_self, goes_then}
 use Rattle.qs_world_lawful.proofs.BesideKnown.{goes_custom}
 use Rattle.qs_world_lawful.proofs.BesideParts.{PartOn, part_on, whole_self}
@@ -43,10 +22,6 @@ module _ (member : Member) (number : ℕ) where
   still_with count [] request apart found is = absurd (cc is)
   still_with count (w ∷ ws) request apart found is = by (is_answered_by member number w) refl found (is_note_with count w) refl is (λ f i. still_with count ws request apart.1 f i)
     where
-      or_right : (b c : Bool) → c ≡ true → (b || c) ≡ true
-      or_right true c e = refl
-      or_right false c e = e
-
       kept : list_any (is_answered_by member number) ws ≡ false → list_any (is_note_with count) ws ≡ true → list_any (is_note_with count) (filter (λ w. not (is_answered_by member number w)) ws) ≡ true
       kept none is = subst (λ (xs : List Outstanding). list_any (is_note_with count) xs ≡ true) (sym (none_dropped (is_answered_by member number) ws none)) is
 

@@ -1,43 +1,16 @@
 -- Requests are issued, come and are served: what stands in the middle of these rules stands after them.
-use Rattle.std.proofs.Common.{◌≡◌, inl, ℕ, ◌==◌, Bool, true, false, List, [], ◌∷◌, ◌++◌, Option, Some, None, refl, sym, ap, subst, ◌∙◌, ◌+◌, ◌||◌, if◌then◌else◌}
-use Rattle.std.specs.Prelude.{is_none, is_some}
-use Rattle.qs_base.specs.declared.identifiers.ClientNo.{ClientNo}
-use Rattle.qs_base.specs.declared.identifiers.Member.{Member}
-use Rattle.qs_base.specs.declared.identifiers.NodeNo.{NodeNo}
-use Rattle.qs_base.specs.declared.identifiers.ServerNo.{ServerNo}
-use Rattle.qs_base.specs.declared.identifiers.Tid.{Tid}
-use Rattle.qs_engage.specs.Engage.{last_number, next_sent}
-use Rattle.qs_engage.specs.Nodes.{same_node}
-use Rattle.qs_engage.specs.declared.engage.Engaged.{Engaged}
+use Rattle.qs_world_lawful.proofs.Words.{◌≡◌, inl, ℕ, ◌==◌, Bool, true, false, List, [], ◌∷◌, ◌++◌, Option, Some, None, refl, sym, ap, subst, ◌∙◌, ◌+◌, ◌||◌, if◌then◌else◌, is_none, is_some, ClientNo, Member, NodeNo, ServerNo, Tid, last_number, same_node, Engaged, Delivery, BookValue, find_transaction, TransactionValue, is_commit, Op, Reply, member_here, send, ask_on, enqueue, enter_issue, is_asked, issue_as, issue_away, issue_here, label_of, next_local, next_number, with_local, cover_from, engage}
+use Rattle.qs_world_lawful.proofs.Words.{enter_serve, is_dropped, label_at, learn_label, lent_to, make_loan, met, put_label, reply_here, request_came, serve_next, serve_or_drop, take_in, Work, here, with_kept, with_manager, with_queues, is_client, after_serving, change_server, class_here, is_told_class, is_undecided, member_of, Outstanding, Participant, InRun, HoldsBeside, HoldsWork, book_at, face_of, HoldsTid, AreApart, CanCount}
+use Rattle.qs_engage.specs.Engage.{next_sent}
 use Rattle.qs_engage.specs.declared.engage.Engaged.TheVariants as engagements
 use Rattle.qs_ipc.specs.Ipc as ipc
 use Rattle.qs_ipc.specs.Queue.{is_for}
-use Rattle.qs_ipc.specs.declared.delivery.Delivery.{Delivery}
-use Rattle.qs_book_machine.specs.Book.{BookValue, find_transaction}
-use Rattle.qs_book_machine.specs.Transaction.{TransactionValue, is_commit}
-use Rattle.qs_ops.specs.declared.operation.Op.{Op}
-use Rattle.qs_ops.specs.declared.reply.Reply.{Reply}
 use Rattle.qs_packet.specs.declared.message.Message.TheVariants as messages
-use Rattle.qs_node_step.specs.Bringing.{member_here, send}
-use Rattle.qs_node_step.specs.Requests.{ask_on, enqueue, enter_issue, is_asked, issue, issue_as, issue_away, issue_here, label_of, next_local, next_number, with_local}
-use Rattle.qs_node_step.specs.Serving.{cover_from, engage, enter_serve, is_dropped, label_at, learn_label, lent_to, make_loan, met, put_label, reply_here, request_came, serve, serve_next, serve_or_drop, take_in}
-use Rattle.qs_node_step.specs.State.{NodeValue, Work, here, part_of, with_kept, with_manager, with_queues}
-use Rattle.qs_node_servers.specs.Servers.{is_client}
-use Rattle.qs_ops.specs.Server.{after_serving}
-use Rattle.qs_node_step.specs.State.{change_server}
+use Rattle.qs_node_step.specs.Requests.{issue}
+use Rattle.qs_node_step.specs.Serving.{serve}
+use Rattle.qs_node_step.specs.State.{NodeValue, part_of}
 use Rattle.qs_tm.specs.Manager as tm
-use Rattle.qs_tm.specs.Members.{class_here, is_told_class}
 use Rattle.qs_tm.specs.Participant as participant
-use Rattle.qs_tm.specs.Participant.{is_undecided, member_of}
-use Rattle.qs_tm.specs.declared.participant.Outstanding.{Outstanding}
-use Rattle.qs_tm.specs.declared.participant.Participant.{Participant}
-use Rattle.qs_world_lawful.specs.Amid.{InRun}
-use Rattle.qs_world_lawful.specs.Beside.{HoldsBeside}
-use Rattle.qs_world_lawful.specs.Entering.{HoldsWork, book_at}
-use Rattle.qs_world_lawful.specs.Face.{face_of}
-use Rattle.qs_world_lawful.specs.Holds.{HoldsTid}
-use Rattle.qs_world_lawful.specs.NodeFacts.{AreApart}
-use Rattle.qs_world_lawful.specs.Standing.{CanCount}
 use Rattle.qs_world_lawful.proofs.BesideGoes.{Goes, goes_alike, goes_elim, goes_if, goes_part, goes_self, goes_send, goes_then}
 use Rattle.qs_world_lawful.proofs.BesideIssue.{TellsCount, goes_issue}
 use Rattle.qs_world_lawful.proofs.BesideKnown.{goes_meet}

@@ -1,35 +1,18 @@
 -- Another node restarts, or this one begins, and time goes on: what stands before stands after.
-use Rattle.std.proofs.Common.{◌≡◌, ℕ, ◌+◌, ◌<◌, ◌-◌, ◌^◌, Bool, true, false, List, [], ◌∷◌, Option, Some, None, refl, sym, ap, subst, ◌∙◌, arith, fold, min, if◌then◌else◌}
-use Rattle.std.specs.Prelude.{◌&&◌, not}
-use Rattle.qs_base.specs.declared.identifiers.NodeNo.{NodeNo}
-use Rattle.qs_base.specs.declared.identifiers.Outcome.{Outcome}
+use Rattle.qs_world_lawful.proofs.Words.{◌≡◌, ℕ, ◌+◌, ◌<◌, ◌-◌, ◌^◌, Bool, true, false, List, [], ◌∷◌, Option, Some, None, refl, sym, ap, subst, ◌∙◌, arith, fold, if◌then◌else◌, ◌&&◌, not, NodeNo, Outcome, Tid, listed, same_node, BookValue, effect_act, block, send, give_notices, begin_incarnation, find_gone, inquire, is_orphaned_by, known_tids, name_again, notice_decided, notice_part, notice_tid, peer_restarted, resume_home, resume_part, resume_tid, tell_again, Work, here, with_manager}
+use Rattle.qs_world_lawful.proofs.Words.{with_queues, abort_old, age_rule, tick, is_told_again, named_by, is_owed_by, Participant, InRun, book_at, AtEach, tick_work, HasOutcome}
+use Rattle.std.proofs.Common.{min}
 use Rattle.qs_base.specs.declared.identifiers.Outcome.TheVariants as outcomes
-use Rattle.qs_base.specs.declared.identifiers.Tid.{Tid}
-use Rattle.qs_engage.specs.Nodes.{listed, same_node}
 use Rattle.qs_ipc.specs.Ipc as ipc
 use Rattle.qs_book_journal.specs.declared.entry.Act.TheVariants as acts
 use Rattle.qs_book_laws.proofs.Acts as of
-use Rattle.qs_book_machine.specs.Book.{BookValue}
-use Rattle.qs_book_machine.specs.Lawful.{effect_act}
 use Rattle.qs_ops.specs.declared.answer.Cause.TheVariants as causes
 use Rattle.qs_packet.specs.declared.message.Message.TheVariants as messages
-use Rattle.qs_node_step.specs.Asking.{block}
-use Rattle.qs_node_step.specs.Bringing.{send}
-use Rattle.qs_node_step.specs.Deciding.{give_notices}
-use Rattle.qs_node_step.specs.Restarts.{begin_incarnation, find_gone, inquire, is_orphaned_by, known_tids, name_again, notice_decided, notice_part, notice_tid, peer_restarted, resume_home, resume_part, resume_tid, tell_again}
-use Rattle.qs_node_step.specs.State.{NodeValue, Work, here, part_of, with_manager, with_node, with_queues}
-use Rattle.qs_node_step.specs.Step.{abort_old, age_rule, tick}
+use Rattle.qs_node_step.specs.State.{NodeValue, part_of, with_node}
 use Rattle.qs_tm.specs.Manager as tm
-use Rattle.qs_tm.specs.Outcomes.{is_abort, is_told_again, named_by}
+use Rattle.qs_tm.specs.Outcomes.{is_abort}
 use Rattle.qs_tm.specs.Participant as participant
-use Rattle.qs_tm.specs.Participant.{is_owed_by}
-use Rattle.qs_tm.specs.declared.participant.Participant.{Participant}
-use Rattle.qs_world_lawful.specs.Amid.{InRun}
 use Rattle.qs_world_lawful.specs.BesideStep.{IsGone}
-use Rattle.qs_world_lawful.specs.Entering.{book_at}
-use Rattle.qs_world_lawful.specs.Given.{AtEach}
-use Rattle.qs_world_lawful.specs.GivenStep.{tick_work}
-use Rattle.qs_world_lawful.specs.Logged.{HasOutcome}
 use Rattle.qs_world_lawful.proofs.BesideActs.{steps_as, steps_self}
 use Rattle.qs_world_lawful.proofs.DecidedOutcomes.{outcome_said}
 use Rattle.qs_world_lawful.proofs.BesideGoes.{Goes, goes_alike, goes_elim, goes_entry, goes_fold, goes_if, goes_part, goes_self, goes_send, goes_sends, goes_then}

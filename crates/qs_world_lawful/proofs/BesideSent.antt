@@ -1,25 +1,6 @@
 -- What a whole step sends is so and goes between two nodes of the run, so that channels hold what is so with it.
-use Rattle.std.proofs.Common.{◌≡◌, ◌<◌, ◌==◌, ℕ, true, false, List, ap, sym, subst, arith, nat_lt}
-use Rattle.std.proofs.lemmas.Bool.Decides.{nat_tests}
-use Rattle.std.proofs.lemmas.Option.{slice_get_within}
-use Rattle.std.specs.Prelude.{not, length}
-use Rattle.qs_session_channels.specs.Channels.{Channels}
-use Rattle.qs_engage.specs.Nodes.{same_node}
-use Rattle.qs_book_journal.specs.declared.entry.Entry.{Entry}
-use Rattle.qs_book_machine.specs.Book.{BookValue}
-use Rattle.qs_book_machine.specs.Lawful.{IsLawful, book_after}
+use Rattle.qs_world_lawful.proofs.Words.{◌≡◌, ◌<◌, ◌==◌, ℕ, true, false, List, ap, sym, subst, nat_lt, slice_get_within, not, length, Channels, same_node, Entry, BookValue, IsLawful, book_after, effects_of, step_work, Event, Sending, Setting, entries_of, post_all, Parcel, InRun, IsSent, entries_so_far, Every, HoldsChannels, IsParcel, StepOn, lt-ltb}
 use Rattle.qs_node_step.specs.State.{NodeValue}
-use Rattle.qs_node_step.specs.Step.{effects_of, step_work}
-use Rattle.qs_node_step.specs.declared.event.Event.{Event}
-use Rattle.qs_node_step.specs.declared.event.Sending.{Sending}
-use Rattle.qs_node_step.specs.declared.setting.Setting.{Setting}
-use Rattle.qs_world.specs.Posting.{entries_of, post_all}
-use Rattle.qs_world.specs.World.{Parcel}
-use Rattle.qs_world_lawful.specs.Amid.{InRun, IsSent}
-use Rattle.qs_world_lawful.specs.Entering.{entries_so_far}
-use Rattle.qs_world_lawful.specs.Logs.{Every}
-use Rattle.qs_world_lawful.specs.Parcels.{HoldsChannels, IsParcel}
-use Rattle.qs_world_lawful.specs.StepOn.{StepOn}
 use Rattle.qs_world_lawful.proofs.BesideWhole.{held_after, sent_so}
 use Rattle.qs_world_lawful.proofs.LogFrames.{every_on}
 use Rattle.qs_world_lawful.proofs.ParcelsKept.{channels_posted}
@@ -65,8 +46,5 @@ module _ (stamp : ℕ) (before : BookValue) (size : ℕ) (nodes : ℕ → NodeVa
       (sent_parcel (book_after before entered) node.setting stamp size n s.at s.run within) (effects_of node event free).messages sent_after)
       (channels_on before s.in_run entered lawful_on size c h)
     where
-      below : (a b : ℕ) → a < b → nat_lt a b ≡ true
-      below a b is = grind (arith, nat_tests, is)
-
       within : nat_lt n size ≡ true
-      within = below n size (subst (λ (k : ℕ). n < k) whole (subst (λ (k : ℕ). k < length before.nodes) s.at (slice_get_within before.nodes node.setting.node.0 s.beside.state s.beside.there)))
+      within = lt-ltb n size (subst (λ (k : ℕ). n < k) whole (subst (λ (k : ℕ). k < length before.nodes) s.at (slice_get_within before.nodes node.setting.node.0 s.beside.state s.beside.there)))

@@ -1,33 +1,17 @@
 -- A request is served: what the machine has beside the node stands on.
-use Rattle.std.proofs.Common.{◌≡◌, ◌≢◌, ℕ, ◌≤◌, ◌+◌, ◌==◌, Bool, true, false, refl, sym, ap, subst, ◌∙◌, arith, length, if◌then◌else◌}
-use Rattle.std.proofs.lemmas.Bool.Decides.{nat_tests}
-use Rattle.std.specs.List.{list_any}
-use Rattle.std.specs.Prelude.{◌&&◌, ◌||◌, not, is_none}
-use Rattle.qs_base.specs.declared.identifiers.NodeNo.{NodeNo}
-use Rattle.qs_base.specs.declared.identifiers.Class.{Class}
+use Rattle.qs_world_lawful.proofs.Words.{◌≡◌, ◌≢◌, ℕ, ◌≤◌, ◌+◌, ◌==◌, Bool, true, false, refl, sym, ap, subst, ◌∙◌, arith, length, if◌then◌else◌, le_refl, nat_tests, list_any, ◌&&◌, ◌||◌, not, is_none, NodeNo, Class, ServerNo, Tid, last_number, TransactionValue, is_start, life, served_in, serving_part, Part, RequestNo, class_of, is_two_phase, class_here, is_told_class, member_of, with_member, MemberPart, Participant, HoldsReader, HoldsReads, at_server, covers_at_most, or_right, eqb-false, eqb-true}
+use Rattle.qs_world_lawful.proofs.Words.{le_le}
 use Rattle.qs_base.specs.declared.identifiers.Class.TheVariants as classes
-use Rattle.qs_base.specs.declared.identifiers.ServerNo.{ServerNo}
-use Rattle.qs_base.specs.declared.identifiers.Tid.{Tid}
-use Rattle.qs_engage.specs.Engage.{last_number}
 use Rattle.qs_book_machine.specs.Clauses.{note_text}
-use Rattle.qs_book_machine.specs.Transaction.{TransactionValue, is_start, life, part_of, served_in, serving_part}
-use Rattle.qs_book_machine.specs.declared.transaction.Part.{Part}
-use Rattle.qs_book_machine.specs.declared.transaction.RequestNo.{RequestNo}
-use Rattle.qs_ops.specs.Members.{class_of, is_two_phase}
+use Rattle.qs_book_machine.specs.Transaction.{part_of}
 use Rattle.qs_tm.specs.Members as rules
-use Rattle.qs_tm.specs.Members.{class_here, is_told_class}
 use Rattle.qs_tm.specs.Participant as participant
-use Rattle.qs_tm.specs.Participant.{member_of, with_member}
-use Rattle.qs_tm.specs.declared.members.MemberPart.{MemberPart}
-use Rattle.qs_tm.specs.declared.participant.Participant.{Participant}
-use Rattle.qs_world_lawful.specs.Beside.{HoldsReader, HoldsReads}
-use Rattle.qs_world_lawful.specs.Face.{at_server}
-use Rattle.qs_world_lawful.specs.Holds.{covers_at_most, is_kept}
+use Rattle.qs_world_lawful.specs.Holds.{is_kept}
 use Rattle.qs_world_lawful.proofs.MemberTid.{lives_apart}
 use Rattle.qs_world_lawful.proofs.NotesServed.{served_issued}
 use Rattle.qs_world_lawful.proofs.Parts.{put_part_apart, with_other, with_own}
 use Rattle.qs_world_lawful.proofs.Served.{newly_served, one_more, part_served}
-use Rattle.qs_world_lawful.proofs.Truths.{clash, number_is}
+use Rattle.qs_world_lawful.proofs.Truths.{clash}
 
 -- who just served has not only read
 unread : (server : ServerNo) (m : MemberPart) → is_two_phase (class_of server.0) ≡ true → covers_at_most m.served m.vote → rules.has_read server (one_more m) ≡ false
@@ -45,10 +29,7 @@ one true n = grind arith
 one false n = grind arith
 
 more_pending : (c : Class) (stamp : ℕ) (done : Bool) (part : Part) → part.pending ≤ (serving_part c stamp done part).pending
-more_pending classes.Activity stamp done part = itself part.pending
-  where
-    itself : (n : ℕ) → n ≤ n
-    itself n = grind arith
+more_pending classes.Activity stamp done part = le_refl part.pending
 more_pending classes.Recoverable stamp done part = one done part.pending
 more_pending classes.Volatile stamp done part = one done part.pending
 more_pending classes.Immediate stamp done part = one done part.pending
@@ -94,10 +75,6 @@ module _ (here : NodeNo) (inc stamp : ℕ) (at : RequestNo) (server : ServerNo) 
     own_involved : is_told_class (class_of server.0) ≡ true → q.involved ≡ true
     own_involved told = by ((member_of p server).served == last_number) (room kept)
       where
-        or_right : (a b : Bool) → b ≡ true → (a || b) ≡ true
-        or_right true b e = refl
-        or_right false b e = e
-
         by : (b : Bool) → b ≡ false → (if b then p else record (with_member server (one_more (member_of p server)) p) { involved = p.involved || is_told_class (class_here server) }).involved ≡ true
         by false e = or_right p.involved (is_told_class (class_here server)) told
         by true e = absurd (cc e)
@@ -119,35 +96,23 @@ module _ (here : NodeNo) (inc stamp : ℕ) (at : RequestNo) (server : ServerNo) 
   reader other kept true is r = subst (HoldsReader here inc now q) (same is) (own_reader (subst (λ (s : ServerNo). is_kept s ≡ true) (sym (same is)) kept))
     where
       same : (server.0 == other.0) ≡ true → server ≡ other
-      same e = ap (λ (n : ℕ). record { 0 = n }) (number_is server.0 other.0 e)
-  reader other kept false is r = other_reader other (differ server.0 other.0 is) r
-    where
-      differ : (a b : ℕ) → (a == b) ≡ false → a ≢ b
-      differ a b e same = grind (arith, nat_tests, e, same)
+      same e = ap (λ (n : ℕ). record { 0 = n }) (eqb-true server.0 other.0 e)
+  reader other kept false is r = other_reader other (eqb-false server.0 other.0 is) r
 
   pending_on : (part_of tx (at_server here rules.files_no) inc).pending ≤ (part_of now (at_server here rules.files_no) inc).pending
   pending_on = by (server.0 == 0) refl
     where
-      itself : (n : ℕ) → n ≤ n
-      itself n = grind arith
-
-      differ : (a b : ℕ) → (a == b) ≡ false → a ≢ b
-      differ a b e same = grind (arith, nat_tests, e, same)
-
       by : (b : Bool) → (server.0 == 0) ≡ b → (part_of tx (at_server here rules.files_no) inc).pending ≤ (part_of now (at_server here rules.files_no) inc).pending
-      by false is = subst (λ (x : Part). (part_of tx (at_server here rules.files_no) inc).pending ≤ x.pending) (sym (part_apart_is rules.files_no (differ server.0 0 is))) (itself _)
-      by true is = subst (λ (s : ServerNo). (part_of tx (at_server here s) inc).pending ≤ (part_of now (at_server here s) inc).pending) (ap (λ (n : ℕ). record { 0 = n }) (number_is server.0 0 is))
+      by false is = subst (λ (x : Part). (part_of tx (at_server here rules.files_no) inc).pending ≤ x.pending) (sym (part_apart_is rules.files_no (eqb-false server.0 0 is))) (le_refl _)
+      by true is = subst (λ (s : ServerNo). (part_of tx (at_server here s) inc).pending ≤ (part_of now (at_server here s) inc).pending) (ap (λ (n : ℕ). record { 0 = n }) (eqb-true server.0 0 is))
           (subst (λ (x : Part). (part_of tx (at_server here server) inc).pending ≤ x.pending) (sym (part_served at tx (at_server here server) inc stamp done)) (more_pending (class_of server.0) stamp done (part_of tx (at_server here server) inc)))
 
   files_pending : HoldsReads here inc tid tx p → rules.has_read rules.files_no (member_of q rules.files_no) ≡ true → (part_of now (at_server here rules.files_no) inc).pending ≡ 0
   files_pending r read = by (server.0 == 0) refl
     where
-      differ : (a b : ℕ) → (a == b) ≡ false → a ≢ b
-      differ a b e same = grind (arith, nat_tests, e, same)
-
       by : (b : Bool) → (server.0 == 0) ≡ b → (part_of now (at_server here rules.files_no) inc).pending ≡ 0
-      by false is = ap (λ (x : Part). x.pending) (part_apart_is rules.files_no (differ server.0 0 is)) ∙ r.unchanged (ap (rules.has_read rules.files_no) (sym (member_apart rules.files_no (differ server.0 0 is))) ∙ read)
-      by true is = let same : server ≡ rules.files_no = ap (λ (n : ℕ). record { 0 = n }) (number_is server.0 0 is) in
+      by false is = ap (λ (x : Part). x.pending) (part_apart_is rules.files_no (eqb-false server.0 0 is)) ∙ r.unchanged (ap (rules.has_read rules.files_no) (sym (member_apart rules.files_no (eqb-false server.0 0 is))) ∙ read)
+      by true is = let same : server ≡ rules.files_no = ap (λ (n : ℕ). record { 0 = n }) (eqb-true server.0 0 is) in
           absurd (own_unread (subst (λ (s : ServerNo). is_kept s ≡ true) (sym same) refl) (subst (λ (s : ServerNo). is_two_phase (class_of s.0) ≡ true) (sym same) refl)
           (subst (λ (s : ServerNo). rules.has_read s (member_of q s) ≡ true) (sym same) read))
 
@@ -155,8 +120,5 @@ module _ (here : NodeNo) (inc stamp : ℕ) (at : RequestNo) (server : ServerNo) 
   reads_now r = record {
     readers = λ other kept. reader other kept (server.0 == other.0) refl (r.readers other kept);
     unchanged = files_pending r;
-    counted = λ count one is. most_still count _ _ (r.counted count one (sym (served_issued at (at_server here server) inc stamp done tx here inc (note_text tid here.0 count)) ∙ is)) pending_on;
+    counted = λ count one is. le_le count _ _ (r.counted count one (sym (served_issued at (at_server here server) inc stamp done tx here inc (note_text tid here.0 count)) ∙ is)) pending_on;
   }
-    where
-      most_still : (a b c : ℕ) → a ≤ b → b ≤ c → a ≤ c
-      most_still a b c e f = grind (arith, e, f)

@@ -1,42 +1,15 @@
 -- A request is served, as an entry: what the machine has beside the node stands on.
-use Rattle.std.proofs.Common.{◌≡◌, ℕ, ◌+◌, ◌==◌, Bool, true, false, List, [], ◌∷◌, ◌++◌, Option, Some, None, refl, sym, ap, subst, ◌∙◌, length, if◌then◌else◌, ◌<◌, ◌^◌}
-use Rattle.std.specs.Prelude.{◌||◌, is_some}
-use Rattle.qs_base.specs.declared.identifiers.NodeNo.{NodeNo}
-use Rattle.qs_base.specs.declared.identifiers.ServerNo.{ServerNo}
-use Rattle.qs_base.specs.declared.identifiers.Tid.{Tid}
-use Rattle.qs_engage.specs.Engage.{last_number}
-use Rattle.qs_ipc.specs.declared.delivery.Delivery.{Delivery}
-use Rattle.qs_book_journal.specs.declared.entry.Act.{Act}
+use Rattle.qs_world_lawful.proofs.Words.{◌≡◌, ℕ, ◌+◌, ◌==◌, Bool, true, false, List, [], ◌∷◌, ◌++◌, Option, Some, None, refl, sym, ap, subst, ◌∙◌, length, if◌then◌else◌, ◌<◌, ◌^◌, ◌||◌, is_some, NodeNo, ServerNo, Tid, last_number, Delivery, Act, BookValue, find_transaction, inc_at, has_no_record, effect, TransactionValue, served_in, RequestNo, class_of, is_two_phase, after_serving, Cause, Reply, is_client, member_here, enter_serve, Work, change_server, Setting, class_here, is_told_class, member_of}
+use Rattle.qs_world_lawful.proofs.Words.{with_member, MemberPart, Manager, Participant, entry_of, InRun, HoldsBeside, HoldsNotes, HoldsPart, HoldsReads, IsTrueCause, book_at, covers_at_most, Every, false≢true}
 use Rattle.qs_book_journal.specs.declared.entry.Act.TheVariants as acts
 use Rattle.qs_book_laws.proofs.Acts as of
-use Rattle.qs_book_machine.specs.Book.{BookValue, find_transaction, inc_at, is_done}
-use Rattle.qs_book_machine.specs.Clauses.{has_no_record}
-use Rattle.qs_book_machine.specs.Lawful.{effect}
+use Rattle.qs_book_machine.specs.Book.{is_done}
 use Rattle.qs_book_machine.specs.Nodes as machine
-use Rattle.qs_book_machine.specs.Transaction.{TransactionValue, served_in}
-use Rattle.qs_book_machine.specs.declared.transaction.RequestNo.{RequestNo}
-use Rattle.qs_ops.specs.Members.{class_of, is_two_phase}
-use Rattle.qs_ops.specs.Server.{after_serving}
-use Rattle.qs_ops.specs.declared.answer.Cause.{Cause}
-use Rattle.qs_ops.specs.declared.reply.Reply.{Reply}
-use Rattle.qs_node_servers.specs.Servers.{is_client}
-use Rattle.qs_node_step.specs.Bringing.{member_here}
-use Rattle.qs_node_step.specs.Serving.{change_served, enter_serve}
-use Rattle.qs_node_step.specs.State.{NodeValue, Work, change_server}
-use Rattle.qs_node_step.specs.declared.setting.Setting.{Setting}
+use Rattle.qs_node_step.specs.Serving.{change_served}
+use Rattle.qs_node_step.specs.State.{NodeValue}
 use Rattle.qs_tm.specs.Manager as tm
-use Rattle.qs_tm.specs.Members.{class_here, is_told_class}
 use Rattle.qs_tm.specs.Participant as participant
-use Rattle.qs_tm.specs.Participant.{member_of, with_member}
-use Rattle.qs_tm.specs.declared.members.MemberPart.{MemberPart}
-use Rattle.qs_tm.specs.declared.manager.Manager.{Manager}
-use Rattle.qs_tm.specs.declared.participant.Participant.{Participant}
-use Rattle.qs_world.specs.Posting.{entry_of}
-use Rattle.qs_world_lawful.specs.Amid.{InRun}
-use Rattle.qs_world_lawful.specs.Beside.{HoldsBeside, HoldsNotes, HoldsPart, HoldsReads, IsTrueCause}
-use Rattle.qs_world_lawful.specs.Entering.{book_at}
-use Rattle.qs_world_lawful.specs.Holds.{covers_at_most, is_kept}
-use Rattle.qs_world_lawful.specs.Logs.{Every}
+use Rattle.qs_world_lawful.specs.Holds.{is_kept}
 use Rattle.qs_world_lawful.proofs.BesideActs.{others_changed}
 use Rattle.qs_world_lawful.proofs.BesideClocks.{serving_ticks, ticks_still}
 use Rattle.qs_world_lawful.proofs.BesideGoes.{Goes, alike_committed, goes_entry}
@@ -164,8 +137,5 @@ module _ (stamp : ℕ) (before : BookValue) (run : InRun before) (work : Work) (
       (λ fine inv causes h. of h (find_transaction book delivery.tid) refl ((h.at delivery.tid).stands p known) causes)
     where
       of : (h : HoldsBeside book node) (o : Option TransactionValue) → find_transaction book delivery.tid ≡ o → is_some (find_transaction book delivery.tid) ≡ true → ((t : Tid) (cause : Cause) → IsTrueCause book t cause → IsTrueCause new t cause) → HoldsBeside new fresh
-      of h None is there causes = absurd (no (sym (ap is_some is) ∙ there))
-        where
-          no : false ≡ true → ⊥
-          no e = cc e
+      of h None is there causes = absurd (false≢true (sym (ap is_some is) ∙ there))
       of h (Some tx) is there causes = served_beside causes h tx is

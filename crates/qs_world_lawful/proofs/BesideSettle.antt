@@ -1,49 +1,24 @@
 -- Readiness, refusal and forgetting: what stands before each of these rules stands after it.
-use Rattle.std.proofs.Common.{◌≡◌, inr, ℕ, ◌==◌, ◌≤◌, Bool, true, false, List, [], ◌∷◌, Option, Some, None, refl, sym, ap, subst, ◌∙◌, arith, fold, if◌then◌else◌}
-use Rattle.std.proofs.lemmas.Bool.Decides.{nat_tests}
-use Rattle.std.proofs.lemmas.List.{append-nil}
-use Rattle.std.specs.Prelude.{◌&&◌, ◌++◌, not, is_none, is_some}
-use Rattle.qs_base.specs.declared.identifiers.NodeNo.{NodeNo}
-use Rattle.qs_base.specs.declared.identifiers.Outcome.{Outcome}
+use Rattle.qs_world_lawful.proofs.Words.{◌≡◌, inr, ℕ, ◌≤◌, Bool, true, false, List, [], ◌∷◌, Option, Some, None, refl, sym, ap, subst, ◌∙◌, arith, fold, if◌then◌else◌, append-nil, ◌&&◌, ◌++◌, not, is_none, is_some, NodeNo, Outcome, Tid, release_of, is_no_node, listed, same_node, Decided, BookValue, find_transaction, TransactionValue, is_open, is_outcome, Cell, Cause, kept_outcome, is_other, decide_commit, answer_superior, forget_rule, is_quiet, may_answer, ready, ready_rule, refusal_goes_to}
+use Rattle.qs_world_lawful.proofs.Words.{refuse_elsewhere, refuse_home, refuse_rule, say_yes, send_refusal, Work, doings_of, here, with_manager, forget, told_with_own, is_forgotten, is_undecided, member_of, only_read, Participant, InRun, HoldsBeside, HoldsReads, HoldsStranger, IsTrueCause, has_issued, HoldsWork, book_at, at_server, face_of, HasEnded, HoldsTid, Every, HasNodeFacts, eqb-self, eqb-true}
 use Rattle.qs_base.specs.declared.identifiers.Outcome.TheVariants as outcomes
-use Rattle.qs_base.specs.declared.identifiers.Tid.{Tid}
-use Rattle.qs_engage.specs.Engage.{release_of}
-use Rattle.qs_engage.specs.Nodes.{is_no_node, listed, same_node}
-use Rattle.qs_node_kept.specs.declared.kept.Decided.{Decided}
-use Rattle.qs_book_machine.specs.Book.{BookValue, find_transaction}
 use Rattle.qs_book_machine.specs.Clauses.{note_text}
-use Rattle.qs_book_machine.specs.Transaction.{TransactionValue, is_open, is_outcome, part_of as machine_part}
-use Rattle.qs_book_machine.specs.declared.transaction.Cell.{Cell}
+use Rattle.qs_book_machine.specs.Transaction.{part_of as machine_part}
 use Rattle.qs_book_machine.specs.declared.transaction.Cell.TheVariants as cells
-use Rattle.qs_ops.specs.declared.answer.Cause.{Cause}
 use Rattle.qs_ops.specs.declared.answer.Cause.TheVariants as causes
 use Rattle.qs_packet.specs.declared.message.Message.TheVariants as messages
-use Rattle.qs_node_step.specs.Answering.{kept_outcome}
-use Rattle.qs_node_step.specs.Bringing.{is_other}
-use Rattle.qs_node_step.specs.Deciding.{decide, decide_commit}
-use Rattle.qs_node_step.specs.Settling.{answer_superior, forget_rule, is_quiet, may_answer, ready, ready_rule, refusal_goes_to, refuse_elsewhere, refuse_home, refuse_rule, say_yes, send_refusal}
-use Rattle.qs_node_step.specs.State.{Work, doings_of, here, part_of, with_manager}
-use Rattle.qs_node_step.specs.Telling.{forget}
+use Rattle.qs_node_step.specs.Deciding.{decide}
+use Rattle.qs_node_step.specs.State.{part_of}
 use Rattle.qs_tm.specs.Manager as tm
 use Rattle.qs_tm.specs.Members as rules
-use Rattle.qs_tm.specs.Outcomes.{told_with_own}
 use Rattle.qs_tm.specs.Participant as participant
-use Rattle.qs_tm.specs.Participant.{is_forgotten, is_undecided, member_of, only_read}
-use Rattle.qs_tm.specs.declared.participant.Participant.{Participant}
-use Rattle.qs_world_lawful.specs.Amid.{InRun}
-use Rattle.qs_world_lawful.specs.Beside.{HoldsBeside, HoldsReads, HoldsStranger, IsTrueCause, has_issued}
-use Rattle.qs_world_lawful.specs.Entering.{HoldsWork, book_at}
-use Rattle.qs_world_lawful.specs.Face.{at_server, face_of}
-use Rattle.qs_world_lawful.specs.Holds.{HasEnded, HoldsTid}
-use Rattle.qs_world_lawful.specs.Logs.{Every}
-use Rattle.qs_world_lawful.specs.NodeFacts.{HasNodeFacts}
 use Rattle.qs_world_lawful.proofs.BesideDecide.{goes_decide}
 use Rattle.qs_world_lawful.proofs.BesideGoes.{Goes, goes_elim, goes_if, goes_part, goes_self, goes_send, goes_then}
 use Rattle.qs_world_lawful.proofs.BesideKnown.{goes_forget}
 use Rattle.qs_world_lawful.proofs.BesideRequests.{engaged_on}
 use Rattle.qs_world_lawful.proofs.Clauses.{of_tid}
 use Rattle.qs_world_lawful.proofs.ReadAlone.{all_read}
-use Rattle.qs_world_lawful.proofs.Truths.{clash, left_true, node_is, not_true, number_is, right_true}
+use Rattle.qs_world_lawful.proofs.Truths.{clash, left_true, node_is, not_true, right_true}
 
 -- what is decided is not open
 shut : (o : Outcome) (c : Cell) → is_outcome o c ≡ true → is_open c ≡ true → ⊥
@@ -57,7 +32,7 @@ pub unkept : (stamp : ℕ) (before : BookValue) (work : Work) → HoldsWork stam
 unkept stamp before work h facts tid p known home none = by (kept_outcome tid work.node) refl
   where
     at : tid.home ≡ work.node.setting.node
-    at = node_is tid.home work.node.setting.node (number_is tid.home.0 work.node.setting.node.0 (sym (facts.parts tid p known).homed ∙ home))
+    at = node_is tid.home work.node.setting.node (eqb-true tid.home.0 work.node.setting.node.0 (sym (facts.parts tid p known).homed ∙ home))
 
     by : (o : Option Decided) → kept_outcome tid work.node ≡ o → o ≡ None
     by None is = refl
@@ -173,10 +148,7 @@ module _ (stamp : ℕ) (before : BookValue) (run : InRun before) where
       read is = right_true (is_no_node part.told) (only_read part) (right_true (is_none part.engage.superior && not part.involved) _ (right_true (is_undecided part && not part.engage.home) _ is))
 
       far : is_forgotten part ≡ true → tid.home ≡ work.node.setting.node → ⊥
-      far is home = clash (sym (not_true part.engage.home (right_true (is_undecided part) (not part.engage.home) (front is))) ∙ ((facts.parts tid part known).homed ∙ (ap (λ (k : NodeNo). same_node k work.node.setting.node) home ∙ itself work.node.setting.node.0)))
-        where
-          itself : (k : ℕ) → (k == k) ≡ true
-          itself k = grind (arith, nat_tests)
+      far is home = clash (sym (not_true part.engage.home (right_true (is_undecided part) (not part.engage.home) (front is))) ∙ ((facts.parts tid part known).homed ∙ (ap (λ (k : NodeNo). same_node k work.node.setting.node) home ∙ eqb-self work.node.setting.node.0)))
 
       stranger : is_forgotten part ≡ true → (h : HoldsBeside (book_at stamp before work) work.node) (tx : TransactionValue) → find_transaction (book_at stamp before work) tid ≡ Some tx → HoldsStranger work.node.setting.node work.node.setting.inc tid tx
       stranger is h tx found = record { unissued = λ count one. none_issued count one (has_issued tx work.node.setting.node work.node.setting.inc (note_text tid work.node.setting.node.0 count)) refl; unchanged = nothing }

@@ -1,43 +1,17 @@
 -- An outcome that is told is taken in, told on and forgotten: what stands before these rules stands after them.
-use Rattle.std.proofs.Common.{◌≡◌, inl, ℕ, Bool, true, false, List, [], ◌∷◌, ◌++◌, Option, Some, None, refl, sym, ap, subst, ◌∙◌, if◌then◌else◌}
-use Rattle.std.specs.List.{list_any}
-use Rattle.std.specs.Prelude.{◌||◌, is_some}
-use Rattle.qs_base.specs.Order.{same_tid}
-use Rattle.qs_base.specs.declared.identifiers.NodeNo.{NodeNo}
-use Rattle.qs_base.specs.declared.identifiers.Outcome.{Outcome}
+use Rattle.qs_world_lawful.proofs.Words.{◌≡◌, inl, ℕ, Bool, true, false, List, [], ◌∷◌, ◌++◌, Option, Some, None, refl, sym, ap, subst, ◌∙◌, if◌then◌else◌, list_any, ◌||◌, is_some, same_tid, NodeNo, Outcome, Tid, listed, same_node, Act, Decided, BookValue, cell_of_transaction, find_transaction, book_after, TransactionValue, cell_of, is_commit, is_outcome, Cell, Message, Record, answer_known, answer_unknown, inquiry_at_home, inquiry_came, is_kept_commit, kept_outcome, is_other, log, log_if, send}
+use Rattle.qs_world_lawful.proofs.Words.{tid_of, give_notices, Work, here, with_manager, end_record, end_told, forget, is_other_node, keep_abort_told, learn_unknown, names_at, record_learnt, take_names, take_outcome, take_told, tell_came, told_at_home, told_came, told_known, told_unknown, is_undecided, Participant, entries_of, InRun, IsSent, HoldsBeside, HoldsEnded, HoldsWork, book_at, face_of, HasEnded, HoldsTid, HasAborted, HasCommitted, HasOutcome, HasNodeFacts, GoesTo, IsSaid, eqb-true}
 use Rattle.qs_base.specs.declared.identifiers.Outcome.TheVariants as outcomes
-use Rattle.qs_base.specs.declared.identifiers.Tid.{Tid}
-use Rattle.qs_engage.specs.Nodes.{listed, same_node}
-use Rattle.qs_book_journal.specs.declared.entry.Act.{Act}
-use Rattle.qs_node_kept.specs.declared.kept.Decided.{Decided}
-use Rattle.qs_book_machine.specs.Book.{BookValue, cell_of_transaction, find_transaction}
-use Rattle.qs_book_machine.specs.Lawful.{book_after}
-use Rattle.qs_book_machine.specs.Transaction.{TransactionValue, cell_of, is_abort, is_commit, is_outcome}
-use Rattle.qs_book_machine.specs.declared.transaction.Cell.{Cell}
+use Rattle.qs_book_machine.specs.Transaction.{is_abort}
 use Rattle.qs_book_machine.specs.declared.transaction.Cell.TheVariants as cells
-use Rattle.qs_packet.specs.declared.message.Message.{Message}
 use Rattle.qs_packet.specs.declared.message.Message.TheVariants as messages
-use Rattle.qs_record.specs.declared.record.Record.{Record}
 use Rattle.qs_record.specs.declared.record.Record.TheVariants as records
-use Rattle.qs_node_step.specs.Answering.{answer_known, answer_unknown, inquiry_at_home, inquiry_came, is_kept_commit, kept_outcome, was_committed}
-use Rattle.qs_node_step.specs.Bringing.{is_other, log, log_if, send, tid_of}
-use Rattle.qs_node_step.specs.Deciding.{give_notices}
-use Rattle.qs_node_step.specs.State.{NodeValue, Work, here, part_of, with_manager}
-use Rattle.qs_node_step.specs.Telling.{end_record, end_told, forget, is_other_node, keep_abort_told, learn, learn_unknown, names_at, names_of, record_learnt, take_names, take_outcome, take_told, tell_came, told_at_home, told_came, told_known, told_unknown}
+use Rattle.qs_node_step.specs.Answering.{was_committed}
+use Rattle.qs_node_step.specs.State.{NodeValue, part_of}
+use Rattle.qs_node_step.specs.Telling.{learn, names_of}
 use Rattle.qs_tm.specs.Manager as tm
 use Rattle.qs_tm.specs.Outcomes as outcome_rules
 use Rattle.qs_tm.specs.Participant as participant
-use Rattle.qs_tm.specs.Participant.{is_undecided}
-use Rattle.qs_tm.specs.declared.participant.Participant.{Participant}
-use Rattle.qs_world.specs.Posting.{entries_of}
-use Rattle.qs_world_lawful.specs.Amid.{InRun, IsSent}
-use Rattle.qs_world_lawful.specs.Beside.{HoldsBeside, HoldsEnded}
-use Rattle.qs_world_lawful.specs.Entering.{HoldsWork, book_at}
-use Rattle.qs_world_lawful.specs.Face.{face_of}
-use Rattle.qs_world_lawful.specs.Holds.{HasEnded, HoldsTid}
-use Rattle.qs_world_lawful.specs.Logged.{HasAborted, HasCommitted, HasOutcome}
-use Rattle.qs_world_lawful.specs.NodeFacts.{HasNodeFacts}
-use Rattle.qs_world_lawful.specs.Parcels.{GoesTo, IsSaid}
 use Rattle.qs_world_lawful.proofs.DecidedOutcomes.{cell_is, outcome_said}
 use Rattle.qs_world_lawful.proofs.BesideGoes.{Goes, goes_elim, goes_if, goes_part, goes_self, goes_send, goes_sends, goes_still, goes_then, says_on}
 use Rattle.qs_world_lawful.proofs.BesideKnown.{beside_custom, goes_custom, goes_forget, goes_keep}
@@ -48,7 +22,7 @@ use Rattle.qs_world_lawful.proofs.FactsQuiet.{acknowledged_quiet}
 use Rattle.qs_world_lawful.proofs.FactsRules.{log_if_keeps, part_keeps}
 use Rattle.qs_world_lawful.proofs.Faces.{part_apart, part_changed, part_unknown}
 use Rattle.qs_world_lawful.proofs.LogRecords.{every_append}
-use Rattle.qs_world_lawful.proofs.Truths.{clash, node_is, number_is, of_some}
+use Rattle.qs_world_lawful.proofs.Truths.{clash, node_is, of_some}
 
 -- a change of what is told and acknowledged alone
 pub kept_on : (p q : Participant) → q ≡ record p { tell = q.tell; told = q.told; acknowledged = q.acknowledged } → PartOn p q
@@ -245,7 +219,7 @@ module _ (stamp : ℕ) (before : BookValue) (run : InRun before) where
         (λ near. goes_elim stamp before run (part_of tid work) work (answer_unknown peer tid work) (λ part. answer_known peer tid part.outcome work) (λ none. unknown near none) (λ part known. of part known part.outcome refl)) (λ far. goes_self stamp before run work)
       where
         home : same_node tid.home (here work) ≡ true → tid.home ≡ work.node.setting.node
-        home near = node_is tid.home work.node.setting.node (number_is tid.home.0 work.node.setting.node.0 near)
+        home near = node_is tid.home work.node.setting.node (eqb-true tid.home.0 work.node.setting.node.0 near)
 
         committed : was_committed tid work.node ≡ true → HasCommitted (book_at stamp before work) tid
         committed is = at (kept_outcome tid work.node) refl is

@@ -1,39 +1,18 @@
 -- A server votes: what is read of its transaction stands on.
-use Rattle.std.proofs.Common.{◌≡◌, ◌≢◌, ℕ, ◌≤◌, ◌+◌, ◌==◌, Bool, true, false, List, [], ◌∷◌, Option, Some, None, Less, Equal, Greater, refl, sym, ap, subst, ◌∙◌, arith, length, nat_cmp}
-use Rattle.std.proofs.lemmas.Bool.Decides.{nat_tests}
-use Rattle.std.proofs.lemmas.Map.Lookups.{exact_pairs, exact_unsigned}
-use Rattle.std.specs.BTreeMap.{is_at}
-use Rattle.std.specs.BTreeSet.{insert_key}
-use Rattle.std.specs.List.{list_any}
-use Rattle.std.specs.Map.{lookup}
-use Rattle.std.specs.Prelude.{◌&&◌, ◌||◌, not, unwrap_or}
-use Rattle.std.specs.declared.cmp.Ordering.{Ordering}
-use Rattle.qs_base.proofs.Same.{same_member-self}
-use Rattle.qs_base.specs.declared.identifiers.NodeNo.{NodeNo}
-use Rattle.qs_base.specs.declared.identifiers.ServerNo.{ServerNo}
-use Rattle.qs_base.specs.declared.identifiers.Tid.{Tid}
-use Rattle.qs_book_laws.proofs.Maps.{changed_none, lookup_changed}
-use Rattle.qs_book_machine.specs.Transaction.{TransactionValue, changed_value, is_covering, is_start, life, life_cmp, no_part, part_of, start_cmp, starts_after, voted, voted_part}
-use Rattle.qs_book_machine.specs.declared.transaction.Life.{Life}
-use Rattle.qs_book_machine.specs.declared.transaction.Part.{Part}
-use Rattle.qs_book_machine.specs.declared.transaction.Start.{Start}
-use Rattle.qs_ops.specs.Members.{class_of, is_two_phase}
-use Rattle.qs_ops.specs.declared.vote.Vote.{Vote}
+use Rattle.qs_world_lawful.proofs.Words.{◌≡◌, ◌≢◌, ℕ, ◌≤◌, ◌+◌, ◌==◌, Bool, true, false, List, [], ◌∷◌, Option, Some, None, Less, Equal, Greater, refl, sym, ap, subst, ◌∙◌, arith, length, nat_tests, exact_pairs, exact_unsigned, is_at, insert_key, list_any, lookup, ◌&&◌, ◌||◌, not, unwrap_or, Ordering, same_member-self, NodeNo, ServerNo, Tid, changed_none, lookup_changed, TransactionValue, changed_value, is_covering, is_start, life, life_cmp, no_part, start_cmp, starts_after, voted, voted_part}
+use Rattle.qs_world_lawful.proofs.Words.{Life, Part, Start, class_of, is_two_phase, Vote, member_of, with_causes_of, MemberPart, Participant, HoldsReader, HoldsReads, at_server, eqb-self, and_false, le_le, eqb-false, eqb-true}
+use Rattle.std.proofs.Common.{nat_cmp}
+use Rattle.qs_book_machine.specs.Transaction.{part_of}
 use Rattle.qs_ops.specs.declared.vote.Vote.TheVariants as votes
 use Rattle.qs_tm.specs.Members as rules
 use Rattle.qs_tm.specs.Participant as participant
-use Rattle.qs_tm.specs.Participant.{member_of, with_causes_of}
-use Rattle.qs_tm.specs.declared.members.MemberPart.{MemberPart}
-use Rattle.qs_tm.specs.declared.participant.Participant.{Participant}
-use Rattle.qs_world_lawful.specs.Beside.{HoldsReader, HoldsReads}
-use Rattle.qs_world_lawful.specs.Face.{at_server}
 use Rattle.qs_world_lawful.specs.Holds.{is_kept}
 use Rattle.qs_world_lawful.proofs.Casting.{cast, starts_grow}
 use Rattle.qs_world_lawful.proofs.Keys.{life_exact}
 use Rattle.qs_world_lawful.proofs.MemberRule.{parts_alike}
 use Rattle.qs_world_lawful.proofs.MemberTid.{lives_apart}
 use Rattle.qs_world_lawful.proofs.Parts.{changed_part_apart, with_other, with_own}
-use Rattle.qs_world_lawful.proofs.Truths.{number_is}
+use Rattle.qs_base_lemmas.proofs.Tests.{eq_ge, zero_least}
 
 -- ---- a start that was put
 
@@ -133,16 +112,9 @@ module _ (here : NodeNo) (inc : ℕ) (server : ServerNo) (ballot : Vote) (count 
     told = λ told fresh. involved_on (r.told told (ap (λ (m : MemberPart). m.fresh) (sym own_member) ∙ fresh));
   }
     where
-      itself : (n : ℕ) → (n == n) ≡ true
-      itself n = grind (arith, nat_tests)
-
-      none : (b : Bool) → (b && false) ≡ false
-      none true = refl
-      none false = refl
-
       unfreshed : ballot ≡ votes.ReadOnly → ((member_of q server).fresh && not (rules.is_let_go (member_of q server))) ≡ false
       unfreshed is = ap (λ (m : MemberPart). m.fresh && not (rules.is_let_go m)) own_member
-          ∙ (ap (λ (v : Vote). (member_of p server).fresh && not (rules.is_let_go (cast v (member_of p server)))) is ∙ rw (itself (member_of p server).served) (none (member_of p server).fresh))
+          ∙ (ap (λ (v : Vote). (member_of p server).fresh && not (rules.is_let_go (cast v (member_of p server)))) is ∙ rw (eqb-self (member_of p server).served) (and_false (member_of p server).fresh))
 
   other_reader : (other : ServerNo) → server.0 ≢ other.0 → HoldsReader here inc tx p other → HoldsReader here inc now q other
   other_reader other far r = record {
@@ -160,14 +132,11 @@ module _ (here : NodeNo) (inc : ℕ) (server : ServerNo) (ballot : Vote) (count 
           by false e = starts_grow ballot (life (at_server here server) inc) (part_of tx (at_server here server) inc).served (is_start (at_server here other) inc (part_of tx (at_server here other) inc).served 0) tx.starts e
 
   same_server : (other : ServerNo) → (server.0 == other.0) ≡ true → server ≡ other
-  same_server other e = ap (λ (n : ℕ). record { 0 = n }) (number_is server.0 other.0 e)
-
-  differ : (a b : ℕ) → (a == b) ≡ false → a ≢ b
-  differ a b e same = grind (arith, nat_tests, e, same)
+  same_server other e = ap (λ (n : ℕ). record { 0 = n }) (eqb-true server.0 other.0 e)
 
   reader : (other : ServerNo) → (b : Bool) → (server.0 == other.0) ≡ b → HoldsReader here inc tx p other → HoldsReader here inc now q other
   reader other true is r = subst (HoldsReader here inc now q) (same_server other is) (own_reader (subst (HoldsReader here inc tx p) (sym (same_server other is)) r))
-  reader other false is r = other_reader other (differ server.0 other.0 is) r
+  reader other false is r = other_reader other (eqb-false server.0 other.0 is) r
 
   -- ---- files
 
@@ -187,7 +156,7 @@ module _ (here : NodeNo) (inc : ℕ) (server : ServerNo) (ballot : Vote) (count 
   unchanged r read = by (server.0 == 0) refl
     where
       by : (b : Bool) → (server.0 == 0) ≡ b → (part_of now (at_server here rules.files_no) inc).pending ≡ 0
-      by false is = ap (λ (x : Part). x.pending) (part_apart_is rules.files_no (differ server.0 0 is)) ∙ r.unchanged (ap (rules.has_read rules.files_no) (sym (member_apart rules.files_no (differ server.0 0 is))) ∙ read)
+      by false is = ap (λ (x : Part). x.pending) (part_apart_is rules.files_no (eqb-false server.0 0 is)) ∙ r.unchanged (ap (rules.has_read rules.files_no) (sym (member_apart rules.files_no (eqb-false server.0 0 is))) ∙ read)
       by true is = let same : server ≡ rules.files_no = same_server rules.files_no is in
           subst (λ (s : ServerNo). (part_of now (at_server here s) inc).pending ≡ 0) same
           (none_pending (reads_as (ap (rules.has_read server) (sym own_member) ∙ subst (λ (s : ServerNo). rules.has_read s (member_of q s) ≡ true) (sym same) read)))
@@ -201,37 +170,28 @@ module _ (here : NodeNo) (inc : ℕ) (server : ServerNo) (ballot : Vote) (count 
   pending_on : (part_of tx (at_server here rules.files_no) inc).pending ≤ (part_of now (at_server here rules.files_no) inc).pending
   pending_on = by (server.0 == 0) refl
     where
-      same_most : (a b : ℕ) → b ≡ a → a ≤ b
-      same_most a b e = grind (arith, e)
-
-      least : (a b : ℕ) → a ≡ 0 → a ≤ b
-      least a b e = grind (arith, e)
-
       of : server ≡ rules.files_no → (v : Vote) → ballot ≡ v → (part_of tx (at_server here rules.files_no) inc).pending ≤ (part_of now (at_server here rules.files_no) inc).pending
-      of files votes.ReadOnly is = least _ _ (nothing is files)
-      of files votes.Volatile is = same_most _ _ (parts_alike (λ (x : Part). x.pending) (life (at_server here server) inc) (voted_part ballot) (kept_pending ballot (λ e. volatile (sym is ∙ e))) tx.parts (at_server here rules.files_no) inc)
+      of files votes.ReadOnly is = zero_least _ _ (nothing is files)
+      of files votes.Volatile is = eq_ge _ _ (parts_alike (λ (x : Part). x.pending) (life (at_server here server) inc) (voted_part ballot) (kept_pending ballot (λ e. volatile (sym is ∙ e))) tx.parts (at_server here rules.files_no) inc)
         where
           volatile : votes.Volatile ≡ votes.ReadOnly → ⊥
           volatile e = cc e
-      of files votes.Recoverable is = same_most _ _ (parts_alike (λ (x : Part). x.pending) (life (at_server here server) inc) (voted_part ballot) (kept_pending ballot (λ e. recoverable (sym is ∙ e))) tx.parts (at_server here rules.files_no) inc)
+      of files votes.Recoverable is = eq_ge _ _ (parts_alike (λ (x : Part). x.pending) (life (at_server here server) inc) (voted_part ballot) (kept_pending ballot (λ e. recoverable (sym is ∙ e))) tx.parts (at_server here rules.files_no) inc)
         where
           recoverable : votes.Recoverable ≡ votes.ReadOnly → ⊥
           recoverable e = cc e
-      of files (votes.Abort reason) is = same_most _ _ (parts_alike (λ (x : Part). x.pending) (life (at_server here server) inc) (voted_part ballot) (kept_pending ballot (λ e. abort (sym is ∙ e))) tx.parts (at_server here rules.files_no) inc)
+      of files (votes.Abort reason) is = eq_ge _ _ (parts_alike (λ (x : Part). x.pending) (life (at_server here server) inc) (voted_part ballot) (kept_pending ballot (λ e. abort (sym is ∙ e))) tx.parts (at_server here rules.files_no) inc)
         where
           abort : votes.Abort reason ≡ votes.ReadOnly → ⊥
           abort e = cc e
 
       by : (b : Bool) → (server.0 == 0) ≡ b → (part_of tx (at_server here rules.files_no) inc).pending ≤ (part_of now (at_server here rules.files_no) inc).pending
-      by false is = same_most _ _ (ap (λ (x : Part). x.pending) (part_apart_is rules.files_no (differ server.0 0 is)))
+      by false is = eq_ge _ _ (ap (λ (x : Part). x.pending) (part_apart_is rules.files_no (eqb-false server.0 0 is)))
       by true is = of (same_server rules.files_no is) ballot refl
 
   pub reads_voted : HoldsReads here inc tid tx p → HoldsReads here inc tid now q
   reads_voted r = record {
     readers = λ other other_kept. reader other (server.0 == other.0) refl (r.readers other other_kept);
     unchanged = unchanged r;
-    counted = λ count one is. most_still count _ _ (r.counted count one is) pending_on;
+    counted = λ count one is. le_le count _ _ (r.counted count one is) pending_on;
   }
-    where
-      most_still : (a b c : ℕ) → a ≤ b → b ≤ c → a ≤ c
-      most_still a b c e f = grind (arith, e, f)

@@ -1,46 +1,18 @@
 -- A server votes, as an entry: what the machine has beside the node stands on; a Prepare goes with its vote.
-use Rattle.std.proofs.Common.{◌≡◌, ◌⊎◌, inl, inr, ℕ, ◌<◌, ◌^◌, Bool, true, false, [], ◌∷◌, ◌++◌, Option, Some, None, refl, sym, ap, subst, ◌∙◌, length}
-use Rattle.std.proofs.lemmas.List.Folds.{list_any-append}
-use Rattle.std.specs.BTreeMap.{is_at}
-use Rattle.std.specs.List.{list_any}
-use Rattle.std.specs.Prelude.{◌&&◌, ◌||◌, is_some}
-use Rattle.qs_base.proofs.Same.{same_member-self}
-use Rattle.qs_base.specs.declared.identifiers.NodeNo.{NodeNo}
-use Rattle.qs_base.specs.declared.identifiers.ServerNo.{ServerNo}
-use Rattle.qs_base.specs.declared.identifiers.Tid.{Tid}
-use Rattle.qs_book_journal.specs.declared.entry.Act.{Act}
+use Rattle.qs_world_lawful.proofs.Words.{◌≡◌, ◌⊎◌, inl, inr, ℕ, ◌<◌, ◌^◌, Bool, true, false, [], ◌∷◌, ◌++◌, Option, Some, None, refl, sym, ap, subst, ◌∙◌, length, true≢false, list_any-append, is_at, list_any, ◌&&◌, ◌||◌, is_some, same_member-self, NodeNo, ServerNo, Tid, Act, voter_equal, voter_exact, changed_at_here, lookup_put_apart, BookValue, crossed_in, find_transaction, inc_at, pending_in, vote_node, has_no_record, effect, TransactionValue, has_refusal, voted, OnRecord, Voter, class_of}
+use Rattle.qs_world_lawful.proofs.Words.{is_two_phase, Cause, Vote, member_here, Work, member_of, InLog, Participant, entry_of, InRun, HoldsBeside, HoldsClock, HoldsNotes, HoldsPart, HoldsReads, IsTrueCause, book_at, at_server, is_plain, Every, false≢true, false_from_ne_true}
 use Rattle.qs_book_journal.specs.declared.entry.Act.TheVariants as acts
 use Rattle.qs_book_laws.proofs.Acts as of
-use Rattle.qs_book_laws.proofs.Alikes.{voter_equal, voter_exact}
-use Rattle.qs_book_laws.proofs.Maps.{changed_at_here, lookup_put_apart}
-use Rattle.qs_book_machine.specs.Book.{BookValue, crossed_in, find_transaction, inc_at, pending_in, vote_node}
-use Rattle.qs_book_machine.specs.Clauses.{has_no_record}
-use Rattle.qs_book_machine.specs.Lawful.{effect}
 use Rattle.qs_book_machine.specs.Nodes as machine
-use Rattle.qs_book_machine.specs.Transaction.{TransactionValue, has_refusal, is_refusal, part_of, voted}
-use Rattle.qs_book_machine.specs.declared.state.OnRecord.{OnRecord}
-use Rattle.qs_book_machine.specs.declared.state.Voter.{Voter}
-use Rattle.qs_ops.specs.Members.{class_of, is_two_phase}
+use Rattle.qs_book_machine.specs.Transaction.{is_refusal, part_of}
 use Rattle.qs_ops.specs.Servers.{audit_no, extra_no, files_no}
-use Rattle.qs_ops.specs.declared.answer.Cause.{Cause}
-use Rattle.qs_ops.specs.declared.vote.Vote.{Vote}
 use Rattle.qs_ops.specs.declared.vote.Vote.TheVariants as votes
-use Rattle.qs_node_step.specs.Bringing.{member_here}
-use Rattle.qs_node_step.specs.State.{NodeValue, Work}
+use Rattle.qs_node_step.specs.State.{NodeValue}
 use Rattle.qs_tm.specs.Manager as tm
 use Rattle.qs_tm.specs.Members as rules
 use Rattle.qs_tm.specs.Participant as participant
-use Rattle.qs_tm.specs.Participant.{causes_of, member_of}
-use Rattle.qs_tm.specs.declared.participant.InLog.{InLog}
-use Rattle.qs_tm.specs.declared.participant.Participant.{Participant}
-use Rattle.qs_world.specs.Posting.{entry_of}
-use Rattle.qs_world_lawful.specs.Amid.{InRun}
-use Rattle.qs_world_lawful.specs.Beside.{HoldsBeside, HoldsClock, HoldsNotes, HoldsPart, HoldsReads, IsTrueCause}
-use Rattle.qs_world_lawful.specs.Entering.{book_at}
-use Rattle.qs_world_lawful.specs.Face.{at_server}
+use Rattle.qs_tm.specs.Participant.{causes_of}
 use Rattle.qs_world_lawful.specs.Holds.{is_kept}
-use Rattle.qs_world_lawful.specs.Logged.{is_plain}
-use Rattle.qs_world_lawful.specs.Logs.{Every}
 use Rattle.qs_world_lawful.proofs.Apart.{Apart}
 use Rattle.qs_world_lawful.proofs.BesideActs.{others_changed}
 use Rattle.qs_world_lawful.proofs.BesideGoes.{Goes, alike_committed, goes_entry}
@@ -126,16 +98,12 @@ module _ (stamp : ℕ) (before : BookValue) (run : InRun before) (work new_work 
     recorded t far is = ap (λ (s : machine.NodeValue). has_no_record s t) (sym (ap (λ (v : Vote). votes_on v h.state) (sym is) ∙ next_is))
         ∙ rw (one files_no, one audit_no, one extra_no) refl
       where
-        false_by : (b : Bool) → (b ≡ true → ⊥) → b ≡ false
-        false_by false h = refl
-        false_by true h = absurd (h refl)
-
         rec : OnRecord
         rec = record { changes = machine.pending_at h.state tid server.0; covers = count; pending = pending_in (find_transaction book tid) (member_here work server) (inc_at book (record { 0 = own_node.0 })) }
 
         one : (s : ℕ) → machine.record_of (votes_on votes.Recoverable h.state) t s ≡ machine.record_of h.state t s
         one s = lookup_put_apart machine.voter_cmp (machine.voter tid server.0) rec (voter_equal (machine.voter tid server.0)) (is_at (machine.voter_cmp (machine.voter t s)))
-            (false_by _ (λ is. far.differ (sym (ap (λ (v : Voter). v.tid) (voter_exact (machine.voter t s) (machine.voter tid server.0) is))))) h.state.records
+            (false_from_ne_true _ (λ is. far.differ (sym (ap (λ (v : Voter). v.tid) (voter_exact (machine.voter t s) (machine.voter tid server.0) is))))) h.state.records
 
     records : (t : Tid) → Apart tid t → has_no_record h.state t ≡ true → has_no_record machine_on.next t ≡ true
     records t far none = of (recoverable ballot)
@@ -182,11 +150,8 @@ module _ (stamp : ℕ) (before : BookValue) (run : InRun before) (work new_work 
         records = λ home none unended. of home none unended (recoverable ballot);
       }
         where
-          never : true ≡ false → ⊥
-          never e = cc e
-
           of : p.engage.home ≡ true → p.outcome ≡ None → log.unended ≡ false → (ballot ≡ votes.Recoverable) ⊎ (ballot ≡ votes.Recoverable → ⊥) → has_no_record machine_on.next tid ≡ true
-          of home none unended (inl is) = absurd (never (sym (logs.0 is) ∙ unended))
+          of home none unended (inl is) = absurd (true≢false (sym (logs.0 is) ∙ unended))
           of home none unended (inr other) = plain_records stamp book own_node.0 act (plain ballot other) h.state machine_on.next h.there machine_on.there tid (was.records home none (sym (logs.1 other) ∙ unended))
 
       committed_on : (t : Tid) → CommittedOn node fresh t
@@ -204,8 +169,5 @@ module _ (stamp : ℕ) (before : BookValue) (run : InRun before) (work new_work 
   goes_voted = goes_entry stamp before run work new_work act setting_is committed_are grows sendings (λ fine inv causes_on h. of h (find_transaction book tid) refl ((h.at tid).stands p known) causes_on)
     where
       of : (h : HoldsBeside book node) (o : Option TransactionValue) → find_transaction book tid ≡ o → is_some (find_transaction book tid) ≡ true → ((t : Tid) (cause : Cause) → IsTrueCause book t cause → IsTrueCause new t cause) → HoldsBeside new fresh
-      of h None is there causes_on = absurd (no (sym (ap is_some is) ∙ there))
-        where
-          no : false ≡ true → ⊥
-          no e = cc e
+      of h None is there causes_on = absurd (false≢true (sym (ap is_some is) ∙ there))
       of h (Some tx) is there causes_on = voted_beside causes_on h tx is

@@ -1,31 +1,13 @@
 -- What the machine has beside the node goes on through each rule, so that a whole step is given what it needs of it, and keeps it.
-use Rattle.std.proofs.Common.{◌≡◌, ℕ, List, [], ◌∷◌, refl, ap, sym, subst, ◌∙◌, fold}
-use Rattle.std.specs.List.{list_any}
-use Rattle.qs_base.specs.Order.{same_tid}
+use Rattle.qs_world_lawful.proofs.Words.{◌≡◌, ℕ, List, [], ◌∷◌, refl, ap, sym, subst, ◌∙◌, fold, list_any, same_tid, Tid, Entry, BookValue, IsLawful, book_after, serve_next, due_tids, forget_rule, pass_rule, ready_rule, refuse_rule, settle, settle_tid, try, Work, work_on, after_step, happen, step_work, wait_on, waiting_clients, Event, AgreementGives, InRun, HoldsBeside, HasCountRoom, ComesTo, HoldsWork, book_at, entries_so_far, AtEach, MayAge, MayStep, done_work, first_work, tick_work, HoldsHomes}
+use Rattle.qs_world_lawful.proofs.Words.{KeepsStanding, Stands, StepOn, StepStands}
 use Rattle.qs_base.specs.declared.identifiers.Outcome.TheVariants as outcomes
-use Rattle.qs_base.specs.declared.identifiers.Tid.{Tid}
-use Rattle.qs_book_journal.specs.declared.entry.Entry.{Entry}
-use Rattle.qs_book_machine.specs.Book.{BookValue}
-use Rattle.qs_book_machine.specs.Lawful.{IsLawful, book_after}
 use Rattle.qs_packet.specs.declared.message.Message.TheVariants as messages
-use Rattle.qs_node_step.specs.Serving.{serve_next}
-use Rattle.qs_node_step.specs.Settling.{due_tids, forget_rule, pass_rule, ready_rule, refuse_rule, settle, settle_tid, try}
-use Rattle.qs_node_step.specs.State.{NodeValue, Work, work_on}
-use Rattle.qs_node_step.specs.Step.{after_step, happen, step_work, wait_on, waiting_clients}
-use Rattle.qs_node_step.specs.declared.event.Event.{Event}
+use Rattle.qs_node_step.specs.State.{NodeValue}
 use Rattle.qs_node_step.specs.declared.event.Event.TheVariants as events
-use Rattle.qs_world_lawful.specs.Agreed.{AgreementGives}
-use Rattle.qs_world_lawful.specs.Amid.{AreSent, InRun}
-use Rattle.qs_world_lawful.specs.Beside.{HoldsBeside}
-use Rattle.qs_world_lawful.specs.BesideStep.{AreCommitted, HappensSo, HasCountRoom}
-use Rattle.qs_world_lawful.specs.Coming.{ComesTo}
-use Rattle.qs_world_lawful.specs.Entering.{HoldsWork, book_at, entries_so_far}
-use Rattle.qs_world_lawful.specs.Given.{AtEach}
-use Rattle.qs_world_lawful.specs.GivenStep.{MayAge, MayStep, done_work, first_work, tick_work}
-use Rattle.qs_world_lawful.specs.Standing.{HoldsHomes, KeepsStanding, Stands}
+use Rattle.qs_world_lawful.specs.Amid.{AreSent}
+use Rattle.qs_world_lawful.specs.BesideStep.{AreCommitted, HappensSo}
 use Rattle.qs_world_lawful.specs.StandingOn.{BesideOn, KeepsBeside, StepBeside}
-use Rattle.qs_world_lawful.specs.StepOn.{StepOn}
-use Rattle.qs_world_lawful.specs.StepStands.{StepStands}
 use Rattle.qs_world_lawful.proofs.BesideCommands.{goes_wait}
 use Rattle.qs_world_lawful.proofs.BesideGoes.{Goes, beside_alike, goes_fold, goes_self, goes_then, goes_where, said_on}
 use Rattle.qs_world_lawful.proofs.BesideHappens.{goes_happens}

@@ -1,44 +1,16 @@
 -- A command of a client that does not own the transaction comes and is obeyed: as a whole.
-use Rattle.std.proofs.Common.{◌≡◌, ℕ, ◌==◌, Bool, true, false, List, [], ◌∷◌, Option, Some, None, refl, sym, ap, subst, ◌∙◌, arith, nat_lt}
-use Rattle.std.proofs.lemmas.Bool.Decides.{nat_tests}
-use Rattle.std.proofs.lemmas.Cmp.{tied_itself, nat_cmp_total}
-use Rattle.std.specs.Prelude.{not, ◌&&◌, ◌||◌, is_some, if◌then◌else◌}
-use Rattle.std.specs.List.{filter, list_any}
-use Rattle.std.specs.Map.{lookup}
-use Rattle.std.specs.BTreeMap.{is_at}
-use Rattle.qs_base.specs.Order.{same_tid}
-use Rattle.qs_base.specs.declared.identifiers.ClientNo.{ClientNo}
-use Rattle.qs_base.specs.declared.identifiers.Member.{Member}
-use Rattle.qs_base.specs.declared.identifiers.Tid.{Tid}
-use Rattle.qs_base.proofs.Same.{same_tid-self}
+use Rattle.qs_world_lawful.proofs.Words.{◌≡◌, ℕ, ◌==◌, Bool, true, false, List, [], ◌∷◌, Option, Some, None, refl, sym, ap, subst, ◌∙◌, nat_lt, true≢false, tied_itself, nat_cmp_total, not, ◌&&◌, is_some, if◌then◌else◌, filter, list_any, lookup, is_at, same_tid, ClientNo, Member, Tid, same_tid-self, Op, Command, ScriptLine, lookup_put, TransactionValue, is_commit, BookValue, find_transaction, Participant, last_taken, Begun, Lent, borrower_command, is_void, is_aborted, request_command, label_at}
+use Rattle.qs_world_lawful.proofs.Words.{Work, client_cmp, is_owner, labelled, obey, with_command, command_came, OpenCommand, is_loan_in, is_loan_here, IsBehind, HoldsWork, book_at, not-true, and_parts, or_last, eqb-self, some_same}
 use Rattle.qs_ipc.specs.Queue as queues
-use Rattle.qs_ops.specs.declared.operation.Op.{Op}
-use Rattle.qs_book_journal.specs.declared.script_line.Command.{Command}
 use Rattle.qs_book_journal.specs.declared.script_line.Command.TheVariants as commands
-use Rattle.qs_book_journal.specs.declared.script_line.ScriptLine.{ScriptLine}
-use Rattle.qs_book_laws.proofs.Maps.{lookup_put}
-use Rattle.qs_book_machine.specs.Transaction.{TransactionValue, is_commit}
-use Rattle.qs_book_machine.specs.Book.{BookValue, find_transaction}
 use Rattle.qs_tm.specs.Manager as tm
 use Rattle.qs_tm.specs.Outcomes.{is_abort}
-use Rattle.qs_tm.specs.declared.participant.Participant.{Participant}
-use Rattle.qs_node_kept.specs.Loans.{is_taken, last_taken}
-use Rattle.qs_node_kept.specs.declared.kept.KeptLabel.{KeptLabel}
-use Rattle.qs_node_kept.specs.declared.kept.Lent.{Lent}
-use Rattle.qs_node_step.specs.Borrowing.{borrower_command, is_void, is_aborted}
-use Rattle.qs_node_step.specs.Commands.{request_command}
-use Rattle.qs_node_step.specs.Serving.{label_at}
-use Rattle.qs_node_step.specs.State.{Work, client_cmp}
-use Rattle.qs_node_step.specs.Step.{is_owner, labelled, obey, with_command, command_came}
-use Rattle.qs_node_step.specs.declared.state.OpenCommand.{OpenCommand}
-use Rattle.qs_world_lawful.specs.Face.{is_loan_in, is_loan_here}
-use Rattle.qs_world_lawful.specs.Holds.{IsBehind}
-use Rattle.qs_world_lawful.specs.Entering.{HoldsWork, book_at}
-use Rattle.qs_world_lawful.proofs.Loans.{both, taken_of, last_is, later_is}
-use Rattle.qs_world_lawful.proofs.OwnersAnswers.{some_same}
+use Rattle.qs_node_kept.specs.Loans.{is_taken}
+use Rattle.qs_world_lawful.proofs.Loans.{taken_of, last_is, later_is}
 use Rattle.qs_world_lawful.proofs.Requesting.{by_borrowers_request}
 use Rattle.qs_world_lawful.proofs.Silent.{by_command}
 use Rattle.qs_world_lawful.proofs.Waiting.{by_borrower_command}
+use Rattle.qs_base_lemmas.proofs.Tests.{not_implied}
 
 -- ---- a present loan that stands is one of the transaction's that stand
 
@@ -51,10 +23,6 @@ module _ (client : ClientNo) (tid : Tid) (inc : ℕ) where
   present_stands [] last is free in_inc = absurd (cc is)
   present_stands (loan ∷ loans) last is free in_inc = by (is_taken client tid loan && not (is_some (last_taken client tid loans))) refl (present_stands loans last)
     where
-      turned : (b : Bool) → not b ≡ true → b ≡ false
-      turned true e = absurd (cc e)
-      turned false e = refl
-
       own : same_tid tid loan.tid ≡ true → (loan.client.0 == client.0) ≡ true → (loan.inc == inc) ≡ true → loan.yielded ≡ false → list_any stands (filter (is_loan_in tid) (loan ∷ loans)) ≡ true
       own p q r s = rw p (rw (q, r, s) refl)
 
@@ -66,14 +34,14 @@ module _ (client : ClientNo) (tid : Tid) (inc : ℕ) where
       by : (b : Bool) → (is_taken client tid loan && not (is_some (last_taken client tid loans))) ≡ b
           → (last_taken client tid loans ≡ Some last → last.yielded ≡ false → (last.inc == inc) ≡ true → list_any stands (filter (is_loan_in tid) loans) ≡ true) → list_any stands (filter (is_loan_in tid) (loan ∷ loans)) ≡ true
       by true this more =
-          let parts = both (is_taken client tid loan) (not (is_some (last_taken client tid loans))) this in
-          let it : loan ≡ last = last_is client tid loan last loans parts.0 (turned _ parts.1) is in
+          let parts = and_parts (is_taken client tid loan) (not (is_some (last_taken client tid loans))) this in
+          let it : loan ≡ last = last_is client tid loan last loans parts.0 (not-true _ parts.1) is in
           let of = taken_of client tid loan parts.0 in
           own (subst (λ (t : Tid). same_tid tid t ≡ true) (sym of.1) (same_tid-self tid)) of.0 (subst (λ (l : Lent). (l.inc == inc) ≡ true) (sym it) in_inc) (ap (λ (l : Lent). l.yielded) it ∙ free)
       by false this more = past (is_loan_in tid loan) refl (stands loan) refl (more (later_is client tid loan last loans this is) free in_inc)
 
 module _ (stamp : ℕ) (before : BookValue) (work : Work) (h : HoldsWork stamp before work) (line : ScriptLine) (free : lookup (is_at (client_cmp line.client)) work.node.commands ≡ None) (behind : IsBehind (book_at stamp before work) line.client line.line)
-    (begun : KeptLabel) (known : label_at line.label work.node ≡ Some begun) (tid : Tid) (of : begun.tid ≡ Some tid) (other : is_owner line.client begun.owner ≡ false) (small : nat_lt line.client.0 224 ≡ true) where
+    (begun : Begun) (known : label_at line.label work.node ≡ Some begun) (tid : Tid) (of : begun.tid ≡ Some tid) (other : is_owner line.client begun.owner ≡ false) (small : nat_lt line.client.0 224 ≡ true) where
   abbrev open_work : Work
   open_work = with_command line work
 
@@ -90,19 +58,13 @@ module _ (stamp : ℕ) (before : BookValue) (work : Work) (h : HoldsWork stamp b
   its : (c : OpenCommand) → lookup (is_at (client_cmp line.client)) open_work.node.commands ≡ Some c → c ≡ command
   its c is = some_same (sym is ∙ waits)
 
-  its_begun : (c : OpenCommand) (b : KeptLabel) → lookup (is_at (client_cmp line.client)) open_work.node.commands ≡ Some c → label_at c.line.label open_work.node ≡ Some b → b ≡ begun
+  its_begun : (c : OpenCommand) (b : Begun) → lookup (is_at (client_cmp line.client)) open_work.node.commands ≡ Some c → label_at c.line.label open_work.node ≡ Some b → b ≡ begun
   its_begun c b is labels = some_same (sym (subst (λ (x : OpenCommand). label_at x.line.label open_work.node ≡ Some b) (its c is) labels) ∙ known)
-
-  clash : true ≡ false → ⊥
-  clash e = cc e
-
-  itself : (n : ℕ) → (n == n) ≡ true
-  itself n = grind (arith, nat_tests)
 
   -- by its label it is not the owner's command
   by_label_at : (c : Command) → HoldsWork stamp before (borrower_command line.client tid c open_work)
       → HoldsWork stamp before (elim (label_at line.label work.node) [ None ↦ open_work | Some b ↦ labelled line.client b c open_work ])
-  by_label_at c held = subst (λ (o : Option KeptLabel). HoldsWork stamp before (elim o [ None ↦ open_work | Some b ↦ labelled line.client b c open_work ])) (sym known)
+  by_label_at c held = subst (λ (o : Option Begun). HoldsWork stamp before (elim o [ None ↦ open_work | Some b ↦ labelled line.client b c open_work ])) (sym known)
       (as_other (is_owner line.client begun.owner) other _ (subst (λ (o : Option Tid). HoldsWork stamp before (elim o [ None ↦ open_work | Some t ↦ borrower_command line.client t c open_work ])) (sym of) held))
     where
       as_other : (b : Bool) → b ≡ false → (owners : Work) → HoldsWork stamp before (elim begun.tid [ None ↦ open_work | Some t ↦ borrower_command line.client t c open_work ])
@@ -115,8 +77,8 @@ module _ (stamp : ℕ) (before : BookValue) (work : Work) (h : HoldsWork stamp b
       → HoldsWork stamp before (request_command line.client tid member op (with_command line work))) where
     by_its : (c : Command) → line.command ≡ c → HoldsWork stamp before (borrower_command line.client tid c open_work)
     by_its c is = by_borrower_command stamp before open_work came line.client small
-        (λ o b t is_open labels of_b owned. absurd (clash (sym (ap (is_owner line.client) (sym (ap (λ (x : KeptLabel). x.owner) (its_begun o b is_open labels)) ∙ owned) ∙ itself line.client.0) ∙ other)))
-        (λ o b t member op last is_open labels of_b unissued requested taken stood valid. at_tid t (some_same (sym of ∙ (sym (ap (λ (x : KeptLabel). x.tid) (its_begun o b is_open labels)) ∙ of_b))) member op last (sym (ap (λ (x : OpenCommand). x.line.command) (its o is_open)) ∙ requested) taken stood valid)
+        (λ o b t is_open labels of_b owned. absurd (true≢false (sym (ap (is_owner line.client) (sym (ap (λ (x : Begun). x.owner) (its_begun o b is_open labels)) ∙ owned) ∙ eqb-self line.client.0) ∙ other)))
+        (λ o b t member op last is_open labels of_b unissued requested taken stood valid. at_tid t (some_same (sym of ∙ (sym (ap (λ (x : Begun). x.tid) (its_begun o b is_open labels)) ∙ of_b))) member op last (sym (ap (λ (x : OpenCommand). x.line.command) (its o is_open)) ∙ requested) taken stood valid)
         command waits begun known other refl tid of c is
       where
         at_tid : (t : Tid) → tid ≡ t → (member : Member) (op : Op) (last : Lent) → line.command ≡ commands.Request member op → last_taken line.client t work.node.kept.now.loans ≡ Some last → last.yielded ≡ false → is_void t last work.node ≡ false
@@ -141,16 +103,8 @@ module _ (stamp : ℕ) (before : BookValue) (work : Work) (h : HoldsWork stamp b
       → (line.command ≡ commands.Begin → ⊥) → HoldsWork stamp before (command_came line work)
   by_borrower_came_here fits part has tx found still = by_borrower_came (λ member op last requested taken stood valid.
       by_borrowers_request stamp before open_work came line.client command waits (λ commits. differ member op (sym requested ∙ commits)) tid member op (fits member op requested).0 (fits member op requested).1 part has tx found small
-      (present_stands line.client tid work.node.setting.inc work.node.kept.now.loans last taken stood (left_of (last.inc == work.node.setting.inc) (is_aborted tid work.node) valid))
-      (λ aborted. clash (sym (ap (λ (o : Option Participant). elim o [ None ↦ false | Some p ↦ is_abort p.outcome ]) has ∙ ap is_abort aborted) ∙ right_of (not (last.inc == work.node.setting.inc)) (is_aborted tid work.node) valid)) still)
+      (present_stands line.client tid work.node.setting.inc work.node.kept.now.loans last taken stood (not_implied (last.inc == work.node.setting.inc) (is_aborted tid work.node) valid))
+      (λ aborted. true≢false (sym (ap (λ (o : Option Participant). elim o [ None ↦ false | Some p ↦ is_abort p.outcome ]) has ∙ ap is_abort aborted) ∙ or_last (not (last.inc == work.node.setting.inc)) (is_aborted tid work.node) valid)) still)
     where
       differ : (member : Member) (op : Op) → commands.Request member op ≡ commands.Commit → ⊥
       differ member op e = cc e
-
-      left_of : (a b : Bool) → (not a || b) ≡ false → a ≡ true
-      left_of true b e = refl
-      left_of false b e = absurd (cc e)
-
-      right_of : (a b : Bool) → (a || b) ≡ false → b ≡ false
-      right_of false b e = e
-      right_of true b e = absurd (cc e)

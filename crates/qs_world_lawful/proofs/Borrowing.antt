@@ -1,26 +1,13 @@
 -- A borrower takes a loan, and gives it back: each command as a whole, with its answer.
-use Rattle.std.proofs.Common.{◌≡◌, ℕ, ◌==◌, Bool, true, false, List, [], ◌∷◌, Option, Some, None, suc, refl, sym, ap, subst, ◌∙◌, length, nat_lt}
-use Rattle.std.specs.Prelude.{not, ◌||◌, if◌then◌else◌}
-use Rattle.std.specs.List.{filter}
-use Rattle.qs_base.specs.Order.{same_tid}
-use Rattle.qs_base.specs.declared.identifiers.ClientNo.{ClientNo}
-use Rattle.qs_base.specs.declared.identifiers.NodeNo.{NodeNo}
-use Rattle.qs_base.specs.declared.identifiers.Tid.{Tid}
-use Rattle.qs_base.proofs.Same.{same_tid-self}
+use Rattle.qs_world_lawful.proofs.Words.{◌≡◌, ℕ, ◌==◌, Bool, true, false, List, [], ◌∷◌, Option, Some, None, suc, refl, sym, ap, subst, ◌∙◌, length, nat_lt, true≢false, not, ◌||◌, if◌then◌else◌, filter, same_tid, ClientNo, NodeNo, Tid, same_tid-self, Command, TransactionValue, BookValue, find_transaction, first_untaken, take_first, last_taken, Lent, take, take_command, yield, lent_command, with_loan, loan_command, is_void, is_aborted, enter, Work, with_kept, with_doings, face_of, is_loan_in}
+use Rattle.qs_world_lawful.proofs.Words.{is_loan_here, is_given_back, HoldsTid, HoldsAt, IsAsking, HoldsWork, book_at}
 use Rattle.qs_ops.specs.declared.answer.Answer.TheVariants as answers
 use Rattle.qs_book_journal.specs.declared.entry.Act.TheVariants as acts
-use Rattle.qs_book_journal.specs.declared.script_line.Command.{Command}
 use Rattle.qs_book_journal.specs.declared.script_line.Command.TheVariants as commands
-use Rattle.qs_book_machine.specs.Transaction.{TransactionValue}
-use Rattle.qs_book_machine.specs.Book.{BookValue, find_transaction}
-use Rattle.qs_node_kept.specs.Loans.{is_untaken, is_taken, first_untaken, take_first, last_taken, give_back}
-use Rattle.qs_node_kept.specs.declared.kept.Lent.{Lent}
-use Rattle.qs_node_step.specs.Borrowing.{take, take_command, yield, lent_command, with_loan, loan_command, is_void, is_aborted}
-use Rattle.qs_node_step.specs.Bringing.{enter, answer}
-use Rattle.qs_node_step.specs.State.{Work, NodeValue, with_kept, with_doings}
-use Rattle.qs_world_lawful.specs.Face.{Face, face_of, is_loan_in, is_loan_here, is_given_back}
-use Rattle.qs_world_lawful.specs.Holds.{HoldsTid, HoldsAt, IsAsking}
-use Rattle.qs_world_lawful.specs.Entering.{HoldsWork, book_at}
+use Rattle.qs_node_kept.specs.Loans.{is_untaken, is_taken, give_back}
+use Rattle.qs_node_step.specs.Bringing.{answer}
+use Rattle.qs_node_step.specs.State.{NodeValue}
+use Rattle.qs_world_lawful.specs.Face.{Face}
 use Rattle.qs_world_lawful.proofs.Answers.{by_answer}
 use Rattle.qs_world_lawful.proofs.Frames.{held_on, clients_on}
 use Rattle.qs_world_lawful.proofs.Growing.{kept_on}
@@ -73,12 +60,9 @@ module _ (client : ClientNo) (tid : Tid) where
   last_none [] last is none = absurd (cc is)
   last_none (loan ∷ loans) last is none = by (is_loan_in tid loan) refl (last_none loans last) none
     where
-      clash : true ≡ false → ⊥
-      clash e = cc e
-
       untaken : is_loan_in tid loan ≡ false → (b : Bool) → is_taken client tid loan ≡ b → b ≡ false
       untaken out false so = refl
-      untaken out true so = absurd (clash (sym (subst (λ (t : Tid). same_tid tid t ≡ true) (sym (taken_of client tid loan so).1) (same_tid-self tid)) ∙ out))
+      untaken out true so = absurd (true≢false (sym (subst (λ (t : Tid). same_tid tid t ≡ true) (sym (taken_of client tid loan so).1) (same_tid-self tid)) ∙ out))
 
       by : (a : Bool) → is_loan_in tid loan ≡ a → (last_taken client tid loans ≡ Some last → filter (is_loan_in tid) loans ≡ [] → ⊥) → filter (is_loan_in tid) (loan ∷ loans) ≡ [] → ⊥
       by true so more e = absurd (cc (rw so at e))

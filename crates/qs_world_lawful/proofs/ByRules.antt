@@ -1,37 +1,16 @@
 -- A server that serves or votes by the rules of its kind does so lawfully: no more is asked of the entry.
-use Rattle.qs_world_lawful.specs.Waits.{IsWithin, waiting_ops, standing_ops}
-use Rattle.qs_base.specs.declared.identifiers.ServerNo.{ServerNo}
-use Rattle.qs_base.specs.declared.identifiers.Tid.{Tid}
-use Rattle.qs_engage.specs.Engage.{last_number}
+use Rattle.qs_world_lawful.proofs.Words.{IsWithin, waiting_ops, standing_ops, ServerNo, Tid, last_number, Delivery, HoldsWork, book_at, at_server, face_of, part_in, part_or_new, HoldsFiles, BookValue, find_transaction, is_reply, is_vote, broken, TransactionValue, has_note, is_commit, served_in, standing_request, Request, class_of, is_two_phase, reply_of, vote_of, server_at, Reply, Vote, enter_serve, lent_to, make_loan, Work, served_count, vote_frame, vote_with, awaits_note, has_noted, member_of}
+use Rattle.qs_world_lawful.proofs.Words.{Participant, entry_of, Bool, ◌∷◌, None, Option, Some, ap, false, refl, subst, sym, true, ℕ, ◌==◌, ◌∙◌, ◌≡◌, ◌≤◌, ◌⊎◌, eqb-true}
 use Rattle.qs_ipc.specs.Queue.{is_for}
-use Rattle.qs_ipc.specs.declared.delivery.Delivery.{Delivery}
 use Rattle.qs_world_lawful.proofs.Clauses.{may_serve, may_vote}
 use Rattle.qs_world_lawful.proofs.ServingFiled.{by_serving_filed}
 use Rattle.qs_world_lawful.proofs.VotingWhole.{by_vote_with}
-use Rattle.qs_world_lawful.specs.Entering.{HoldsWork, book_at}
-use Rattle.qs_world_lawful.specs.Face.{at_server, face_of, part_in, part_or_new, waiting_at}
-use Rattle.qs_world_lawful.specs.Filed.{HoldsFiles}
+use Rattle.qs_world_lawful.specs.Face.{waiting_at}
 use Rattle.qs_world_lawful.specs.Holds.{is_kept}
-use Rattle.qs_book_machine.specs.Book.{BookValue, find_transaction, is_done}
-use Rattle.qs_book_machine.specs.Clauses.{is_reply, is_vote, note_text}
-use Rattle.qs_book_machine.specs.Lawful.{broken}
-use Rattle.qs_book_machine.specs.Transaction.{TransactionValue, has_note, is_commit, served_in, standing_request}
-use Rattle.qs_book_machine.specs.declared.transaction.Request.{Request}
-use Rattle.qs_ops.specs.Members.{class_of, is_two_phase}
-use Rattle.qs_ops.specs.Server.{reply_of, vote_of}
-use Rattle.qs_node_servers.specs.Servers.{server_at}
-use Rattle.qs_world_lawful.proofs.Alike.{same}
+use Rattle.qs_book_machine.specs.Book.{is_done}
+use Rattle.qs_book_machine.specs.Clauses.{note_text}
 use Rattle.qs_world_lawful.proofs.NamesVote.{names_right}
 use Rattle.qs_world_lawful.proofs.VoteRules.{vote_is_right}
-use Rattle.qs_ops.specs.declared.reply.Reply.{Reply}
-use Rattle.qs_ops.specs.declared.vote.Vote.{Vote}
-use Rattle.qs_node_step.specs.Serving.{enter_serve, lent_to, make_loan}
-use Rattle.qs_node_step.specs.State.{Work}
-use Rattle.qs_node_step.specs.Voting.{served_count, vote_frame, vote_with}
-use Rattle.qs_tm.specs.Participant.{awaits_note, has_noted, member_of}
-use Rattle.qs_tm.specs.declared.participant.Participant.{Participant}
-use Rattle.qs_world.specs.Posting.{entry_of}
-use Rattle.std.proofs.Common.{Bool, ◌∷◌, None, Option, Some, ap, false, refl, subst, sym, true, ℕ, ◌==◌, ◌∙◌, ◌≡◌, ◌≤◌, ◌⊎◌}
 use Rattle.qs_book_journal.specs.declared.entry.Act.TheVariants as acts
 use Rattle.qs_ops.specs.Servers as numbers
 use Rattle.qs_tm.specs.Manager as tm
@@ -63,7 +42,7 @@ module _ (stamp : ℕ) (before : BookValue) (work : Work) (tid : Tid) (part : Pa
       of : (b : Bool) → (server.0 == numbers.names_no) ≡ b → is_vote h.holds.state tid tx (at_server work.node.setting.node server) (vote_of (server_at work.node.servers server) tid work.room (vote_frame work)) ≡ true
       of false is = vote_is_right stamp (book_at stamp before work) work.node h.holds tid tx found server kept two is work.room
       of true is = subst (λ (n : ℕ). is_vote h.holds.state tid tx (at_server work.node.setting.node (record { 0 = n })) (vote_of (server_at work.node.servers (record { 0 = n })) tid work.room (vote_frame work)) ≡ true)
-          (sym (same server.0 numbers.names_no is)) (names_right stamp (book_at stamp before work) work.node h.holds tid tx found work.room)
+          (sym (eqb-true server.0 numbers.names_no is)) (names_right stamp (book_at stamp before work) work.node h.holds tid tx found work.room)
 
 -- a member serves by the rules what stands there, where no outcome is known
 pub by_serving_rules : (stamp : ℕ) (before : BookValue) (work : Work) (server : ServerNo) (delivery : Delivery) (reply : Reply) (part : Participant) (tx : TransactionValue) → (h : HoldsWork stamp before work) → HoldsFiles work.node.servers

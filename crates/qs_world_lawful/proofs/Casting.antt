@@ -1,29 +1,13 @@
 -- A vote and a notice leave the machine and its node with the same of a member.
-use Rattle.std.proofs.Common.{◌≡◌, ℕ, ◌+◌, ◌==◌, ◌≤◌, Bool, true, false, List, [], ◌∷◌, Option, Some, None, Less, Equal, Greater, refl, sym, ap, ◌∙◌, arith, nat_lt}
-use Rattle.std.proofs.lemmas.Bool.Decides.{nat_tests}
-use Rattle.std.specs.Prelude.{not, ◌&&◌, ◌||◌, unwrap_or}
-use Rattle.std.specs.List.{list_any}
-use Rattle.std.specs.Map.{lookup}
-use Rattle.std.specs.BTreeMap.{is_at}
-use Rattle.std.specs.BTreeSet.{insert_key}
-use Rattle.std.specs.declared.cmp.Ordering.{Ordering}
-use Rattle.qs_base.specs.declared.identifiers.Class.{Class}
+use Rattle.qs_world_lawful.proofs.Words.{◌≡◌, ℕ, ◌+◌, ◌==◌, Bool, true, false, List, [], ◌∷◌, Option, Some, None, Less, Equal, Greater, refl, sym, ap, ◌∙◌, arith, nat_lt, le_refl, nat_tests, not, ◌&&◌, ◌||◌, unwrap_or, list_any, lookup, is_at, insert_key, Ordering, Class, Member, Outcome, class_of, is_two_phase, learns_outcome, Vote, TransactionValue, no_part, life, life_cmp, is_covering, is_start, may_learn_still, voted_part, voted, starts_after, start_cmp, learnt, learnt_part, changed_value}
+use Rattle.qs_world_lawful.proofs.Words.{Life, Part, Start, MemberPart, HoldsVoter, HoldsMember, lookup_changed, eqb-self, and_false, or-true}
 use Rattle.qs_base.specs.declared.identifiers.Class.TheVariants as classes
-use Rattle.qs_base.specs.declared.identifiers.Member.{Member}
-use Rattle.qs_base.specs.declared.identifiers.Outcome.{Outcome}
 use Rattle.qs_base.specs.declared.identifiers.Outcome.TheVariants as outcomes
-use Rattle.qs_ops.specs.Members.{class_of, is_two_phase, learns_outcome}
-use Rattle.qs_ops.specs.declared.vote.Vote.{Vote}
 use Rattle.qs_ops.specs.declared.vote.Vote.TheVariants as votes
-use Rattle.qs_book_machine.specs.Transaction.{TransactionValue, part_of, no_part, life, life_cmp, is_covering, is_start, may_learn_still, voted_part, voted, starts_after, start_cmp, learnt, learnt_part, changed_value}
-use Rattle.qs_book_machine.specs.declared.transaction.Life.{Life}
-use Rattle.qs_book_machine.specs.declared.transaction.Part.{Part}
-use Rattle.qs_book_machine.specs.declared.transaction.Start.{Start}
-use Rattle.qs_tm.specs.declared.members.MemberPart.{MemberPart}
+use Rattle.qs_book_machine.specs.Transaction.{part_of}
 use Rattle.qs_tm.specs.Members as rules
-use Rattle.qs_world_lawful.specs.Holds.{HoldsVoter, HoldsMember}
-use Rattle.qs_book_laws.proofs.Maps.{lookup_changed}
-use Rattle.qs_world_lawful.proofs.Served.{and_false, not_let_go}
+use Rattle.qs_world_lawful.proofs.Served.{not_let_go}
+use Rattle.qs_base_lemmas.proofs.Tests.{ltb_apart}
 
 -- ---- a vote
 
@@ -42,9 +26,6 @@ some_part tx member inc due = by (lookup (is_at (life_cmp (life member inc))) tx
 changed_part : (f : Part → Part) (tx : TransactionValue) (member : Member) (inc : ℕ) (part : Part) → lookup (is_at (life_cmp (life member inc))) tx.parts ≡ Some part
     → unwrap_or (lookup (is_at (life_cmp (life member inc))) (changed_value (is_at (life_cmp (life member inc))) f tx.parts)) no_part ≡ f part
 changed_part f tx member inc part is = ap (λ (o : Option Part). unwrap_or o no_part) (lookup_changed (is_at (life_cmp (life member inc))) f tx.parts part is)
-
-same_number : (n : ℕ) → (n == n) ≡ true
-same_number n = grind (arith, nat_tests)
 
 not_less : (n : ℕ) → nat_lt n n ≡ false
 not_less n = grind (arith, nat_tests)
@@ -67,28 +48,22 @@ found_is votes.ReadOnly part = refl
 found_is votes.Volatile part = refl
 found_is votes.Recoverable part = refl
 
-at_most_itself : (n : ℕ) → n ≤ n
-at_most_itself n = grind arith
-
 cast_voter : (ballot : Vote) (part : Part) (m : MemberPart) → HoldsVoter (voted_part ballot part) (cast ballot m)
 cast_voter ballot part m = record {
-  covers = at_most_itself m.served;
-  is_due = rw (voted_is ballot part, served_is ballot part, not_less part.served, same_number m.served) refl;
+  covers = le_refl m.served;
+  is_due = rw (voted_is ballot part, served_is ballot part, not_less part.served, eqb-self m.served) refl;
 }
 
 -- a vote that was due: what was to be told of still is, unless the vote is read-only
 voter_fresh : (part : Part) (m : MemberPart) → nat_lt part.voted part.served ≡ true → HoldsVoter part m → may_learn_still part ≡ (m.fresh && not (rules.is_let_go m)) → part.due ≡ m.fresh
 voter_fresh part m due h same =
     let open_vote : rules.is_covering m ≡ false = turned (rules.is_covering m) (sym due ∙ h.is_due) in
-    let apart : (part.voted == part.served) ≡ false = differ part.voted part.served due in
+    let apart : (part.voted == part.served) ≡ false = ltb_apart part.voted part.served due in
     kept part.due m.fresh part.read_only (part.voted == part.served) (rules.is_let_go m) apart (not_let_go m.served m.fresh m.vote open_vote) same
   where
     turned : (b : Bool) → true ≡ not b → b ≡ false
     turned true h = absurd (cc h)
     turned false h = refl
-
-    differ : (a b : ℕ) → nat_lt a b ≡ true → (a == b) ≡ false
-    differ a b h = grind (arith, nat_tests, h)
 
     kept : (a b x v g : Bool) → v ≡ false → g ≡ false → (a && not (x && v)) ≡ (b && not g) → a ≡ b
     kept true true x v g ev eg h = refl
@@ -102,12 +77,8 @@ pub any_insert : {K : Type 0} (cmp : K → K → Ordering) (p : K → Bool) (k :
 any_insert cmp p k [] h = absurd (cc h)
 any_insert cmp p k (x ∷ xs) h = by (cmp k x) refl (p x) refl (any_insert cmp p k xs)
   where
-    or_true : (a : Bool) → (a || true) ≡ true
-    or_true true = refl
-    or_true false = refl
-
     by : (r : Ordering) → cmp k x ≡ r → (b : Bool) → p x ≡ b → (list_any p xs ≡ true → list_any p (insert_key cmp xs k) ≡ true) → list_any p (insert_key cmp (x ∷ xs) k) ≡ true
-    by Less is b has more = rw is (rw h (or_true (p k)))
+    by Less is b has more = rw is (rw h (or-true (p k)))
     by Equal is b has more = rw is h
     by Greater is true has more = rw (is, has) refl
     by Greater is false has more = rw (is, has) (more (rw has at h))
@@ -119,7 +90,7 @@ starts_grow votes.Volatile at n p starts h = h
 starts_grow votes.Recoverable at n p starts h = h
 
 plain : (a b x : Bool) (n k : ℕ) → a ≡ b → (a && not (x && (n == n))) ≡ (b && not (x && (k == k)))
-plain a b x n k same = rw (same_number n, same_number k) (ap (λ (c : Bool). c && not (x && true)) same)
+plain a b x n k same = rw (eqb-self n, eqb-self k) (ap (λ (c : Bool). c && not (x && true)) same)
 
 ballot_learns : (ballot : Vote) (part : Part) (m : MemberPart) → part.due ≡ m.fresh → may_learn_still (voted_part ballot part) ≡ ((cast ballot m).fresh && not (rules.is_let_go (cast ballot m)))
 ballot_learns (votes.Abort reason) part m same = plain part.due m.fresh false part.served m.served same
@@ -167,7 +138,7 @@ module _ (tx : TransactionValue) (member : Member) (inc : ℕ) (ballot : Vote) (
   pub voted_member : HoldsMember (voted member inc ballot tx) member inc (cast ballot m)
   voted_member = record {
     covers = λ both. covers_still;
-    voted = rw (part_voted, voted_is ballot (part_of tx member inc), served_is ballot (part_of tx member inc)) (at_most_itself (part_of tx member inc).served);
+    voted = rw (part_voted, voted_is ballot (part_of tx member inc), served_is ballot (part_of tx member inc)) (le_refl (part_of tx member inc).served);
     votes = λ both. rw part_voted (cast_voter ballot (part_of tx member inc) m);
     learns = λ told. rw part_voted (cast_learns (class_of member.server.0) ballot (part_of tx member inc) m two (fresh_of (class_of member.server.0) (part_of tx member inc) m two due (h.votes two) h.learns));
     ends = λ is. absurd (no_ending (class_of member.server.0) two is);

@@ -1,37 +1,15 @@
 -- When an act of a node that runs is a lawful step: each clause, from what the machine and the node hold alike.
-use Rattle.std.proofs.Common.{◌≡◌, ◌≢◌, ℕ, ◌+◌, ◌==◌, ◌≤◌, Bool, true, false, List, Option, Some, None, refl, sym, ap, subst, ◌∙◌, arith, nat_lt}
-use Rattle.std.proofs.lemmas.Bool.Decides.{nat_tests}
-use Rattle.std.specs.Prelude.{not, ◌&&◌, ◌||◌, slice_get, is_some, is_none, if◌then◌else◌, nat_le}
-use Rattle.std.specs.List.{list_any}
-use Rattle.qs_base.specs.declared.identifiers.ClientNo.{ClientNo}
-use Rattle.qs_base.specs.declared.identifiers.Member.{Member}
-use Rattle.qs_base.specs.declared.identifiers.NodeNo.{NodeNo}
-use Rattle.qs_base.specs.declared.identifiers.Outcome.{Outcome}
+use Rattle.qs_world_lawful.proofs.Words.{◌≡◌, ◌≢◌, ℕ, ◌+◌, ◌==◌, ◌≤◌, Bool, true, false, List, Option, Some, None, refl, sym, ap, subst, ◌∙◌, arith, nat_lt, nat_tests, not, ◌&&◌, ◌||◌, slice_get, is_some, is_none, if◌then◌else◌, nat_le, list_any, ClientNo, Member, NodeNo, Outcome, ServerNo, Tid, class_of, is_two_phase, learns_outcome, Answer, Reply, Vote, Act, TransactionValue, is_open, is_commit, is_covering, learnt_abort, standing_request, sent_in, sent_on, may_learn_still, Request, BookValue}
+use Rattle.qs_world_lawful.proofs.Words.{find_transaction, is_fresh, is_reply, is_vote, is_known, broken, broken_node, broken_act, Owner, peer_of, member_of, Participant, entry_of, is_held, face_of, part_in, at_server, Holds, HoldsTid, HoldsAt, eqb-self}
 use Rattle.qs_base.specs.declared.identifiers.Outcome.TheVariants as outcomes
-use Rattle.qs_base.specs.declared.identifiers.ServerNo.{ServerNo}
-use Rattle.qs_base.specs.declared.identifiers.Tid.{Tid}
-use Rattle.qs_ops.specs.Members.{class_of, is_two_phase, learns_outcome}
-use Rattle.qs_ops.specs.declared.answer.Answer.{Answer}
-use Rattle.qs_ops.specs.declared.reply.Reply.{Reply}
-use Rattle.qs_ops.specs.declared.vote.Vote.{Vote}
-use Rattle.qs_book_journal.specs.declared.entry.Act.{Act}
 use Rattle.qs_book_journal.specs.declared.entry.Act.TheVariants as acts
-use Rattle.qs_book_machine.specs.Transaction.{TransactionValue, is_open, is_commit, is_covering, part_of, learnt_abort, standing_request, sent_in, sent_on, may_learn_still}
-use Rattle.qs_book_machine.specs.declared.transaction.Request.{Request}
-use Rattle.qs_book_machine.specs.Book.{BookValue, find_transaction}
-use Rattle.qs_book_machine.specs.Clauses.{is_fresh, is_reply, is_vote, is_known, waits_for, earlier_servers}
-use Rattle.qs_book_machine.specs.Lawful.{broken, broken_node, broken_act}
+use Rattle.qs_book_machine.specs.Transaction.{part_of}
+use Rattle.qs_book_machine.specs.Clauses.{waits_for, earlier_servers}
 use Rattle.qs_book_machine.specs.Nodes as machine
-use Rattle.qs_book_machine.specs.declared.state.Owner.{Owner}
-use Rattle.qs_engage.specs.Engage.{peer_of}
-use Rattle.qs_tm.specs.Participant.{member_of}
 use Rattle.qs_tm.specs.Manager as tm
-use Rattle.qs_tm.specs.declared.participant.Participant.{Participant}
 use Rattle.qs_node_step.specs.State.{NodeValue}
 use Rattle.qs_tm.specs.Members as rules
-use Rattle.qs_world.specs.Posting.{entry_of}
-use Rattle.qs_world_lawful.specs.Face.{is_held, face_of, part_in, at_server}
-use Rattle.qs_world_lawful.specs.Holds.{Holds, HoldsTid, HoldsAt, is_kept}
+use Rattle.qs_world_lawful.specs.Holds.{is_kept}
 
 -- ---- clauses 1 and 2
 
@@ -151,11 +129,8 @@ module _ (stamp : ℕ) (book : BookValue) (node : NodeValue) (h : Holds stamp bo
         → broken book (entry_of node.setting.node.0 stamp (acts.Vote tid (at_server node.setting.node server) ballot (member_of (part_in (face_of node tid)) server).served)) ≡ None
     may_vote server ballot kept two asked still due right =
         lawful_act (acts.Vote tid (at_server node.setting.node server) ballot (member_of (part_in (face_of node tid)) server).served) (λ state. refl)
-        (rw found (allowed _ _ _ _ _ _ _ two (itself node.setting.node.0) (of_tid.asked asked) still open_vote covers right))
+        (rw found (allowed _ _ _ _ _ _ _ two (eqb-self node.setting.node.0) (of_tid.asked asked) still open_vote covers right))
       where
-        itself : (n : ℕ) → (n == n) ≡ true
-        itself n = grind (arith, nat_tests)
-
         open_vote : nat_lt (part_of tx (at_server node.setting.node server) h.state.inc).voted (part_of tx (at_server node.setting.node server) h.state.inc).served ≡ true
         open_vote =
             ap (λ inc. nat_lt (part_of tx (at_server node.setting.node server) inc).voted (part_of tx (at_server node.setting.node server) inc).served) h.same.inc
@@ -177,11 +152,8 @@ module _ (stamp : ℕ) (book : BookValue) (node : NodeValue) (h : Holds stamp bo
         → broken book (entry_of node.setting.node.0 stamp (acts.Learn tid (at_server node.setting.node server) outcome)) ≡ None
     may_learn server outcome kept known knows told due first =
         lawful_act (acts.Learn tid (at_server node.setting.node server) outcome) (λ state. refl)
-        (rw found (allowed _ _ _ _ _ _ (of_tid.outcome outcome knows) (itself node.setting.node.0) told still first))
+        (rw found (allowed _ _ _ _ _ _ (of_tid.outcome outcome knows) (eqb-self node.setting.node.0) told still first))
       where
-        itself : (n : ℕ) → (n == n) ≡ true
-        itself n = grind (arith, nat_tests)
-
         still : may_learn_still (part_of tx (at_server node.setting.node server) h.state.inc) ≡ true
         still = ap (λ inc. may_learn_still (part_of tx (at_server node.setting.node server) inc)) h.same.inc ∙ ((of_tid.members (known_held known) server kept).learns told ∙ due)
 

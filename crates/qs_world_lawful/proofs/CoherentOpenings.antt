@@ -1,46 +1,27 @@
 -- What the logs of an opening hold is what the laws want of an opening.
-use Rattle.std.proofs.Common.{◌≡◌, ℕ, ◌+◌, ◌<◌, ◌==◌, ◌&&◌, ◌||◌, not, zero, suc, Bool, true, false, List, [], ◌∷◌, map, flat_map, Option, Some, None, fold, refl, sym, ap, subst, arith, if◌then◌else◌, nat_lt}
-use Rattle.std.proofs.lemmas.Bool.Decides.{nat_tests}
-use Rattle.std.specs.Prelude.{slice_get}
-use Rattle.std.specs.List.{All, filter, list_all, list_any}
+use Rattle.qs_world_lawful.proofs.Words.{◌≡◌, ℕ, ◌+◌, ◌<◌, ◌==◌, ◌&&◌, ◌||◌, not, zero, suc, Bool, true, false, List, [], ◌∷◌, map, flat_map, Option, Some, None, fold, refl, sym, ap, subst, arith, if◌then◌else◌, nat_lt, nat_tests, slice_get, filter, list_all, list_any, NodeNo, Tid, IsCoherent, is_among, Opened, Pending, Op, Record, Prepared, Recovery, found_record, is_in_doubt, is_untold_of, is_vote_of, mark_committed, names_transaction, nothing_said, prepare_of, recovery, with_list, recovered_of}
+use Rattle.qs_world_lawful.proofs.Words.{opened_from, opened_with, pending_of, IsOpening, is_earlier, is_record, Opening, Every, ltb-true, lt-ltb, and_parts, eqb_turned, is_plus_zero, zero_plus}
+use Rattle.std.specs.List.{All}
 use Rattle.std.proofs.lemmas.List.Elements.{All-cons, All-nil}
-use Rattle.qs_base.specs.declared.identifiers.NodeNo.{NodeNo}
-use Rattle.qs_base.specs.declared.identifiers.Tid.{Tid}
-use Rattle.qs_book_laws.specs.Laws.{HasNoCommit, IsCoherent, IsEarlier, IsSound, IsVoteEarlier}
-use Rattle.qs_book_machine.specs.Restart.{is_among}
-use Rattle.qs_book_machine.specs.declared.opened.Opened.{Opened}
-use Rattle.qs_book_machine.specs.declared.opened.Pending.{Pending}
-use Rattle.qs_ops.specs.declared.operation.Op.{Op}
-use Rattle.qs_record.specs.declared.record.Record.{Record}
+use Rattle.qs_book_laws.specs.Laws.{HasNoCommit, IsEarlier, IsSound, IsVoteEarlier}
 use Rattle.qs_record.specs.declared.record.Record.TheVariants as records
-use Rattle.qs_restart.specs.Recovery.{Prepared, Recovery, found_record, is_in_doubt, is_of, is_untold_of, is_vote_of, mark_committed, names_transaction, nothing_said, prepare_of, recovery, with_list}
-use Rattle.qs_node_step.specs.Opening.{recovered_of}
-use Rattle.qs_world.specs.Histories.{opened_from, opened_with, pending_of}
-use Rattle.qs_world.specs.Openings.{IsOpening, are_unended, each_below, is_doubt, is_earlier, is_record}
-use Rattle.qs_world.specs.World.{Opening}
-use Rattle.qs_world_lawful.specs.Logs.{Every}
+use Rattle.qs_restart.specs.Recovery.{is_of}
+use Rattle.qs_world.specs.Openings.{are_unended, each_below, is_doubt}
 use Rattle.qs_world_lawful.proofs.LogFrames.{every_on}
 use Rattle.qs_world_lawful.proofs.LogRecords.{every_append, every_filter, every_map}
-
-and_both : (a b : Bool) → (a && b) ≡ true → (a ≡ true) × (b ≡ true)
-and_both true b e = (refl, e)
-and_both false b e = absurd (cc e)
 
 pub each_is : (n : ℕ) (test : ℕ → Bool) → each_below n test ≡ true → (k : ℕ) → k < n → test k ≡ true
 each_is zero test all k low = absurd (none low)
   where
     none : {m : ℕ} → m < 0 → ⊥
     none {m} e = grind (arith, e)
-each_is (suc n) test all k low = by (k == n) refl (λ less. each_is n test (and_both (test n) _ all).1 k less)
+each_is (suc n) test all k low = by (k == n) refl (λ less. each_is n test (and_parts (test n) _ all).1 k less)
   where
-    no_is : (a b : ℕ) → (a == b) ≡ true → b ≡ a
-    no_is a b e = grind (arith, nat_tests, e)
-
     fewer : (a b : ℕ) → a < suc b → (a == b) ≡ false → a < b
     fewer a b e f = grind (arith, nat_tests, e, f)
 
     by : (b : Bool) → (k == n) ≡ b → (k < n → test k ≡ true) → test k ≡ true
-    by true e more = subst (λ (m : ℕ). test m ≡ true) (no_is k n e) (and_both (test n) _ all).0
+    by true e more = subst (λ (m : ℕ). test m ≡ true) (eqb_turned k n e) (and_parts (test n) _ all).0
     by false e more = more (fewer k n low e)
 
 -- ---- what holds of each record's transaction holds of what the log says
@@ -91,7 +72,7 @@ module _ (P : Tid → Type 0) where
 
 pub every_of : {A : Type 0} (p : A → Bool) (xs : List A) → list_all p xs ≡ true → Every (λ (x : A). p x ≡ true) xs
 every_of p [] all = tt
-every_of p (x ∷ xs) all = ((and_both (p x) _ all).0, every_of p xs (and_both (p x) _ all).1)
+every_of p (x ∷ xs) all = ((and_parts (p x) _ all).0, every_of p xs (and_parts (p x) _ all).1)
 
 pub all_of : {A : Type 0} (P : A → Type 0) (xs : List A) → Every P xs → All P xs
 all_of P [] all = All-nil P
@@ -104,11 +85,8 @@ opened_at : (o : Opening) (n more k : ℕ) (one : Opened) → slice_get (opened_
 opened_at o n zero k one is = absurd (cc is)
 opened_at o n (suc more) zero one is = (grind (arith), here)
   where
-    same : (a : ℕ) → a ≡ a + 0
-    same a = grind (arith)
-
     here : one ≡ opened_with (o.settings (n + 0)) (recovered_of (o.logs (n + 0)))
-    here = subst (λ (m : ℕ). one ≡ opened_with (o.settings m) (recovered_of (o.logs m))) (same n) (ap (λ (x : Option Opened). elim x [ None ↦ one | Some y ↦ y ]) (sym is))
+    here = subst (λ (m : ℕ). one ≡ opened_with (o.settings m) (recovered_of (o.logs m))) (is_plus_zero n) (ap (λ (x : Option Opened). elim x [ None ↦ one | Some y ↦ y ]) (sym is))
 opened_at o n (suc more) (suc k) one is =
     let p = opened_at o (n + 1) more k one is in
     (higher p.0, subst (λ (m : ℕ). one ≡ opened_with (o.settings m) (recovered_of (o.logs m))) (same n k) p.1)
@@ -123,9 +101,6 @@ module _ (o : Opening) (opens : IsOpening o) where
   abbrev opened : List Opened
   opened = opened_from o 0 o.size
 
-  zero_plus : (k : ℕ) → 0 + k ≡ k
-  zero_plus k = grind (arith)
-
   pub opened_is : (k : ℕ) (one : Opened) → slice_get opened k ≡ Some one → (k < o.size) × (one ≡ opened_with (o.settings k) (recovered_of (o.logs k)))
   opened_is k one is =
       let p = opened_at o 0 o.size k one is in
@@ -135,22 +110,16 @@ module _ (o : Opening) (opens : IsOpening o) where
   earlier : (tid : Tid) → is_earlier o tid ≡ true → IsEarlier opened tid
   earlier tid is home there =
       let p = opened_is tid.home.0 home there in
-      subst (λ (x : Opened). tid.inc < x.inc) (sym p.1) (less tid.inc (o.settings tid.home.0).inc (of (nat_lt tid.home.0 o.size) (in_run tid.home.0 o.size p.0) is))
+      subst (λ (x : Opened). tid.inc < x.inc) (sym p.1) (ltb-true tid.inc (o.settings tid.home.0).inc (of (nat_lt tid.home.0 o.size) (lt-ltb tid.home.0 o.size p.0) is))
     where
-      less : (a b : ℕ) → nat_lt a b ≡ true → a < b
-      less a b e = grind (arith, nat_tests, e)
-
-      in_run : (a b : ℕ) → a < b → nat_lt a b ≡ true
-      in_run a b e = grind (arith, nat_tests, e)
-
       of : (b : Bool) → b ≡ true → (not b || nat_lt tid.inc (o.settings tid.home.0).inc) ≡ true → nat_lt tid.inc (o.settings tid.home.0).inc ≡ true
       of true e h = h
       of false e h = absurd (cc e)
 
   module _ (n : ℕ) (low : n < o.size) where
     record_earlier : (rec : Record) → is_record o n rec ≡ true → is_earlier o (tid_of rec) ≡ true
-    record_earlier (records.Prepare tid server covers changes) is = (and_both (is_earlier o tid) _ is).0
-    record_earlier (records.Commit tid told) is = (and_both (is_earlier o tid) _ is).0
+    record_earlier (records.Prepare tid server covers changes) is = (and_parts (is_earlier o tid) _ is).0
+    record_earlier (records.Commit tid told) is = (and_parts (is_earlier o tid) _ is).0
     record_earlier (records.Aborted tid) is = is
     record_earlier (records.End tid) is = is
 
@@ -174,7 +143,7 @@ module _ (o : Opening) (opens : IsOpening o) where
       committed = all_of (IsEarlier opened) log.committed (every_on (λ (tid : Tid). is_earlier o tid ≡ true) (IsEarlier opened) earlier log.committed says.commits);
       pending = pending_all (IsVoteEarlier opened) log.prepared (every_on (λ (v : Prepared). is_earlier o v.tid ≡ true) _ (λ v is doubt. earlier v.tid is) log.prepared says.votes);
       apart = pending_all (HasNoCommit (opened_with (o.settings n) (recovered_of (o.logs n)))) log.prepared
-          (every_on (λ (v : Prepared). is_doubt log v ≡ true) _ far log.prepared (every_of (is_doubt log) log.prepared (and_both (list_all (is_doubt log) log.prepared) _ (each_is o.size (λ m. are_unended (recovery (o.logs m))) opens.unended n low)).0));
+          (every_on (λ (v : Prepared). is_doubt log v ≡ true) _ far log.prepared (every_of (is_doubt log) log.prepared (and_parts (list_all (is_doubt log) log.prepared) _ (each_is o.size (λ m. are_unended (recovery (o.logs m))) opens.unended n low)).0));
     }
       where
         far : (v : Prepared) → is_doubt log v ≡ true → is_in_doubt v ≡ true → is_among log.committed v.tid ≡ false

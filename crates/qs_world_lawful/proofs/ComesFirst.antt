@@ -1,41 +1,13 @@
 -- What comes as it is given before the first step of an incarnation comes so after it.
-use Rattle.std.proofs.Common.{◌≡◌, ◌==◌, ℕ, List, [], ◌∷◌, ◌++◌, refl, ap, sym, subst, ◌∙◌, nat_lt}
-use Rattle.std.specs.BTreeMap.{is_at}
-use Rattle.std.specs.List.{filter}
-use Rattle.std.specs.Map.{lookup}
-use Rattle.std.specs.Prelude.{slice_get}
-use Rattle.qs_base.specs.declared.identifiers.ClientNo.{ClientNo}
-use Rattle.qs_base.specs.declared.identifiers.NodeNo.{NodeNo}
-use Rattle.qs_base.specs.declared.identifiers.Tid.{Tid}
+use Rattle.qs_world_lawful.proofs.Words.{◌≡◌, ◌==◌, ℕ, List, [], ◌∷◌, ◌++◌, refl, ap, sym, subst, ◌∙◌, nat_lt, is_at, filter, lookup, slice_get, ClientNo, NodeNo, Tid, IpcValue, queue_at, Delivery, ScriptLine, BookValue, is_fresh, TransactionValue, Owner, RequestNo, Op, Message, serve_next, Work, client_cmp, work_on, Event, Setting, OpenCommand, InRun, ComesLine, ComesMessage, ComesTo, HoldsWork, book_at, entries_so_far, AtEach, first_work, FitsEvent, GoesTo, CanCount, IsWithin, standing_ops}
+use Rattle.qs_world_lawful.proofs.Words.{waiting_ops}
 use Rattle.qs_ipc.specs.Ipc as ipc
-use Rattle.qs_ipc.specs.Ipc.{IpcValue, queue_at}
 use Rattle.qs_ipc.specs.Queue.{is_of}
-use Rattle.qs_ipc.specs.declared.delivery.Delivery.{Delivery}
-use Rattle.qs_book_journal.specs.declared.script_line.ScriptLine.{ScriptLine}
-use Rattle.qs_book_machine.specs.Book.{BookValue}
-use Rattle.qs_book_machine.specs.Clauses.{is_fresh}
-use Rattle.qs_book_machine.specs.Transaction.{TransactionValue}
-use Rattle.qs_book_machine.specs.declared.state.Owner.{Owner}
-use Rattle.qs_book_machine.specs.declared.transaction.RequestNo.{RequestNo}
-use Rattle.qs_ops.specs.declared.operation.Op.{Op}
-use Rattle.qs_packet.specs.declared.message.Message.{Message}
 use Rattle.qs_packet.specs.declared.message.Message.TheVariants as messages
-use Rattle.qs_node_step.specs.Serving.{serve_next}
-use Rattle.qs_node_step.specs.State.{NodeValue, Work, client_cmp, work_on}
-use Rattle.qs_node_step.specs.declared.event.Event.{Event}
+use Rattle.qs_node_step.specs.State.{NodeValue}
 use Rattle.qs_node_step.specs.declared.event.Event.TheVariants as events
-use Rattle.qs_node_step.specs.declared.setting.Setting.{Setting}
-use Rattle.qs_node_step.specs.declared.state.OpenCommand.{OpenCommand}
-use Rattle.qs_world_lawful.specs.Amid.{InRun}
-use Rattle.qs_world_lawful.specs.Coming.{ComesBehind, ComesLine, ComesMessage, ComesTo}
-use Rattle.qs_world_lawful.specs.Entering.{HoldsWork, book_at, entries_so_far}
+use Rattle.qs_world_lawful.specs.Coming.{ComesBehind}
 use Rattle.qs_world_lawful.specs.Face.{waiting_at}
-use Rattle.qs_world_lawful.specs.Given.{AtEach}
-use Rattle.qs_world_lawful.specs.GivenStep.{first_work}
-use Rattle.qs_world_lawful.specs.NodeFacts.{FitsEvent}
-use Rattle.qs_world_lawful.specs.Parcels.{GoesTo}
-use Rattle.qs_world_lawful.specs.Standing.{CanCount}
-use Rattle.qs_world_lawful.specs.Waits.{IsWithin, standing_ops, waiting_ops}
 use Rattle.qs_world_lawful.proofs.BesideGoes.{said_on}
 use Rattle.qs_world_lawful.proofs.FirstComes.{StillComing, StoodBefore, coming_first}
 

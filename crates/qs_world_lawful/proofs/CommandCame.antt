@@ -1,21 +1,7 @@
 -- A command comes, whatever it is; and one that stayed open is looked at again. The rules as wholes.
-use Rattle.std.proofs.Common.{◌≡◌, ℕ, ◌==◌, Bool, true, false, Option, Some, None, refl, sym, ap, ◌∙◌, arith}
-use Rattle.std.proofs.lemmas.Bool.Decides.{nat_tests}
-use Rattle.qs_base.specs.declared.identifiers.ClientNo.{ClientNo}
-use Rattle.qs_base.specs.declared.identifiers.Member.{Member}
-use Rattle.qs_base.specs.declared.identifiers.Tid.{Tid}
-use Rattle.qs_book_journal.specs.declared.script_line.Command.{Command}
+use Rattle.qs_world_lawful.proofs.Words.{◌≡◌, ℕ, Bool, true, false, Option, Some, None, refl, sym, ap, ◌∙◌, ClientNo, Member, Tid, Command, ScriptLine, Begun, BookValue, Op, label_at, Work, answer_waiting, command_came, is_owner, wait_on, waiting_clients, with_command, HoldsWork, AtEach, MayRequest, MayWait, eqb-true}
 use Rattle.qs_book_journal.specs.declared.script_line.Command.TheVariants as commands
-use Rattle.qs_book_journal.specs.declared.script_line.ScriptLine.{ScriptLine}
-use Rattle.qs_node_kept.specs.declared.kept.KeptLabel.{KeptLabel}
-use Rattle.qs_book_machine.specs.Book.{BookValue}
-use Rattle.qs_ops.specs.declared.operation.Op.{Op}
-use Rattle.qs_node_step.specs.Serving.{label_at}
-use Rattle.qs_node_step.specs.State.{Work}
-use Rattle.qs_node_step.specs.Step.{answer_waiting, command_came, is_owner, wait_on, waiting_clients, with_command}
-use Rattle.qs_world_lawful.specs.Entering.{HoldsWork}
-use Rattle.qs_world_lawful.specs.Given.{AtEach}
-use Rattle.qs_world_lawful.specs.GivenStep.{MayCommand, MayRequest, MayWait}
+use Rattle.qs_world_lawful.specs.GivenStep.{MayCommand}
 use Rattle.qs_world_lawful.proofs.BorrowersCommands.{by_borrower_came}
 use Rattle.qs_world_lawful.proofs.FilesHeld.{files_held}
 use Rattle.qs_world_lawful.proofs.Obeying.{by_abort_came, by_any_request_came, by_begin_came, by_commit_came, by_refused_came, by_take_came, by_unmet_came, by_yield_came, came, waits}
@@ -25,10 +11,7 @@ use Rattle.qs_world_lawful.proofs.Waiting.{by_wait_on}
 
 owner_is : (client : ClientNo) (o : Option ClientNo) → is_owner client o ≡ true → o ≡ Some client
 owner_is client None e = absurd (cc e)
-owner_is client (Some owner) e = ap (λ (n : ℕ). Some (record { 0 = n })) (same owner.0 client.0 e)
-  where
-    same : (m n : ℕ) → (m == n) ≡ true → m ≡ n
-    same m n is = grind (arith, nat_tests, is)
+owner_is client (Some owner) e = ap (λ (n : ℕ). Some (record { 0 = n })) (eqb-true owner.0 client.0 e)
 
 no_commit : (member : Member) (op : Op) → commands.Request member op ≡ commands.Commit → ⊥
 no_commit member op e = cc e
@@ -38,7 +21,7 @@ module _ (stamp : ℕ) (before : BookValue) (work : Work) (h : HoldsWork stamp b
   request_then : (tid : Tid) (member : Member) (op : Op) → MayRequest work tid member op → MayRequest (with_command line work) tid member op
   request_then tid member op k = record { fits = k.fits; in_run = k.in_run; slot = k.slot }
 
-  owned_came : (begun : KeptLabel) → label_at line.label work.node ≡ Some begun → (tid : Tid) → begun.tid ≡ Some tid → begun.owner ≡ Some line.client → (c : Command) → line.command ≡ c → (line.command ≡ commands.Begin → ⊥) → HoldsWork stamp before (command_came line work)
+  owned_came : (begun : Begun) → label_at line.label work.node ≡ Some begun → (tid : Tid) → begun.tid ≡ Some tid → begun.owner ≡ Some line.client → (c : Command) → line.command ≡ c → (line.command ≡ commands.Begin → ⊥) → HoldsWork stamp before (command_came line work)
   owned_came begun known tid of owned commands.Begin is other = absurd (other is)
   owned_came begun known tid of owned commands.Commit is other = by_commit_came stamp before work h line may.free may.behind begun known tid of owned (may.of_now begun tid known of owned) (may.undecided begun tid known of owned) is
   owned_came begun known tid of owned commands.Abort is other = by_abort_came stamp before work h line may.free may.behind begun known tid of owned (may.of_now begun tid known of owned) (may.undecided begun tid known of owned) is (files_held stamp before work h)
@@ -51,7 +34,7 @@ module _ (stamp : ℕ) (before : BookValue) (work : Work) (h : HoldsWork stamp b
       by_owners_any stamp before (with_command line work) (came stamp before work h line may.free may.behind) line.client (record { line = line; issued = None }) (waits stamp before work h line may.free may.behind) (λ e. no_commit member op (sym is ∙ e))
       tid member op (request_then tid member op (may.requests begun tid member op known of is)) its.0 its.1 begun known of owned now.0 now.1 its.2)
 
-  lent_came : (begun : KeptLabel) → label_at line.label work.node ≡ Some begun → (tid : Tid) → begun.tid ≡ Some tid → is_owner line.client begun.owner ≡ false → (line.command ≡ commands.Begin → ⊥) → HoldsWork stamp before (command_came line work)
+  lent_came : (begun : Begun) → label_at line.label work.node ≡ Some begun → (tid : Tid) → begun.tid ≡ Some tid → is_owner line.client begun.owner ≡ false → (line.command ≡ commands.Begin → ⊥) → HoldsWork stamp before (command_came line work)
   lent_came begun known tid of other no_begin =
       by_borrower_came stamp before work h line may.free may.behind begun known tid of other may.small
       (λ member op last is taken stood valid. let lent = may.lent begun tid member op known of other is (record { loan = last; taken = taken; stands = stood; valid = valid }) in
@@ -59,7 +42,7 @@ module _ (stamp : ℕ) (before : BookValue) (work : Work) (h : HoldsWork stamp b
       tid member op (request_then tid member op (may.requests begun tid member op known of is)) lent.part lent.known may.small lent.open_still last taken stood valid)
       no_begin
 
-  labelled_came : (line.command ≡ commands.Begin → ⊥) → (o : Option KeptLabel) → label_at line.label work.node ≡ o → HoldsWork stamp before (command_came line work)
+  labelled_came : (line.command ≡ commands.Begin → ⊥) → (o : Option Begun) → label_at line.label work.node ≡ o → HoldsWork stamp before (command_came line work)
   labelled_came no_begin None known = by_unmet_came stamp before work h line may.free may.behind no_begin known
   labelled_came no_begin (Some begun) known = by begun.tid refl
     where

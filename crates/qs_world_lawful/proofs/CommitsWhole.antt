@@ -1,21 +1,9 @@
 -- What a home commits lawfully is crossed nowhere: it is unanimous. And of what is committed nothing is issued.
-use Rattle.qs_base.specs.declared.identifiers.Member.{Member}
-use Rattle.qs_ops.specs.declared.operation.Op.{Op}
-use Rattle.std.proofs.Common.{length, ◌≡◌, ℕ, Bool, true, false, Option, Some, None, refl}
-use Rattle.std.specs.Prelude.{not, ◌&&◌, is_some, if◌then◌else◌}
-use Rattle.std.specs.List.{list_all}
-use Rattle.qs_base.specs.declared.identifiers.Outcome.{Outcome}
+use Rattle.qs_world_lawful.proofs.Words.{Member, Op, length, ◌≡◌, ℕ, Bool, true, false, Option, Some, None, refl, not, ◌&&◌, is_some, if◌then◌else◌, list_all, Outcome, Tid, BookValue, find_transaction, broken_decide, may_decide, broken, TransactionValue, agrees, all_served, cell_of, is_commit, is_empty, is_unanimous, Cause, entry_of, Holds}
 use Rattle.qs_base.specs.declared.identifiers.Outcome.TheVariants as outcomes
-use Rattle.qs_base.specs.declared.identifiers.Tid.{Tid}
 use Rattle.qs_book_journal.specs.declared.entry.Act.TheVariants as acts
-use Rattle.qs_book_machine.specs.Book.{BookValue, find_transaction}
-use Rattle.qs_book_machine.specs.Clauses.{broken_decide, broken_issuer, broken_outcome, is_numbered, may_decide}
-use Rattle.qs_book_machine.specs.Lawful.{broken}
-use Rattle.qs_book_machine.specs.Transaction.{TransactionValue, agrees, all_served, cell_of, is_commit, is_empty, is_unanimous}
-use Rattle.qs_ops.specs.declared.answer.Cause.{Cause}
+use Rattle.qs_book_machine.specs.Clauses.{broken_issuer, broken_outcome, is_numbered}
 use Rattle.qs_node_step.specs.State.{NodeValue}
-use Rattle.qs_world.specs.Posting.{entry_of}
-use Rattle.qs_world_lawful.specs.Holds.{Holds}
 use Rattle.qs_world_lawful.proofs.Clauses.{act_allowed}
 
 abbrev clause : ℕ → Option ℕ

@@ -1,32 +1,15 @@
 -- A peer answers for what was sent to it: the rule as a whole.
-use Rattle.std.proofs.Common.{◌≡◌, ℕ, ◌==◌, ◌≤◌, Bool, true, false, List, [], ◌∷◌, Option, Some, None, zero, suc, refl, sym, ap, subst, ◌∙◌, nat_lt}
-use Rattle.std.specs.Prelude.{◌&&◌, is_some, slice_set, slice_index_or, max, if◌then◌else◌}
-use Rattle.std.specs.Option.{option_map}
-use Rattle.std.specs.Map.{lookup}
-use Rattle.std.specs.BTreeMap.{is_at}
-use Rattle.qs_base.specs.Order.{tid_cmp}
-use Rattle.qs_base.specs.declared.identifiers.Member.{Member}
-use Rattle.qs_base.specs.declared.identifiers.NodeNo.{NodeNo}
-use Rattle.qs_base.specs.declared.identifiers.Tid.{Tid}
-use Rattle.qs_engage.specs.Engage.{peer_of, covered, no_peer}
-use Rattle.qs_engage.specs.declared.engage.Engage.{Engage}
-use Rattle.qs_engage.specs.declared.engage.PeerPart.{PeerPart}
+use Rattle.qs_world_lawful.proofs.Words.{◌≡◌, ℕ, ◌==◌, ◌≤◌, Bool, true, false, List, [], ◌∷◌, Option, Some, None, zero, suc, refl, sym, ap, subst, ◌∙◌, nat_lt, ◌&&◌, is_some, slice_set, slice_index_or, if◌then◌else◌, option_map, lookup, is_at, tid_cmp, Member, NodeNo, Tid, peer_of, no_peer, Engage, PeerPart, changed_alike, BookValue, find_transaction, inc_at, TransactionValue, link_cmp, sent_in, Link, Sent, closer_came, Work, is_undecided, MemberPart, Participant, face_of, part_or_new, HoldsTid}
+use Rattle.qs_world_lawful.proofs.Words.{HoldsHome, HoldsMember, HoldsWork, book_at, some_same}
+use Rattle.std.specs.Prelude.{max}
+use Rattle.qs_engage.specs.Engage.{covered}
 use Rattle.qs_book_journal.specs.declared.entry.Act.TheVariants as acts
-use Rattle.qs_book_laws.proofs.Maps.{changed_alike}
-use Rattle.qs_book_machine.specs.Book.{BookValue, find_transaction, inc_at}
-use Rattle.qs_book_machine.specs.Transaction.{TransactionValue, counted, link_cmp, sent_in, with_counted}
-use Rattle.qs_book_machine.specs.declared.transaction.Link.{Link}
-use Rattle.qs_book_machine.specs.declared.transaction.Sent.{Sent}
-use Rattle.qs_node_step.specs.Asking.{closer_came, count}
-use Rattle.qs_node_step.specs.State.{Work, NodeValue}
+use Rattle.qs_book_machine.specs.Transaction.{counted, with_counted}
+use Rattle.qs_node_step.specs.Asking.{count}
+use Rattle.qs_node_step.specs.State.{NodeValue}
 use Rattle.qs_tm.specs.Manager as tm
 use Rattle.qs_tm.specs.Participant as participant
-use Rattle.qs_tm.specs.Participant.{is_undecided}
-use Rattle.qs_tm.specs.declared.members.MemberPart.{MemberPart}
-use Rattle.qs_tm.specs.declared.participant.Participant.{Participant}
-use Rattle.qs_world_lawful.specs.Face.{Face, face_of, part_or_new}
-use Rattle.qs_world_lawful.specs.Holds.{HoldsTid, HoldsHome, HoldsMember}
-use Rattle.qs_world_lawful.specs.Entering.{HoldsWork, book_at}
+use Rattle.qs_world_lawful.specs.Face.{Face}
 use Rattle.qs_world_lawful.proofs.Apart.{Apart}
 use Rattle.qs_world_lawful.proofs.Clauses.{may_count, of_tid}
 use Rattle.qs_world_lawful.proofs.Faces.{part_apart, part_changed}
@@ -62,10 +45,7 @@ sent_alike : (inc : ℕ) (a b : Option Sent) → option_map number_of a ≡ opti
 sent_alike inc None None e = refl
 sent_alike inc None (Some y) e = absurd (cc e)
 sent_alike inc (Some x) None e = absurd (cc e)
-sent_alike inc (Some x) (Some y) e = ap (λ (p : ℕ × ℕ). if p.0 == inc then p.1 else 0) (of_some e)
-  where
-    of_some : {X : Type 0} {x y : X} → Some x ≡ Some y → x ≡ y
-    of_some e = cc e
+sent_alike inc (Some x) (Some y) e = ap (λ (p : ℕ × ℕ). if p.0 == inc then p.1 else 0) (some_same e)
 
 module _ (link : Link) (own_inc up_to peer_inc : ℕ) (tx : TransactionValue) where
   abbrev now : TransactionValue
@@ -95,14 +75,11 @@ module _ (link : Link) (own_inc up_to peer_inc : ℕ) (tx : TransactionValue) wh
     home = λ at in_inc. counted_home (h.home at in_inc);
   }
     where
-      of_some : {X : Type 0} {x y : X} → Some x ≡ Some y → x ≡ y
-      of_some e = cc e
-
       counted_home : HoldsHome tx (Some part) → HoldsHome now (Some (participant.counted tid.home peer up_to told part))
       counted_home k = record {
         runs = λ is. refl;
-        undecided = λ p same unknown. k.undecided part refl (ap (λ q. q.outcome) (of_some same) ∙ unknown);
-        asked = λ p same still. k.asked part refl still ∙ ap (λ q. q.asked) (of_some same);
+        undecided = λ p same unknown. k.undecided part refl (ap (λ q. q.outcome) (some_same same) ∙ unknown);
+        asked = λ p same still. k.asked part refl still ∙ ap (λ q. q.asked) (some_same same);
       }
 
 -- ---- the rule

@@ -1,13 +1,6 @@
 -- What an issue leaves of the machine beside its transaction: who waits for an answer, and which server is crossed.
-use Rattle.std.proofs.Common.{◌≡◌, Bool, true, false, [], ◌∷◌, ◌++◌, Some, refl, length}
-use Rattle.std.specs.Prelude.{◌-◌, slice_get, if◌then◌else◌}
-use Rattle.qs_base.specs.declared.identifiers.Member.{Member}
-use Rattle.qs_base.specs.declared.identifiers.Tid.{Tid}
-use Rattle.qs_book_laws.proofs.Maps.{changed_at_here}
-use Rattle.qs_book_machine.specs.Book.{BookValue, with_crossing, with_owner, with_waiting}
+use Rattle.qs_world_lawful.proofs.Words.{◌≡◌, Bool, true, false, [], ◌∷◌, ◌++◌, Some, refl, length, ◌-◌, slice_get, if◌then◌else◌, Member, Tid, changed_at_here, BookValue, with_crossing, with_owner, with_waiting, crossed_node, is_client_no}
 use Rattle.qs_book_machine.specs.Nodes as machine
-use Rattle.qs_book_machine.specs.Nodes.{crossed_node}
-use Rattle.qs_ops.specs.Servers.{is_client_no}
 use Rattle.qs_world_lawful.proofs.Frames.{KeepsOwners, SameState}
 use Rattle.qs_world_lawful.proofs.States.{crossed_state, state_itself}
 use Rattle.qs_world_lawful.proofs.Steps.{changed_length, owner_changed}

@@ -1,30 +1,12 @@
 -- What is kept of an outcome as one more is decided: what was committed stays so, the record is of its transaction, and who knows an outcome says what is so.
-use Rattle.std.proofs.Common.{◌≡◌, Bool, true, false, List, [], ◌∷◌, ◌++◌, Option, Some, None, refl, sym, ap, ◌∙◌, if◌then◌else◌}
-use Rattle.std.specs.List.{find, list_any}
-use Rattle.std.specs.Prelude.{◌||◌, is_some}
-use Rattle.qs_base.specs.Order.{same_tid}
-use Rattle.qs_base.specs.declared.identifiers.Outcome.{Outcome}
+use Rattle.qs_world_lawful.proofs.Words.{◌≡◌, Bool, true, false, List, [], ◌∷◌, ◌++◌, Option, Some, None, refl, sym, ap, ◌∙◌, if◌then◌else◌, find, list_any, ◌||◌, is_some, same_tid, Outcome, Tid, listed, is_outcome_of, Decided, BookValue, cell_of_transaction, find_transaction, TransactionValue, cell_of, is_outcome, Cell, Record, is_kept_commit, kept_outcome, tid_of, Decision, Manager, Participant, HoldsBeside, HasOutcome, or_right}
 use Rattle.qs_base.specs.declared.identifiers.Outcome.TheVariants as outcomes
-use Rattle.qs_base.specs.declared.identifiers.Tid.{Tid}
-use Rattle.qs_engage.specs.Nodes.{listed}
-use Rattle.qs_node_kept.specs.Keeping.{is_outcome_of}
-use Rattle.qs_node_kept.specs.declared.kept.Decided.{Decided}
-use Rattle.qs_book_machine.specs.Book.{BookValue, cell_of_transaction, find_transaction}
-use Rattle.qs_book_machine.specs.Transaction.{TransactionValue, cell_of, is_outcome}
-use Rattle.qs_book_machine.specs.declared.transaction.Cell.{Cell}
 use Rattle.qs_book_machine.specs.declared.transaction.Cell.TheVariants as cells
-use Rattle.qs_record.specs.declared.record.Record.{Record}
 use Rattle.qs_record.specs.declared.record.Record.TheVariants as records
-use Rattle.qs_node_step.specs.Answering.{is_kept_commit, kept_outcome, was_committed}
-use Rattle.qs_node_step.specs.Bringing.{tid_of}
+use Rattle.qs_node_step.specs.Answering.{was_committed}
 use Rattle.qs_node_step.specs.State.{NodeValue}
 use Rattle.qs_tm.specs.Manager as tm
 use Rattle.qs_tm.specs.Outcomes as outcome_rules
-use Rattle.qs_tm.specs.declared.manager.Decision.{Decision}
-use Rattle.qs_tm.specs.declared.manager.Manager.{Manager}
-use Rattle.qs_tm.specs.declared.participant.Participant.{Participant}
-use Rattle.qs_world_lawful.specs.Beside.{HoldsBeside}
-use Rattle.qs_world_lawful.specs.Logged.{HasOutcome}
 use Rattle.qs_world_lawful.proofs.Truths.{clash, of_some}
 
 -- ---- what is kept for owners, and one more
@@ -49,10 +31,6 @@ found_last p (x ∷ xs) d e has = by (p x) e (λ n. found_last p xs d n has)
 pub committed_more : (t : Tid) (node fresh : NodeValue) (d : Decided) → fresh.kept.now.outcomes ≡ node.kept.now.outcomes ++ d ∷ [] → fresh.committed ≡ node.committed → was_committed t node ≡ true → was_committed t fresh ≡ true
 committed_more t node fresh d outcomes committed is = by (kept_outcome t node) refl is
   where
-    or_right : (a b : Bool) → b ≡ true → (a || b) ≡ true
-    or_right true b e = refl
-    or_right false b e = e
-
     by : (o : Option Decided) → kept_outcome t node ≡ o → (is_kept_commit o || list_any (same_tid t) node.committed) ≡ true → was_committed t fresh ≡ true
     by None none e = rw committed (or_right (is_kept_commit (kept_outcome t fresh)) (list_any (same_tid t) node.committed) e)
     by (Some x) some e = rw (committed, outcomes, found_first (is_outcome_of t) node.kept.now.outcomes (d ∷ []) x some) e

@@ -1,26 +1,12 @@
 -- A home decides by the rules: it commits what is settled, and aborts for a cause that the machine finds.
-use Rattle.std.proofs.Common.{◌≡◌, ℕ, ◌==◌, true, false, Option, Some, None, refl, ◌∙◌, arith}
-use Rattle.std.proofs.lemmas.Bool.Decides.{nat_tests}
-use Rattle.std.specs.Prelude.{is_none, is_some, slice_get}
-use Rattle.qs_base.specs.declared.identifiers.ClientNo.{ClientNo}
+use Rattle.qs_world_lawful.proofs.Words.{◌≡◌, ℕ, ◌==◌, true, false, Option, Some, None, refl, ◌∙◌, arith, nat_tests, is_none, is_some, slice_get, ClientNo, Tid, Cause, TransactionValue, is_open, is_unanimous, BookValue, find_transaction, broken, Participant, Work, entry_of, HoldsWork, book_at, face_of, HoldsFiles, Holds, HoldsTid}
 use Rattle.qs_base.specs.declared.identifiers.Outcome.TheVariants as outcomes
-use Rattle.qs_base.specs.declared.identifiers.Tid.{Tid}
-use Rattle.qs_ops.specs.declared.answer.Cause.{Cause}
 use Rattle.qs_ops.specs.declared.answer.Cause.TheVariants as causes
 use Rattle.qs_book_journal.specs.declared.entry.Act.TheVariants as acts
-use Rattle.qs_book_machine.specs.Transaction.{TransactionValue, is_open, is_unanimous}
-use Rattle.qs_book_machine.specs.Book.{BookValue, find_transaction}
 use Rattle.qs_book_machine.specs.Clauses.{is_cause}
-use Rattle.qs_book_machine.specs.Lawful.{broken}
 use Rattle.qs_tm.specs.Manager as tm
-use Rattle.qs_tm.specs.declared.participant.Participant.{Participant}
 use Rattle.qs_node_step.specs.Deciding.{decide}
-use Rattle.qs_node_step.specs.State.{Work, NodeValue}
-use Rattle.qs_world.specs.Posting.{entry_of}
-use Rattle.qs_world_lawful.specs.Entering.{HoldsWork, book_at}
-use Rattle.qs_world_lawful.specs.Face.{face_of}
-use Rattle.qs_world_lawful.specs.Filed.{HoldsFiles}
-use Rattle.qs_world_lawful.specs.Holds.{Holds, HoldsTid}
+use Rattle.qs_node_step.specs.State.{NodeValue}
 use Rattle.qs_world_lawful.proofs.Clauses.{lawful_act, of_tid}
 use Rattle.qs_world_lawful.proofs.Decisions.{by_decision}
 

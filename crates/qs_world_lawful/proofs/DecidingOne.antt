@@ -1,40 +1,14 @@
 -- The home decides: the rule as a whole, but for what its servers learn and whom it tells.
-use Rattle.std.proofs.Common.{◌≡◌, ◌⊎◌, inl, inr, ℕ, Bool, true, false, List, [], ◌∷◌, ◌++◌, Option, Some, None, refl, sym, ap, subst, ◌∙◌, nat_lt}
-use Rattle.std.specs.Prelude.{slice_get, slice_set, is_some}
-use Rattle.std.specs.Option.{option_map}
-use Rattle.std.specs.List.{find}
-use Rattle.std.specs.BTreeMap.{is_at}
-use Rattle.qs_base.specs.Order.{tid_cmp}
-use Rattle.qs_base.specs.declared.identifiers.ClientNo.{ClientNo}
-use Rattle.qs_base.specs.declared.identifiers.NodeNo.{NodeNo}
-use Rattle.qs_base.specs.declared.identifiers.Outcome.{Outcome}
+use Rattle.qs_world_lawful.proofs.Words.{◌≡◌, ◌⊎◌, inl, inr, ℕ, Bool, true, false, List, [], ◌∷◌, ◌++◌, Option, Some, None, refl, sym, ap, subst, ◌∙◌, nat_lt, true≢false, slice_get, slice_set, is_some, option_map, find, is_at, tid_cmp, ClientNo, NodeNo, Outcome, Tid, Cause, changed_alike, changed_at_either, changed_at_here, TransactionValue, decided_at, is_open, is_outcome, cell_of, Cell, BookValue, find_transaction, told, told_owner, owner_of, changed_at, broken, Owner, Record, Participant}
+use Rattle.qs_world_lawful.proofs.Words.{kept_outcome, is_outcome_of, enter, log_if, tid_of, outcome_answer, keep_outcome, Work, with_manager, Decided, entry_of, face_of, Holds, HoldsTid, HoldsClients, IsBehind, IsOwner, MayBeTold, HasEnded, IsAsking, HoldsWork, book_at, some_same}
 use Rattle.qs_base.specs.declared.identifiers.Outcome.TheVariants as outcomes
-use Rattle.qs_base.specs.declared.identifiers.Tid.{Tid}
-use Rattle.qs_ops.specs.declared.answer.Cause.{Cause}
 use Rattle.qs_book_journal.specs.declared.entry.Act.TheVariants as acts
-use Rattle.qs_book_laws.proofs.Maps.{changed_alike, changed_at_either, changed_at_here}
-use Rattle.qs_book_machine.specs.Transaction.{TransactionValue, decided_at, is_open, is_outcome, cell_of}
-use Rattle.qs_book_machine.specs.declared.transaction.Cell.{Cell}
 use Rattle.qs_book_machine.specs.declared.transaction.Cell.TheVariants as cells
-use Rattle.qs_book_machine.specs.Book.{BookValue, find_transaction, told, told_owner, owner_of, changed_at}
-use Rattle.qs_book_machine.specs.Lawful.{broken}
-use Rattle.qs_book_machine.specs.declared.state.Owner.{Owner}
-use Rattle.qs_record.specs.declared.record.Record.{Record}
 use Rattle.qs_tm.specs.Manager as tm
 use Rattle.qs_tm.specs.Outcomes as outcome_rules
-use Rattle.qs_tm.specs.declared.participant.Participant.{Participant}
-use Rattle.qs_node_step.specs.Answering.{kept_outcome}
-use Rattle.qs_node_kept.specs.Keeping.{is_outcome_of}
-use Rattle.qs_node_step.specs.Bringing.{enter, log_if, tid_of}
-use Rattle.qs_node_step.specs.Commands.{outcome_answer}
-use Rattle.qs_node_step.specs.Deciding.{keep_outcome}
-use Rattle.qs_node_step.specs.State.{Work, NodeValue, with_manager}
+use Rattle.qs_node_step.specs.State.{NodeValue}
 use Rattle.qs_node_kept.specs.Keeping.{with_now}
-use Rattle.qs_node_kept.specs.declared.kept.Decided.{Decided}
-use Rattle.qs_world.specs.Posting.{entry_of}
-use Rattle.qs_world_lawful.specs.Face.{Face, face_of}
-use Rattle.qs_world_lawful.specs.Holds.{Holds, HoldsTid, HoldsClients, IsBehind, IsOwner, MayBeTold, HasEnded, IsAsking}
-use Rattle.qs_world_lawful.specs.Entering.{HoldsWork, book_at}
+use Rattle.qs_world_lawful.specs.Face.{Face}
 use Rattle.qs_world_lawful.proofs.Apart.{Apart, same_or_apart}
 use Rattle.qs_world_lawful.proofs.Bare.{held_bare, bare_part}
 use Rattle.qs_world_lawful.proofs.Clauses.{of_tid}
@@ -62,7 +36,7 @@ decided_tid place outcome cause here inc tid tx face part unknown h = record {
   sized = h.sized;
   members = λ held server kept. let m = h.members refl server kept in record { covers = m.covers; voted = m.voted; votes = m.votes; learns = m.learns; ends = m.ends };
   asked = h.asked;
-  outcome = λ o is. subst (λ (x : Outcome). is_outcome x (cell_of outcome) ≡ true) (of_some is) (as_cell outcome);
+  outcome = λ o is. subst (λ (x : Outcome). is_outcome x (cell_of outcome) ≡ true) (some_same is) (as_cell outcome);
   silent = λ is. absurd (nothing (sym unknown ∙ h.silent is));
   local = h.local;
   sent = λ held. h.sent refl;
@@ -73,14 +47,11 @@ decided_tid place outcome cause here inc tid tx face part unknown h = record {
   yielded = h.yielded;
   home = λ near in_inc. record {
     runs = λ is. refl;
-    undecided = λ p same none. absurd (clash (ap (λ (q : Participant). q.outcome) (of_some same) ∙ none));
+    undecided = λ p same none. absurd (clash (ap (λ (q : Participant). q.outcome) (some_same same) ∙ none));
     asked = λ p same is. absurd (no_open outcome is);
   };
 }
   where
-    of_some : {X : Type 0} {x y : X} → Some x ≡ Some y → x ≡ y
-    of_some e = cc e
-
     nothing : None ≡ Some outcomes.Abort → ⊥
     nothing e = cc e
 
@@ -93,11 +64,8 @@ module _ (t : Tid) (d : Decided) where
   kept_more : (ds : List Decided) (was : Decided) → find (is_outcome_of t) (ds ++ d ∷ []) ≡ Some was → (find (is_outcome_of t) ds ≡ Some was) ⊎ ((is_outcome_of t d ≡ true) × (d ≡ was))
   kept_more [] was is = by (is_outcome_of t d) refl is
     where
-      of_some : {X : Type 0} {x y : X} → Some x ≡ Some y → x ≡ y
-      of_some e = cc e
-
       by : (b : Bool) → is_outcome_of t d ≡ b → find (is_outcome_of t) (d ∷ []) ≡ Some was → (None ≡ Some was) ⊎ ((is_outcome_of t d ≡ true) × (d ≡ was))
-      by true so e = inr (so, of_some (rw so at e))
+      by true so e = inr (so, some_same (rw so at e))
       by false so e = absurd (cc (rw so at e))
   kept_more (x ∷ ds) was is = by (is_outcome_of t x) refl (kept_more ds was)
     where
@@ -163,12 +131,9 @@ module _ (stamp : ℕ) (before : BookValue) (work : Work) (tid : Tid) (outcome :
           of None none = inl (is ∙ (ap (λ (o : Option Owner). slice_get (elim o [ None ↦ book.owners | Some x ↦ slice_set book.owners client.0 (told outcome cause x) ]) c) none ∙ there))
           of (Some own) has = at (changed_at_either (told outcome cause) book.owners client.0 c own has)
             where
-              of_some : {X : Type 0} {x y : X} → Some x ≡ Some y → x ≡ y
-              of_some e = cc e
-
               at : ((c ≡ client.0) × (slice_get book.owners c ≡ Some own) × (slice_get (changed_at client.0 (told outcome cause) book.owners) c ≡ Some (told outcome cause own))) ⊎ (slice_get (changed_at client.0 (told outcome cause) book.owners) c ≡ slice_get book.owners c)
                   → (slice_get new_book.owners c ≡ Some owner) ⊎ (slice_get new_book.owners c ≡ Some (told outcome cause owner))
-              at (inl same) = inr (is ∙ (same.2 ∙ ap (λ (o : Owner). Some (told outcome cause o)) (of_some (sym same.1 ∙ there))))
+              at (inl same) = inr (is ∙ (same.2 ∙ ap (λ (o : Owner). Some (told outcome cause o)) (some_same (sym same.1 ∙ there))))
               at (inr same) = inl (is ∙ (same ∙ there))
 
   told_line : (o : Outcome) (x : Option Cause) (owner : Owner) → (told o x owner).line ≡ owner.line
@@ -192,11 +157,8 @@ module _ (stamp : ℕ) (before : BookValue) (work : Work) (tid : Tid) (outcome :
 
   -- nothing was kept of it
   none_kept : (was : Decided) → kept_outcome tid node ≡ Some was → ⊥
-  none_kept was is = no was.outcome tx.cell still (subst (λ (x : TransactionValue). is_outcome was.outcome x.cell ≡ true) (of_some (sym (h.holds.clients.outcomes tid was is).found ∙ found)) (h.holds.clients.outcomes tid was is).as_kept)
+  none_kept was is = no was.outcome tx.cell still (subst (λ (x : TransactionValue). is_outcome was.outcome x.cell ≡ true) (some_same (sym (h.holds.clients.outcomes tid was is).found ∙ found)) (h.holds.clients.outcomes tid was is).as_kept)
     where
-      of_some : {X : Type 0} {x y : X} → Some x ≡ Some y → x ≡ y
-      of_some e = cc e
-
       no : (o : Outcome) (c : Cell) → is_open c ≡ true → is_outcome o c ≡ true → ⊥
       no outcomes.Commit cells.Open e s = cc s
       no outcomes.Abort cells.Open e s = cc s
@@ -232,19 +194,13 @@ module _ (stamp : ℕ) (before : BookValue) (work : Work) (tid : Tid) (outcome :
               record { tx = e.tx; found = found_apart stamp book new_book node decided_node h.holds tid f tx found refl t far ∙ e.found; as_kept = e.as_kept; told = λ c owns. told_on c was (e.told c owns) }
       by (inr new) = subst (λ (x : Decided). HasEnded new_book t x) new.1 (of (same_or_apart tid t))
         where
-          clash : true ≡ false → ⊥
-          clash e = cc e
-
           of : (tid ≡ t) ⊎ Apart tid t → HasEnded new_book t d
           of (inl same) = subst (λ (u : Tid). HasEnded new_book u d) same ended_own
-          of (inr far) = absurd (clash (sym new.0 ∙ far.of))
+          of (inr far) = absurd (true≢false (sym new.0 ∙ far.of))
 
   asking_on : (t : Tid) (c : ClientNo) (p : Participant) → t.home ≡ here → tm.part_of t decided_node.manager ≡ Some p → p.outcome ≡ None → p.asked ≡ true → IsOwner new_book t c → IsAsking decided_node t c
   asking_on t c p at is none asked owns = by (same_or_apart tid t)
     where
-      of_some : {X : Type 0} {x y : X} → Some x ≡ Some y → x ≡ y
-      of_some e = cc e
-
       clash : Some outcome ≡ None → ⊥
       clash e = cc e
 
@@ -255,7 +211,7 @@ module _ (stamp : ℕ) (before : BookValue) (work : Work) (tid : Tid) (outcome :
       by (inl same) =
           let it : Some (outcome_rules.decided outcome part) ≡ Some p =
           sym (part_changed tid (outcome_rules.decided outcome) node.manager part known) ∙ subst (λ (u : Tid). tm.part_of u decided_node.manager ≡ Some p) (sym same) is in
-          absurd (clash (ap (λ (q : Participant). q.outcome) (of_some it) ∙ none))
+          absurd (clash (ap (λ (q : Participant). q.outcome) (some_same it) ∙ none))
       by (inr far) = on (h.holds.clients.asking t c p at (sym (part_apart tid t (outcome_rules.decided outcome) node.manager far) ∙ is) none asked (owner_back t c owns))
 
   clients : HoldsClients new_book decided_node

@@ -1,27 +1,11 @@
 -- The home decides, and another node takes the outcome in: the rules as wholes.
-use Rattle.std.proofs.Common.{◌≡◌, ℕ, true, Option, Some, None, refl, ap}
-use Rattle.std.specs.Prelude.{slice_get, is_some}
-use Rattle.qs_base.specs.declared.identifiers.ClientNo.{ClientNo}
-use Rattle.qs_base.specs.declared.identifiers.Outcome.{Outcome}
-use Rattle.qs_base.specs.declared.identifiers.Tid.{Tid}
-use Rattle.qs_ops.specs.declared.answer.Cause.{Cause}
+use Rattle.qs_world_lawful.proofs.Words.{◌≡◌, ℕ, true, Option, Some, None, refl, ap, slice_get, is_some, ClientNo, Outcome, Tid, Cause, TransactionValue, is_open, is_outcome, BookValue, find_transaction, broken, Record, Decision, Participant, enter, log_if, tid_of, keep_outcome, decide_as, give_notices, Work, with_manager, record_learnt, entry_of, HoldsFiles, HoldsWork, book_at}
 use Rattle.qs_book_journal.specs.declared.entry.Act.TheVariants as acts
-use Rattle.qs_book_machine.specs.Transaction.{TransactionValue, is_open, is_outcome}
-use Rattle.qs_book_machine.specs.Book.{BookValue, find_transaction}
-use Rattle.qs_book_machine.specs.Lawful.{broken}
 use Rattle.qs_packet.specs.declared.message.Message.TheVariants as messages
-use Rattle.qs_record.specs.declared.record.Record.{Record}
 use Rattle.qs_tm.specs.Manager as tm
 use Rattle.qs_tm.specs.Outcomes as outcome_rules
-use Rattle.qs_tm.specs.declared.manager.Decision.{Decision}
-use Rattle.qs_tm.specs.declared.participant.Participant.{Participant}
-use Rattle.qs_node_step.specs.Bringing.{enter, log_if, tid_of}
-use Rattle.qs_node_step.specs.Deciding.{keep_outcome, decide_as, decide, give_notices}
-use Rattle.qs_node_step.specs.State.{Work, with_manager}
-use Rattle.qs_node_step.specs.Telling.{learn, record_learnt}
-use Rattle.qs_world.specs.Posting.{entry_of}
-use Rattle.qs_world_lawful.specs.Filed.{HoldsFiles}
-use Rattle.qs_world_lawful.specs.Entering.{HoldsWork, book_at}
+use Rattle.qs_node_step.specs.Deciding.{decide}
+use Rattle.qs_node_step.specs.Telling.{learn}
 use Rattle.qs_world_lawful.proofs.Asking.{by_send_each}
 use Rattle.qs_world_lawful.proofs.Bare.{bare, bare_part, by_log_if}
 use Rattle.qs_world_lawful.proofs.DecidingOne.{by_decide}

@@ -1,35 +1,12 @@
 -- What the machine has in doubt, names among lists, and what a served operation adds.
-use Rattle.std.proofs.Common.{◌≡◌, ◌⊎◌, inl, inr, ℕ, Bool, true, false, List, [], ◌∷◌, ◌++◌, Option, Some, None, refl, sym, ap, subst, ◌∙◌, map}
-use Rattle.std.proofs.lemmas.List.Folds.{list_any-append}
-use Rattle.std.proofs.lemmas.Grind.{flat_map-append}
-use Rattle.std.specs.Prelude.{◌||◌, unwrap_or, if◌then◌else◌}
-use Rattle.std.specs.List.{filter}
-use Rattle.std.specs.Map.{lookup, set_value}
-use Rattle.std.specs.BTreeMap.{insert_entry, is_at}
-use Rattle.qs_base.specs.Order.{tid_cmp}
-use Rattle.qs_base.specs.declared.identifiers.ServerNo.{ServerNo}
-use Rattle.qs_base.specs.declared.identifiers.Tid.{Tid}
-use Rattle.qs_base.proofs.TidOrder.{tid_exact}
+use Rattle.qs_world_lawful.proofs.Words.{◌≡◌, ◌⊎◌, inl, inr, ℕ, Bool, true, false, List, [], ◌∷◌, ◌++◌, Option, Some, None, refl, sym, ap, subst, ◌∙◌, map, list_any-append, flat_map-append, ◌||◌, unwrap_or, if◌then◌else◌, filter, lookup, set_value, insert_entry, is_at, tid_cmp, ServerNo, Tid, tid_exact, or-true, tid_itself, lookup_put, lookup_put_apart, lookup_set, bound_names, with_names, Request, names_no, TableValue, after_serve, nothing_held, share_of, with_share, Op, Put, Append, Del, Get}
+use Rattle.qs_world_lawful.proofs.Words.{Listing, Note, Notes, Bind, Find, Timer, Left, Window, Title, Keep, Fetch, Lend, Extra, Reply, Share, doubted, has_name, is_bind, AreFor, IsWithin, op_in, false≢true}
 use Rattle.qs_ipc.specs.Queue.{is_for}
-use Rattle.qs_book_laws.proofs.Alikes.{tid_itself}
-use Rattle.qs_book_laws.proofs.Maps.{lookup_put, lookup_put_apart, lookup_set}
 use Rattle.qs_book_machine.specs.Book.{is_done}
-use Rattle.qs_book_machine.specs.Nodes.{bound_name, bound_names, with_names}
-use Rattle.qs_book_machine.specs.declared.transaction.Request.{Request}
-use Rattle.qs_ops.specs.Servers.{names_no}
+use Rattle.qs_book_machine.specs.Nodes.{bound_name}
 use Rattle.qs_ops.specs.Spelled.{is_change}
-use Rattle.qs_ops.specs.Table.{TableValue, after_serve, nothing_held, share_of, with_share}
-use Rattle.qs_ops.specs.declared.operation.Op.{Op}
-use Rattle.qs_ops.specs.declared.operation.Op.TheVariants.{Put, Append, Del, Get, Listing, Note, Notes, Bind, Find, Timer, Left, Window, Title, Keep, Fetch, Lend, Extra}
-use Rattle.qs_ops.specs.declared.reply.Reply.{Reply}
 use Rattle.qs_ops.specs.declared.reply.Reply.TheVariants as replies
-use Rattle.qs_ops.specs.declared.share.Share.{Share}
-use Rattle.qs_world_lawful.specs.Doubts.{doubted, has_name, is_bind}
-use Rattle.qs_world_lawful.specs.Waits.{AreFor, IsWithin, op_in}
 use Rattle.qs_world_lawful.proofs.Apart.{Apart}
-
-pub clash : false ≡ true → ⊥
-clash e = cc e
 
 pub itself : (u : Tid) → is_at (tid_cmp u) u ≡ true
 itself u = rw (tid_itself u) refl
@@ -41,7 +18,7 @@ set_apart p q far [] w = refl
 set_apart {X} p q far (e ∷ es) w = by (p e.0) refl (q e.0) refl (set_apart p q far es w)
   where
     by : (b : Bool) → p e.0 ≡ b → (c : Bool) → q e.0 ≡ c → lookup q (set_value p es w) ≡ lookup q es → lookup q (set_value p (e ∷ es) w) ≡ lookup q (e ∷ es)
-    by true is true has more = absurd (clash (sym (far e.0 has) ∙ is))
+    by true is true has more = absurd (false≢true (sym (far e.0 has) ∙ is))
     by true is false has more = rw (is, has) refl
     by false is true has more = rw (is, has) refl
     by false is false has more = rw (is, has) more
@@ -67,11 +44,7 @@ pub in_left : (name : List ℕ) (xs ys : List (List ℕ)) → has_name name xs �
 in_left name xs ys is = rw (list_any-append _ xs ys, is) refl
 
 pub in_right : (name : List ℕ) (xs ys : List (List ℕ)) → has_name name ys ≡ true → has_name name (xs ++ ys) ≡ true
-in_right name xs ys is = rw (list_any-append _ xs ys, is) (or_true (has_name name xs))
-  where
-    or_true : (b : Bool) → (b || true) ≡ true
-    or_true true = refl
-    or_true false = refl
+in_right name xs ys is = rw (list_any-append _ xs ys, is) (or-true (has_name name xs))
 
 pub in_either : (name : List ℕ) (xs ys : List (List ℕ)) → has_name name (xs ++ ys) ≡ true → (has_name name xs ≡ true) ⊎ (has_name name ys ≡ true)
 in_either name xs ys is = by (has_name name xs) refl

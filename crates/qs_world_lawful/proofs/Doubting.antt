@@ -1,35 +1,16 @@
 -- What names of a node hold that is hidden is in doubt, and goes on so as they serve, vote and learn, and as more is hidden.
-use Rattle.std.proofs.Common.{◌≡◌, ◌⊎◌, inl, inr, ℕ, Bool, true, false, List, [], ◌∷◌, Option, refl, sym, ap, subst, ◌∙◌, map}
+use Rattle.qs_world_lawful.proofs.Words.{◌≡◌, ◌⊎◌, inl, inr, ℕ, Bool, true, false, List, [], ◌∷◌, Option, refl, sym, ap, subst, ◌∙◌, map, flat_map-append, not, ◌&&◌, unwrap_or, if◌then◌else◌, filter, list_all, remove_entry, is_at, tid_cmp, Tid, IsRising, bound_names, with_names, Request, voted_in, noted_in, names_no, TableValue, after_serve, applied, served, share_of, Op, Reply, Share, Vote, Outcome, notice_of, HoldsDoubts, doubted, has_name, is_bind, IsWithin, op_in, false≢true}
 use Rattle.std.proofs.lemmas.List.Folds.{list_all-append}
-use Rattle.std.proofs.lemmas.Grind.{flat_map-append}
-use Rattle.std.specs.Prelude.{not, ◌&&◌, unwrap_or, if◌then◌else◌}
-use Rattle.std.specs.List.{filter, list_all}
-use Rattle.std.specs.Map.{remove_entry}
-use Rattle.std.specs.BTreeMap.{is_at}
-use Rattle.qs_base.specs.Order.{tid_cmp}
-use Rattle.qs_base.specs.declared.identifiers.Tid.{Tid}
 use Rattle.qs_ipc.specs.Queue.{is_for}
-use Rattle.qs_book_laws.proofs.Rising.{IsRising}
 use Rattle.qs_book_machine.specs.Book.{is_done}
-use Rattle.qs_book_machine.specs.Nodes.{bound_name, bound_names, with_names}
-use Rattle.qs_book_machine.specs.declared.transaction.Request.{Request}
-use Rattle.qs_ops.specs.Server.{voted_in, noted_in}
-use Rattle.qs_ops.specs.Servers.{names_no}
-use Rattle.qs_ops.specs.Table.{TableValue, after_serve, applied, served, share_of}
-use Rattle.qs_ops.specs.declared.operation.Op.{Op}
-use Rattle.qs_ops.specs.declared.reply.Reply.{Reply}
-use Rattle.qs_ops.specs.declared.share.Share.{Share}
-use Rattle.qs_ops.specs.declared.vote.Vote.{Vote}
+use Rattle.qs_book_machine.specs.Nodes.{bound_name}
 use Rattle.qs_ops.specs.declared.vote.Vote.TheVariants as votes
-use Rattle.qs_base.specs.declared.identifiers.Outcome.{Outcome}
 use Rattle.qs_base.specs.declared.identifiers.Outcome.TheVariants as outcomes
-use Rattle.qs_node_step.specs.Deciding.{notice_of}
-use Rattle.qs_world_lawful.specs.Doubts.{HoldsDoubts, doubted, has_name, is_bind, names_of}
-use Rattle.qs_world_lawful.specs.Waits.{IsWithin, op_in}
+use Rattle.qs_world_lawful.specs.Doubts.{names_of}
 use Rattle.qs_world_lawful.proofs.Apart.{Apart, same_or_apart}
 use Rattle.qs_world_lawful.proofs.OtherShares.{removed_apart, share_noted, share_put, share_voted}
 use Rattle.qs_world_lawful.proofs.Pending.{gone}
-use Rattle.qs_world_lawful.proofs.Doubted.{IsAdded, added, bound_among, clash, doubted_apart, doubted_more, in_either, in_left, in_right, itself, share_own}
+use Rattle.qs_world_lawful.proofs.Doubted.{IsAdded, added, bound_among, doubted_apart, doubted_more, in_either, in_left, in_right, itself, share_own}
 
 -- ---- what is held
 
@@ -46,7 +27,7 @@ module _ (seen : Tid → Bool) (doubts : List (Tid × List (List ℕ))) (held : 
 
       by_hidden : (t : Tid) → seen t ≡ false → (name : List ℕ) → (changes_at new t ≡ changes_at held t) ⊎ (changes_at new t ≡ []) → has_name name (names_of new t) ≡ true → has_name name (doubted doubts t) ≡ true
       by_hidden t other name (inl same) has = h.hidden t other name (sym (ap (λ (ops : List Op). has_name name (bound_names ops)) same) ∙ has)
-      by_hidden t other name (inr none) has = absurd (clash (sym (ap (λ (ops : List Op). has_name name (bound_names ops)) none) ∙ has))
+      by_hidden t other name (inr none) has = absurd (false≢true (sym (ap (λ (ops : List Op). has_name name (bound_names ops)) none) ∙ has))
 
   -- the same is hidden
   pub doubts_alike : (now : Tid → Bool) → ((t : Tid) → now t ≡ seen t) → HoldsDoubts now doubts held
@@ -83,7 +64,7 @@ module _ (seen : Tid → Bool) (doubts : List (Tid × List (List ℕ))) (held : 
     doubts_gone none = record { binds = h.binds; hidden = λ t other name has. by t other name has (same_or_apart tid t) }
       where
         by : (t : Tid) → seen t ≡ false → (name : List ℕ) → has_name name (names_of held t) ≡ true → (tid ≡ t) ⊎ Apart tid t → has_name name (doubted (remove_entry (is_at (tid_cmp tid)) doubts) t) ≡ true
-        by t other name has (inl is) = absurd (clash (sym (ap (λ (ops : List Op). has_name name (bound_names ops)) (subst (λ (u : Tid). changes_at held u ≡ []) is none)) ∙ has))
+        by t other name has (inl is) = absurd (false≢true (sym (ap (λ (ops : List Op). has_name name (bound_names ops)) (subst (λ (u : Tid). changes_at held u ≡ []) is none)) ∙ has))
         by t other name has (inr far) = ap (λ (o : Option (List (List ℕ))). has_name name (unwrap_or o [])) (removed_apart (is_at (tid_cmp tid)) (is_at (tid_cmp t)) far.keys doubts) ∙ h.hidden t other name has
 
     -- ---- more is in doubt
@@ -116,7 +97,7 @@ module _ (seen : Tid → Bool) (doubts : List (Tid × List (List ℕ))) (held : 
           where
             still : (b : Bool) → seen t ≡ b → seen t ≡ false
             still false is = is
-            still true is = absurd (clash (sym (sym (hides t ∙ rw (is, far.keys t (itself t)) refl) ∙ other)))
+            still true is = absurd (false≢true (sym (sym (hides t ∙ rw (is, far.keys t (itself t)) refl) ∙ other)))
 
     -- ---- a request is served
 
@@ -142,7 +123,7 @@ module _ (seen : Tid → Bool) (doubts : List (Tid × List (List ℕ))) (held : 
       served_doubts mine = record { binds = served_binds; hidden = λ t other name has. by t other name has (same_or_apart tid t) }
         where
           by : (t : Tid) → seen t ≡ false → (name : List ℕ) → has_name name (names_of new t) ≡ true → (tid ≡ t) ⊎ Apart tid t → has_name name (doubted doubts t) ≡ true
-          by t other name has (inl is) = absurd (clash (sym other ∙ subst (λ (u : Tid). seen u ≡ true) is mine))
+          by t other name has (inl is) = absurd (false≢true (sym other ∙ subst (λ (u : Tid). seen u ≡ true) is mine))
           by t other name has (inr far) = h.hidden t other name (sym (ap (λ (s : Share). has_name name (bound_names s.changes)) (share_put tid t (after_serve (share_of held tid) op reply) held far)) ∙ has)
 
       -- what a hidden one may have bound is in doubt

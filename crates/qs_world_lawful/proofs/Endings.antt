@@ -1,26 +1,11 @@
 -- Timers are told that a transaction ends that is asked for commit or aborted: of the servers they alone.
-use Rattle.std.proofs.Common.{◌≡◌, ◌≢◌, ℕ, ◌==◌, Bool, true, false, [], Option, Some, None, refl, sym, ap, subst, ◌∙◌, fold, arith, length}
-use Rattle.std.proofs.lemmas.Bool.Decides.{nat_tests}
-use Rattle.std.specs.Prelude.{◌||◌, is_some, if◌then◌else◌}
-use Rattle.qs_base.specs.declared.identifiers.Tid.{Tid}
-use Rattle.qs_ops.specs.Server.{changes_in, after_notice}
+use Rattle.qs_world_lawful.proofs.Words.{◌≡◌, ℕ, Bool, true, [], Option, Some, None, refl, sym, ap, subst, ◌∙◌, fold, length, ◌||◌, is_some, if◌then◌else◌, Tid, changes_in, after_notice, TransactionValue, life, ended_part, Part, BookValue, find_transaction, member_of, is_due_at, servers_due, Participant, with_server, end_member, end_members, due_endings, Work, face_of, at_server, HoldsFiles, HoldsTid, HoldsWork, book_at, eqb-false}
 use Rattle.qs_ops.specs.declared.vote.Notice.TheVariants as notices
-use Rattle.qs_book_machine.specs.Transaction.{TransactionValue, part_of, life, ended, ended_part, is_abort}
-use Rattle.qs_book_machine.specs.declared.transaction.Part.{Part}
-use Rattle.qs_book_machine.specs.Book.{BookValue, find_transaction}
+use Rattle.qs_book_machine.specs.Transaction.{part_of, ended, is_abort}
 use Rattle.qs_tm.specs.Manager as tm
 use Rattle.qs_tm.specs.Members as rules
 use Rattle.qs_tm.specs.Members.{all_servers}
-use Rattle.qs_tm.specs.Participant.{member_of, is_due_at, servers_due}
 use Rattle.qs_tm.specs.declared.participant.Due.TheVariants as dues
-use Rattle.qs_tm.specs.declared.participant.Participant.{Participant}
-use Rattle.qs_node_servers.specs.Servers.{with_server}
-use Rattle.qs_node_step.specs.Deciding.{end_member, end_members, due_endings}
-use Rattle.qs_node_step.specs.State.{Work}
-use Rattle.qs_world_lawful.specs.Face.{face_of, at_server}
-use Rattle.qs_world_lawful.specs.Filed.{HoldsFiles}
-use Rattle.qs_world_lawful.specs.Holds.{HoldsTid}
-use Rattle.qs_world_lawful.specs.Entering.{HoldsWork, book_at}
 use Rattle.qs_world_lawful.proofs.Clauses.{of_tid}
 use Rattle.qs_world_lawful.proofs.Learning.{by_end}
 use Rattle.qs_world_lawful.proofs.LearningAll.{no}
@@ -51,11 +36,8 @@ module _ (stamp : ℕ) (before : BookValue) (work : Work) (tid : Tid) (part : Pa
   pub ended_held : (is_some tx.asked || is_abort tx.cell) ≡ true → (member_of part (no 3)).fresh ≡ true → HoldsWork stamp before (end_member tid work (no 3))
   ended_held ends fresh = by_end stamp before work tid (no 3) part tx h known found refl refl fresh pending ends
     where
-      apart : (a b : ℕ) → (a == b) ≡ false → a ≢ b
-      apart a b e s = grind (arith, nat_tests, e, s)
-
       pending : (part_of (ended (at_server work.node.setting.node (no 3)) work.node.setting.inc tx) (at_server work.node.setting.node rules.files_no) work.node.setting.inc).pending
           ≡ length (changes_in (with_server (no 3) (λ value. after_notice value tid notices.Ending) work.node.servers).files tid)
       pending =
-          ap (λ (p : Part). p.pending) (changed_part_apart (life (at_server work.node.setting.node (no 3)) work.node.setting.inc) ended_part tx.parts (at_server work.node.setting.node rules.files_no) work.node.setting.inc (lives_apart work.node.setting.node work.node.setting.inc (no 3) rules.files_no (apart 3 0 refl)))
+          ap (λ (p : Part). p.pending) (changed_part_apart (life (at_server work.node.setting.node (no 3)) work.node.setting.inc) ended_part tx.parts (at_server work.node.setting.node rules.files_no) work.node.setting.inc (lives_apart work.node.setting.node work.node.setting.inc (no 3) rules.files_no (eqb-false 3 0 refl)))
           ∙ (held.pending ∙ sym (elsewhere_pending work.node.servers files (no 3) tid (λ value. after_notice value tid notices.Ending) refl))

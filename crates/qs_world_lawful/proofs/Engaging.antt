@@ -1,24 +1,10 @@
 -- Whom a node answers to, and the last request from each node: nothing is held of that, but of what went to each.
-use Rattle.std.proofs.Common.{◌≡◌, ℕ, Bool, true, false, Option, Some, None, refl, sym, ap, subst, ◌∙◌}
-use Rattle.std.specs.Prelude.{if◌then◌else◌}
-use Rattle.std.specs.Map.{set_value}
-use Rattle.std.specs.BTreeMap.{is_at}
-use Rattle.qs_base.specs.Order.{tid_cmp}
-use Rattle.qs_base.specs.declared.identifiers.NodeNo.{NodeNo}
-use Rattle.qs_base.specs.declared.identifiers.Tid.{Tid}
+use Rattle.qs_world_lawful.proofs.Words.{◌≡◌, ℕ, Bool, true, false, Option, Some, None, refl, sym, ap, subst, ◌∙◌, if◌then◌else◌, set_value, is_at, tid_cmp, NodeNo, Tid, no_peer, peer_of, with_last, Engage, PeerPart, changed_alike, BookValue, find_transaction, TransactionValue, Work, with_manager, Participant, HoldsWork, book_at, face_of, HoldsAt, HoldsHome, HoldsTid, some_same}
 use Rattle.qs_engage.specs.Engage as engage
-use Rattle.qs_engage.specs.Engage.{no_peer, peer_of, with_last, with_superior}
-use Rattle.qs_engage.specs.declared.engage.Engage.{Engage}
-use Rattle.qs_engage.specs.declared.engage.PeerPart.{PeerPart}
-use Rattle.qs_book_laws.proofs.Maps.{changed_alike}
-use Rattle.qs_book_machine.specs.Book.{BookValue, find_transaction}
-use Rattle.qs_book_machine.specs.Transaction.{TransactionValue}
-use Rattle.qs_node_step.specs.State.{NodeValue, Work, with_manager}
+use Rattle.qs_engage.specs.Engage.{with_superior}
+use Rattle.qs_node_step.specs.State.{NodeValue}
 use Rattle.qs_tm.specs.Manager as tm
-use Rattle.qs_tm.specs.declared.participant.Participant.{Participant}
-use Rattle.qs_world_lawful.specs.Entering.{HoldsWork, book_at}
-use Rattle.qs_world_lawful.specs.Face.{Face, face_of}
-use Rattle.qs_world_lawful.specs.Holds.{HoldsAt, HoldsHome, HoldsTid}
+use Rattle.qs_world_lawful.specs.Face.{Face}
 use Rattle.qs_world_lawful.proofs.Clauses.{of_tid}
 use Rattle.qs_world_lawful.proofs.Counting.{index_alike}
 use Rattle.qs_world_lawful.proofs.Faces.{part_apart, part_changed}
@@ -64,14 +50,11 @@ engaged_tid here inc tid tx face part g keeps h = record {
   home = λ at in_inc. engaged_home (h.home at in_inc);
 }
   where
-    of_some : {X : Type 0} {x y : X} → Some x ≡ Some y → x ≡ y
-    of_some e = cc e
-
     engaged_home : HoldsHome tx (Some part) → HoldsHome tx (Some (with_engage g part))
     engaged_home k = record {
       runs = λ is. refl;
-      undecided = λ p same unknown. k.undecided part refl (ap (λ q. q.outcome) (of_some same) ∙ unknown);
-      asked = λ p same still. k.asked part refl still ∙ ap (λ q. q.asked) (of_some same);
+      undecided = λ p same unknown. k.undecided part refl (ap (λ q. q.outcome) (some_same same) ∙ unknown);
+      asked = λ p same still. k.asked part refl still ∙ ap (λ q. q.asked) (some_same same);
     }
 
 -- it is changed where the transaction is known

@@ -1,26 +1,11 @@
 -- A request waits at its server, behind what waits there: it stands in that order.
-use Rattle.std.proofs.Common.{◌≡◌, ◌≢◌, ◌⊎◌, inl, inr, ℕ, ◌==◌, ◌≤◌, Bool, true, false, [], ◌∷◌, ◌++◌, Option, Some, refl, sym, ap, subst, ◌∙◌, arith, length}
-use Rattle.std.proofs.lemmas.Bool.Decides.{nat_tests}
-use Rattle.std.specs.Prelude.{◌&&◌, if◌then◌else◌}
-use Rattle.std.specs.List.{filter}
-use Rattle.qs_base.specs.declared.identifiers.NodeNo.{NodeNo}
-use Rattle.qs_base.specs.declared.identifiers.ServerNo.{ServerNo}
-use Rattle.qs_base.specs.declared.identifiers.Tid.{Tid}
-use Rattle.qs_base.proofs.Same.{same_tid-self}
+use Rattle.qs_world_lawful.proofs.Words.{◌≡◌, ◌≢◌, ◌⊎◌, inl, inr, ℕ, ◌==◌, ◌≤◌, Bool, true, false, [], ◌∷◌, ◌++◌, Option, Some, refl, sym, ap, subst, ◌∙◌, arith, length, if◌then◌else◌, filter, NodeNo, ServerNo, Tid, same_tid-self, queue_at, QueueValue, Delivery, BookValue, find_transaction, TransactionValue, is_standing, requests_at, RequestNo, enqueue, Work, with_queues, HoldsWork, book_at, at_server, face_of, HoldsAt, HoldsTid, HoldsWaits, HoldsWaitsAt, IsWithin, op_in, op_of, standing_ops}
+use Rattle.qs_world_lawful.proofs.Words.{waiting_ops, eqb_turned, eqb-false, and_parts, eqb-true}
 use Rattle.qs_ipc.specs.Ipc as ipc
-use Rattle.qs_ipc.specs.Ipc.{queue_at}
 use Rattle.qs_ipc.specs.Queue as queues
-use Rattle.qs_ipc.specs.Queue.{QueueValue, is_of}
-use Rattle.qs_ipc.specs.declared.delivery.Delivery.{Delivery}
-use Rattle.qs_book_machine.specs.Book.{BookValue, find_transaction}
-use Rattle.qs_book_machine.specs.Transaction.{TransactionValue, is_standing, requests_at}
-use Rattle.qs_book_machine.specs.declared.transaction.RequestNo.{RequestNo}
-use Rattle.qs_node_step.specs.Requests.{enqueue}
-use Rattle.qs_node_step.specs.State.{NodeValue, Work, with_queues}
-use Rattle.qs_world_lawful.specs.Entering.{HoldsWork, book_at}
-use Rattle.qs_world_lawful.specs.Face.{at_server, face_of, is_numbered, waiting_at}
-use Rattle.qs_world_lawful.specs.Holds.{HoldsAt, HoldsTid}
-use Rattle.qs_world_lawful.specs.Waits.{HoldsWaits, HoldsWaitsAt, IsWithin, op_in, op_of, standing_ops, waiting_ops}
+use Rattle.qs_ipc.specs.Queue.{is_of}
+use Rattle.qs_node_step.specs.State.{NodeValue}
+use Rattle.qs_world_lawful.specs.Face.{is_numbered, waiting_at}
 use Rattle.qs_world_lawful.proofs.Apart.{Apart, same_or_apart}
 use Rattle.qs_world_lawful.proofs.Clauses.{of_tid}
 use Rattle.qs_world_lawful.proofs.Faces.{filter_last, filter_more, queued_elsewhere, queued_here, same_server_or, waiting_apart}
@@ -59,17 +44,9 @@ module _ (stamp : ℕ) (before : BookValue) (work : Work) (h : HoldsWork stamp b
 
   key_is : (at : RequestNo) → at.link.to ≡ here → is_numbered at delivery ≡ true → its_at ≡ at
   key_is at near is =
-      let parts = both (delivery.from.0 == at.link.from.0) (delivery.number == at.number) is in
-      made delivery.from at.link.from here at.link.to delivery.number at.number (ap (λ (n : ℕ). record { 0 = n }) (number_is delivery.from.0 at.link.from.0 parts.0)) (sym near) (number_is delivery.number at.number parts.1)
+      let parts = and_parts (delivery.from.0 == at.link.from.0) (delivery.number == at.number) is in
+      made delivery.from at.link.from here at.link.to delivery.number at.number (ap (λ (n : ℕ). record { 0 = n }) (eqb-true delivery.from.0 at.link.from.0 parts.0)) (sym near) (eqb-true delivery.number at.number parts.1)
     where
-      both : (a b : Bool) → (a && b) ≡ true → (a ≡ true) × (b ≡ true)
-      both true true e = (refl, refl)
-      both true false e = absurd (cc e)
-      both false b e = absurd (cc e)
-
-      number_is : (a b : ℕ) → (a == b) ≡ true → a ≡ b
-      number_is a b e = grind (arith, nat_tests, e)
-
       made : (a b c d : NodeNo) (m n : ℕ) → a ≡ b → c ≡ d → m ≡ n → numbered_as a c m ≡ numbered_as b d n
       made a b c d m n p q r = ap (λ (x : NodeNo). numbered_as x c m) p ∙ (ap (λ (x : NodeNo). numbered_as b x m) q ∙ ap (numbered_as b d) r)
 
@@ -90,15 +67,9 @@ module _ (stamp : ℕ) (before : BookValue) (work : Work) (h : HoldsWork stamp b
     within_on : (other : ServerNo) (at : RequestNo) → at.link.to ≡ here → IsWithin (waiting_ops at (waiting_at new tid other)) (standing_ops tx at here other)
     within_on other at near = by (other.0 == server.0) refl
       where
-        equal : (a b : ℕ) → (a == b) ≡ true → b ≡ a
-        equal a b e = grind (arith, nat_tests, e)
-
-        differ : (a b : ℕ) → (a == b) ≡ false → a ≢ b
-        differ a b e same = grind (arith, nat_tests, e, same)
-
         by : (b : Bool) → (other.0 == server.0) ≡ b → IsWithin (waiting_ops at (waiting_at new tid other)) (standing_ops tx at here other)
-        by true is = subst (λ (s : ServerNo). IsWithin (waiting_ops at (waiting_at new tid s)) (standing_ops tx at here s)) (ap (λ (n : ℕ). record { 0 = n }) (equal other.0 server.0 is)) (rw waits_here (within_here at near))
-        by false is = rw (waits_elsewhere other (λ e. differ other.0 server.0 is (ap (λ (s : ServerNo). s.0) e))) (its_waits.within other at near)
+        by true is = subst (λ (s : ServerNo). IsWithin (waiting_ops at (waiting_at new tid s)) (standing_ops tx at here s)) (ap (λ (n : ℕ). record { 0 = n }) (eqb_turned other.0 server.0 is)) (rw waits_here (within_here at near))
+        by false is = rw (waits_elsewhere other (λ e. eqb-false other.0 server.0 is (ap (λ (s : ServerNo). s.0) e))) (its_waits.within other at near)
 
     queued_on : (other : ServerNo) (at : RequestNo) → at.link.to ≡ here → length (filter (is_numbered at) (waiting_at new tid other)) ≤ length (filter (is_standing (at_server here other)) (requests_at tx at))
     queued_on other at near = fewer _ _ _ _ (map_length op_of (filter (is_numbered at) (waiting_at new tid other))) (map_length op_in (filter (is_standing (at_server here other)) (requests_at tx at)))

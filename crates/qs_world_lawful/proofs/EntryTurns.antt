@@ -1,25 +1,9 @@
 -- Each lawful entry begins one transaction, or turns each of them.
-use Rattle.std.proofs.Common.{◌≡◌, ◌⊎◌, inl, inr, ℕ, ◌+◌, List, Option, Some, None, refl, sym, ap, subst, ◌∙◌, if◌then◌else◌}
-use Rattle.std.specs.Prelude.{slice_get}
-use Rattle.std.specs.BTreeMap.{is_at}
-use Rattle.qs_base.specs.Order.{tid_cmp}
-use Rattle.qs_base.specs.declared.identifiers.ClientNo.{ClientNo}
-use Rattle.qs_base.specs.declared.identifiers.Tid.{Tid}
-use Rattle.qs_base.proofs.TidOrder.{tid_exact}
-use Rattle.qs_book_journal.specs.declared.entry.Act.{Act}
+use Rattle.qs_world_lawful.proofs.Words.{◌≡◌, ◌⊎◌, inl, inr, ℕ, ◌+◌, List, Option, Some, None, refl, sym, ap, subst, ◌∙◌, if◌then◌else◌, slice_get, is_at, tid_cmp, ClientNo, Tid, tid_exact, Act, Entry, Found, tid_itself, lookup_put, lookup_put_apart, Inv, next_is, begin_may, held, BookValue, find_transaction, inc_at, ticks_at, broken, broken_act, broken_at, broken_node, effect, effect_act, broken_restart, restart, TransactionValue, begun, entry_of}
 use Rattle.qs_book_journal.specs.declared.entry.Act.TheVariants as acts
-use Rattle.qs_book_journal.specs.declared.entry.Entry.{Entry}
-use Rattle.qs_book_journal.specs.declared.entry.Found.{Found}
-use Rattle.qs_book_laws.proofs.Alikes.{tid_itself}
-use Rattle.qs_book_laws.proofs.Maps.{lookup_put, lookup_put_apart}
-use Rattle.qs_book_laws.proofs.Outcomes.{Inv, next_is}
-use Rattle.qs_book_laws.proofs.Steps.{begin_may, held, unheld}
-use Rattle.qs_book_machine.specs.Book.{BookValue, find_transaction, inc_at, ticks_at}
-use Rattle.qs_book_machine.specs.Lawful.{broken, broken_act, broken_at, broken_node, effect, effect_act, is_in_order}
+use Rattle.qs_book_laws.proofs.Steps.{unheld}
+use Rattle.qs_book_machine.specs.Lawful.{is_in_order}
 use Rattle.qs_book_machine.specs.Nodes as machine
-use Rattle.qs_book_machine.specs.Restart.{broken_restart, restart}
-use Rattle.qs_book_machine.specs.Transaction.{TransactionValue, begun}
-use Rattle.qs_world.specs.Posting.{entry_of}
 use Rattle.qs_world_lawful.proofs.Apart.{Apart}
 use Rattle.qs_world_lawful.proofs.AnyRestart.{restart_turns}
 use Rattle.qs_world_lawful.proofs.LogActs.{fresh}

@@ -1,24 +1,9 @@
 -- What changes of one transaction at a node leaves what the node has of every other.
-use Rattle.std.proofs.Common.{◌≡◌, ℕ, Bool, true, false, List, [], ◌∷◌, ◌++◌, Option, Some, None, Less, Equal, Greater, refl, sym, ap, subst, ◌∙◌, drop}
-use Rattle.std.specs.Prelude.{unwrap_or, if◌then◌else◌}
-use Rattle.std.specs.List.{filter}
-use Rattle.std.specs.Map.{lookup, set_value}
-use Rattle.std.specs.BTreeMap.{insert_entry, is_at}
-use Rattle.std.specs.declared.cmp.Ordering.{Ordering}
-use Rattle.std.proofs.lemmas.Cmp.{tied_itself, nat_cmp_total}
-use Rattle.std.proofs.lemmas.Map.Lookups.{exact_unsigned}
-use Rattle.qs_base.specs.Order.{tid_cmp, same_tid}
-use Rattle.qs_base.specs.declared.identifiers.ServerNo.{ServerNo}
-use Rattle.qs_base.specs.declared.identifiers.Tid.{Tid}
-use Rattle.qs_base.proofs.TidOrder.{tid_exact}
+use Rattle.qs_world_lawful.proofs.Words.{◌≡◌, ℕ, Bool, true, false, List, [], ◌∷◌, ◌++◌, Option, Some, None, Less, Equal, Greater, refl, sym, ap, subst, ◌∙◌, drop, true≢false, unwrap_or, if◌then◌else◌, filter, lookup, set_value, insert_entry, is_at, Ordering, tied_itself, nat_cmp_total, exact_unsigned, tid_cmp, same_tid, ServerNo, Tid, tid_exact, IpcValue, queue_at, server_cmp, QueueValue, no_queue, Delivery, lookup_changed, changed_apart, changed_none, lookup_set, lookup_put, lookup_put_apart}
+use Rattle.qs_world_lawful.proofs.Words.{Manager, Participant}
 use Rattle.qs_ipc.specs.Ipc as ipc
-use Rattle.qs_ipc.specs.Ipc.{IpcValue, queue_at, server_cmp}
-use Rattle.qs_ipc.specs.Queue.{QueueValue, no_queue, added, after_first, is_of}
-use Rattle.qs_ipc.specs.declared.delivery.Delivery.{Delivery}
-use Rattle.qs_book_laws.proofs.Maps.{lookup_changed, changed_apart, changed_none, lookup_set, lookup_put, lookup_put_apart}
+use Rattle.qs_ipc.specs.Queue.{added, after_first, is_of}
 use Rattle.qs_tm.specs.Manager as tm
-use Rattle.qs_tm.specs.declared.manager.Manager.{Manager}
-use Rattle.qs_tm.specs.declared.participant.Participant.{Participant}
 use Rattle.qs_world_lawful.proofs.Apart.{Apart}
 
 -- ---- what the manager knows
@@ -70,12 +55,9 @@ queued_elsewhere server other delivery queues far = by (lookup (is_at (server_cm
     apart : (k : ServerNo) → is_at (server_cmp other) k ≡ true → is_at (server_cmp server) k ≡ false
     apart k at = test (is_at (server_cmp server) k) refl
       where
-        no : true ≡ false → ⊥
-        no e = cc e
-
         test : (b : Bool) → is_at (server_cmp server) k ≡ b → b ≡ false
         test false is = refl
-        test true is = absurd (no (sym (subst (λ (s : ServerNo). is_at (server_cmp other) s ≡ true) (sym (at_exact server k is)) at) ∙ far))
+        test true is = absurd (true≢false (sym (subst (λ (s : ServerNo). is_at (server_cmp other) s ≡ true) (sym (at_exact server k is)) at) ∙ far))
 
     by : (o : Option QueueValue) → lookup (is_at (server_cmp server)) queues ≡ o → or_none (lookup (is_at (server_cmp other)) (elim o [ None ↦ insert_entry server_cmp queues server (added delivery no_queue) | Some queue ↦ set_value (is_at (server_cmp server)) queues (added delivery queue) ])) ≡ queue_at queues other
     by None is = ap or_none (lookup_put_apart server_cmp server (added delivery no_queue) (server_exact server) (is_at (server_cmp other)) far queues)
@@ -97,16 +79,13 @@ left_elsewhere server other queues apart = ap or_none (changed_apart (is_at (ser
 pub same_server_or : (s t : ServerNo) → (P : Type 0) → (s ≡ t → P) → (is_at (server_cmp t) s ≡ false → ((k : ServerNo) → is_at (server_cmp t) k ≡ true → is_at (server_cmp s) k ≡ false) → P) → P
 same_server_or s t P same other = by (is_at (server_cmp t) s) refl
   where
-    no : true ≡ false → ⊥
-    no e = cc e
-
     by : (b : Bool) → is_at (server_cmp t) s ≡ b → P
     by true is = same (sym (at_exact t s is))
     by false is = other is (λ k at. test k at (is_at (server_cmp s) k) refl)
       where
         test : (k : ServerNo) → is_at (server_cmp t) k ≡ true → (b : Bool) → is_at (server_cmp s) k ≡ b → b ≡ false
         test k at false so = refl
-        test k at true so = absurd (no (sym (subst (λ (u : ServerNo). is_at (server_cmp t) u ≡ true) (sym (at_exact s k so)) at) ∙ is))
+        test k at true so = absurd (true≢false (sym (subst (λ (u : ServerNo). is_at (server_cmp t) u ≡ true) (sym (at_exact s k so)) at) ∙ is))
 
 -- ---- what waits of a transaction
 

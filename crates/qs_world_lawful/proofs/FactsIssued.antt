@@ -1,29 +1,12 @@
 -- A request that is issued gets the next number, so that what waits stays numbered; what else holds of the node by itself holds on.
-use Rattle.std.proofs.Common.{◌≡◌, ℕ, ◌+◌, ◌==◌, ◌<◌, Bool, true, false, length, Option, Some, None, refl, sym, ap, subst, ◌∙◌, arith, nat_lt}
-use Rattle.std.proofs.lemmas.Bool.Decides.{nat_tests}
-use Rattle.std.specs.BTreeMap.{is_at}
-use Rattle.std.specs.Prelude.{unwrap_or, if◌then◌else◌}
-use Rattle.qs_base.proofs.TidOrder.{tid_exact}
-use Rattle.qs_base.specs.Order.{tid_cmp}
-use Rattle.qs_base.specs.declared.identifiers.Member.{Member}
-use Rattle.qs_base.specs.declared.identifiers.NodeNo.{NodeNo}
-use Rattle.qs_base.specs.declared.identifiers.ServerNo.{ServerNo}
-use Rattle.qs_base.specs.declared.identifiers.Tid.{Tid}
-use Rattle.qs_engage.specs.Engage.{last_number, next_sent, peer_of}
-use Rattle.qs_engage.specs.Nodes.{same_node}
-use Rattle.qs_book_laws.proofs.Alikes.{tid_itself}
-use Rattle.qs_book_laws.proofs.Maps.{lookup_put, lookup_put_apart}
-use Rattle.qs_ops.specs.declared.operation.Op.{Op}
+use Rattle.qs_world_lawful.proofs.Words.{◌≡◌, ℕ, ◌+◌, ◌==◌, ◌<◌, Bool, true, false, length, Option, Some, None, refl, sym, ap, subst, ◌∙◌, arith, nat_lt, nat_tests, is_at, unwrap_or, if◌then◌else◌, tid_exact, tid_cmp, Member, NodeNo, ServerNo, Tid, last_number, peer_of, same_node, tid_itself, lookup_put, lookup_put_apart, Op, send, ask_on, enter_issue, is_asked, issue_as, issue_away, issue_here, label_of, local_count, next_local, next_number, with_local, Work, here, with_manager, Manager}
+use Rattle.qs_world_lawful.proofs.Words.{Outstanding, Participant, AreNumbered, HasFacts, HasNodeFacts, IsPart, locals_of}
+use Rattle.qs_engage.specs.Engage.{next_sent}
 use Rattle.qs_packet.specs.declared.message.Message.TheVariants as messages
-use Rattle.qs_node_step.specs.Bringing.{send}
-use Rattle.qs_node_step.specs.Requests.{ask_on, enter_issue, is_asked, issue, issue_as, issue_away, issue_here, label_of, local_count, next_local, next_number, with_local}
-use Rattle.qs_node_step.specs.State.{NodeValue, Work, here, with_manager}
+use Rattle.qs_node_step.specs.Requests.{issue}
+use Rattle.qs_node_step.specs.State.{NodeValue}
 use Rattle.qs_tm.specs.Manager as tm
 use Rattle.qs_tm.specs.Participant as participant
-use Rattle.qs_tm.specs.declared.manager.Manager.{Manager}
-use Rattle.qs_tm.specs.declared.participant.Outstanding.{Outstanding}
-use Rattle.qs_tm.specs.declared.participant.Participant.{Participant}
-use Rattle.qs_world_lawful.specs.NodeFacts.{AreNumbered, HasFacts, HasNodeFacts, IsPart, locals_of}
 use Rattle.qs_world_lawful.proofs.Apart.{Apart}
 use Rattle.qs_world_lawful.proofs.FactsKept.{part_facts}
 use Rattle.qs_world_lawful.proofs.FactsQuiet.{sent_home, sent_slots}

@@ -1,31 +1,10 @@
 -- What holds of a node by itself through each thing that a rule does to it.
-use Rattle.std.proofs.Common.{◌≡◌, ◌⊎◌, inl, inr, ℕ, Bool, true, false, List, [], ◌∷◌, length, Option, Some, None, refl, sym, ap, subst, ◌∙◌}
-use Rattle.std.specs.BTreeMap.{is_at}
-use Rattle.std.specs.List.{find}
-use Rattle.std.specs.Map.{lookup, remove_entry}
-use Rattle.std.specs.Prelude.{is_some, if◌then◌else◌}
-use Rattle.qs_base.proofs.TidOrder.{tid_total}
-use Rattle.qs_base.specs.Order.{tid_cmp}
-use Rattle.qs_base.specs.declared.identifiers.ClientNo.{ClientNo}
-use Rattle.qs_base.specs.declared.identifiers.NodeNo.{NodeNo}
-use Rattle.qs_base.specs.declared.identifiers.Outcome.{Outcome}
-use Rattle.qs_base.specs.declared.identifiers.Tid.{Tid}
-use Rattle.qs_engage.specs.Nodes.{same_node}
-use Rattle.qs_engage.specs.declared.engage.Engage.{Engage}
-use Rattle.qs_node_kept.specs.Keeping.{has_label, is_outcome_of}
-use Rattle.qs_node_kept.specs.declared.kept.KeptLabel.{KeptLabel}
+use Rattle.qs_world_lawful.proofs.Words.{◌≡◌, ◌⊎◌, inl, inr, ℕ, Bool, true, false, List, [], ◌∷◌, length, Option, Some, None, refl, sym, ap, subst, ◌∙◌, is_at, find, lookup, remove_entry, is_some, if◌then◌else◌, tid_total, tid_cmp, ClientNo, NodeNo, Outcome, Tid, same_node, Engage, has_label, is_outcome_of, Begun, at_exact, put_rises, remove_rises, removed, Setting, OpenCommand, new_participant, Manager, Participant, AreNumbered, HasFacts, IsPart, IsRunning}
 use Rattle.qs_node_kept.specs.declared.kept.Kept.{Kept}
-use Rattle.qs_book_laws.proofs.Alikes.{at_exact}
-use Rattle.qs_book_laws.proofs.Rising.{put_rises, remove_rises, removed}
-use Rattle.qs_node_step.specs.declared.setting.Setting.{Setting}
-use Rattle.qs_node_step.specs.declared.state.OpenCommand.{OpenCommand}
 use Rattle.qs_tm.specs.Manager as tm
 use Rattle.qs_tm.specs.Outcomes as outcome_rules
 use Rattle.qs_tm.specs.Outcomes.{aborted_participant}
-use Rattle.qs_tm.specs.Participant.{new_participant}
-use Rattle.qs_tm.specs.declared.manager.Manager.{Manager}
-use Rattle.qs_tm.specs.declared.participant.Participant.{Participant}
-use Rattle.qs_world_lawful.specs.NodeFacts.{AreNumbered, HasFacts, IsOf, IsPart, IsRunning}
+use Rattle.qs_world_lawful.specs.NodeFacts.{IsOf}
 use Rattle.qs_world_lawful.proofs.Apart.{Apart, same_or_apart}
 use Rattle.qs_world_lawful.proofs.Faces.{part_apart, part_changed, part_unknown, put_apart}
 use Rattle.qs_world_lawful.proofs.Marks.{changed_rises, put_there}
@@ -164,7 +143,7 @@ module _ (s : Setting) (k : Kept) (c : Commands) (local : Tid → ℕ) where
 
   -- ---- one is forgotten, that no client here owns undecided
 
-  pub forget_facts : (tid : Tid) (m : Manager) → ((label : List ℕ) (begun : KeptLabel) (client : ClientNo) → find (has_label label) k.labels ≡ Some begun → begun.tid ≡ Some tid → begun.owner ≡ Some client → find (is_outcome_of tid) k.outcomes ≡ None → ⊥)
+  pub forget_facts : (tid : Tid) (m : Manager) → ((label : List ℕ) (begun : Begun) (client : ClientNo) → find (has_label label) k.labels ≡ Some begun → begun.tid ≡ Some tid → begun.owner ≡ Some client → find (is_outcome_of tid) k.outcomes ≡ None → ⊥)
       → HasFacts s m k c local → HasFacts s (tm.forget tid m) k c local
   forget_facts tid m unowned h = record {
     setting = h.setting;

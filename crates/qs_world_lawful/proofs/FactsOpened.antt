@@ -1,38 +1,20 @@
 -- What holds of a node by itself as an incarnation of it begins: with what its log says, and with what was kept for its clients.
-use Rattle.std.proofs.Common.{◌≡◌, ◌⊎◌, inl, inr, ℕ, ◌==◌, Bool, true, false, List, [], ◌∷◌, ◌++◌, length, fold, Option, Some, None, refl, sym, ap, subst, ◌∙◌}
-use Rattle.std.specs.List.{find, list_any}
-use Rattle.std.specs.Prelude.{◌&&◌, is_none, is_some, if◌then◌else◌}
-use Rattle.std.specs.Global.{Global}
-use Rattle.qs_base.proofs.Same.{same_tid-self}
-use Rattle.qs_base.proofs.TidOrder.{tid_total}
-use Rattle.qs_base.specs.Order.{same_tid, tid_cmp}
-use Rattle.qs_base.specs.declared.identifiers.NodeNo.{NodeNo}
-use Rattle.qs_base.specs.declared.identifiers.ServerNo.{ServerNo}
-use Rattle.qs_base.specs.declared.identifiers.Tid.{Tid}
-use Rattle.qs_engage.specs.Nodes.{same_node}
+use Rattle.qs_world_lawful.proofs.Words.{◌≡◌, ◌⊎◌, inl, inr, ℕ, ◌==◌, Bool, true, false, List, [], ◌∷◌, ◌++◌, length, fold, Option, Some, None, refl, sym, ap, subst, ◌∙◌, find, list_any, ◌&&◌, is_none, is_some, if◌then◌else◌, Global, same_tid-self, tid_total, same_tid, tid_cmp, NodeNo, ServerNo, Tid, same_node, has_label, is_outcome_of, Begun, Decided, IsRising, put_rises, Record, close_outcome, close_tid, is_left_open, new_manager, outcome_in_log, take_up, Setting, committed_before, voted_before}
+use Rattle.qs_world_lawful.proofs.Words.{new_participant, Manager, Participant, AreNumbered, HasNodeFacts, IsPart}
 use Rattle.qs_base.specs.declared.identifiers.Outcome.TheVariants as outcomes
 use Rattle.qs_ops.specs.declared.answer.Cause.TheVariants as causes
-use Rattle.qs_node_kept.specs.Keeping.{has_label, is_outcome_of}
-use Rattle.qs_node_kept.specs.declared.kept.KeptLabel.{KeptLabel}
-use Rattle.qs_node_kept.specs.declared.kept.Decided.{Decided}
 use Rattle.qs_node_kept.specs.declared.kept.Kept.{Kept}
-use Rattle.qs_book_laws.proofs.Rising.{IsRising, put_rises}
-use Rattle.qs_record.specs.declared.record.Record.{Record}
 use Rattle.qs_record.specs.declared.record.Record.TheVariants as records
 use Rattle.qs_restart.specs.declared.recovered.Recovered.{Recovered}
-use Rattle.qs_node_step.specs.Opening.{close_outcome, close_tid, is_left_open, new_manager, opened_manager, opened_node, outcome_in_log, take_up}
-use Rattle.qs_node_step.specs.declared.setting.Setting.{Setting}
+use Rattle.qs_node_step.specs.Opening.{opened_manager, opened_node}
 use Rattle.qs_tm.specs.Manager as tm
-use Rattle.qs_tm.specs.Outcomes.{committed_before, voted_before}
-use Rattle.qs_tm.specs.Participant.{new_participant}
-use Rattle.qs_tm.specs.declared.manager.Manager.{Manager}
-use Rattle.qs_tm.specs.declared.participant.Participant.{Participant}
-use Rattle.qs_world_lawful.specs.NodeFacts.{AreHomed, AreNumbered, HasNodeFacts, IsOf, IsPart, IsSetIn}
+use Rattle.qs_world_lawful.specs.NodeFacts.{AreHomed, IsOf, IsSetIn}
 use Rattle.qs_world_lawful.proofs.Apart.{Apart, same_or_apart}
 use Rattle.qs_world_lawful.proofs.Faces.{put_apart}
 use Rattle.qs_world_lawful.proofs.FactsKept.{each_changed, none_wait, room_on}
 use Rattle.qs_world_lawful.proofs.Marks.{changed_rises, put_there}
 use Rattle.qs_world_lawful.proofs.Truths.{clash, of_some, same_self}
+use Rattle.qs_base_lemmas.proofs.Tests.{none_some}
 
 -- ---- what is taken up from the log
 
@@ -148,7 +130,7 @@ module _ (node : NodeNo) (committed : List Tid) where
       by true = end_more tid outcomes (outcome_in_log committed t) is
       by false = is
 
-  closed_all : (tid : Tid) (labels : List KeptLabel) (outcomes : List Decided) → is_some (find (is_outcome_of tid) outcomes) ≡ true → is_some (find (is_outcome_of tid) (fold (close_outcome node committed) outcomes labels)) ≡ true
+  closed_all : (tid : Tid) (labels : List Begun) (outcomes : List Decided) → is_some (find (is_outcome_of tid) outcomes) ≡ true → is_some (find (is_outcome_of tid) (fold (close_outcome node committed) outcomes labels)) ≡ true
   closed_all tid [] outcomes is = is
   closed_all tid (begun ∷ labels) outcomes is = closed_all tid labels (close_outcome node committed outcomes begun) (closed_still tid outcomes begun.tid is)
 
@@ -160,14 +142,14 @@ module _ (node : NodeNo) (committed : List Tid) where
       by (Some decided) is = rw (home, is) (ap (λ (d : Option Decided). is_some d) is)
 
   -- each label's transaction that is of this node has an end
-  closed_label : (test : KeptLabel → Bool) (labels : List KeptLabel) (outcomes : List Decided) (begun : KeptLabel) (tid : Tid) → find test labels ≡ Some begun → begun.tid ≡ Some tid → same_node tid.home node ≡ true
+  closed_label : (test : Begun → Bool) (labels : List Begun) (outcomes : List Decided) (begun : Begun) (tid : Tid) → find test labels ≡ Some begun → begun.tid ≡ Some tid → same_node tid.home node ≡ true
       → is_some (find (is_outcome_of tid) (fold (close_outcome node committed) outcomes labels)) ≡ true
   closed_label test [] outcomes begun tid found of home = absurd (cc found)
   closed_label test (x ∷ xs) outcomes begun tid found of home = by (test x) found (λ f. closed_label test xs (close_outcome node committed outcomes x) begun tid f of home)
     where
       by : (b : Bool) → (if b then Some x else find test xs) ≡ Some begun → (find test xs ≡ Some begun → is_some (find (is_outcome_of tid) (fold (close_outcome node committed) (close_outcome node committed outcomes x) xs)) ≡ true)
           → is_some (find (is_outcome_of tid) (fold (close_outcome node committed) (close_outcome node committed outcomes x) xs)) ≡ true
-      by true found rest = closed_all tid xs (close_outcome node committed outcomes x) (subst (λ (o : Option Tid). is_some (find (is_outcome_of tid) (close_tid node committed outcomes o)) ≡ true) (sym (ap (λ (b : KeptLabel). b.tid) (of_some found) ∙ of)) (closed_one tid outcomes home))
+      by true found rest = closed_all tid xs (close_outcome node committed outcomes x) (subst (λ (o : Option Tid). is_some (find (is_outcome_of tid) (close_tid node committed outcomes o)) ≡ true) (sym (ap (λ (b : Begun). b.tid) (of_some found) ∙ of)) (closed_one tid outcomes home))
       by false found rest = rest found
 
 -- ---- an incarnation begins
@@ -180,14 +162,10 @@ opened_facts alloc s found kept set homed = record {
   parts = up.parts;
   labels = record {
     homed = homed;
-    runs = λ label begun tid client is of owned none. absurd (no_end (find (is_outcome_of tid) (fold (close_outcome s.node found.committed) kept.outcomes kept.labels)) none (closed_label s.node found.committed (has_label label) kept.labels kept.outcomes begun tid is of (ap (λ (n : NodeNo). same_node n s.node) (homed label begun tid client is of owned) ∙ same_self s.node.0)));
+    runs = λ label begun tid client is of owned none. absurd (none_some (find (is_outcome_of tid) (fold (close_outcome s.node found.committed) kept.outcomes kept.labels)) none (closed_label s.node found.committed (has_label label) kept.labels kept.outcomes begun tid is of (ap (λ (n : NodeNo). same_node n s.node) (homed label begun tid client is of owned) ∙ same_self s.node.0)));
   };
   commands = tt;
 }
   where
     up : IsUp s (opened_manager alloc s found)
     up = all_up s (found.in_doubt ++ found.untold) (new_manager alloc s) (record { room = record { at = refl; in_inc = refl; extra = refl; keep = refl }; rising = tt; parts = λ tid part known. absurd (cc known) })
-
-    no_end : (o : Option Decided) → o ≡ None → is_some o ≡ true → ⊥
-    no_end None e is = cc is
-    no_end (Some d) e is = cc e

@@ -1,23 +1,10 @@
 -- What a rule changes of one transaction is quiet but for its outcome: who is its home, how many peers there are, and what its log says.
-use Rattle.std.proofs.Common.{◌≡◌, ℕ, ◌+◌, ◌==◌, Bool, true, false, List, [], ◌∷◌, length, Option, Some, None, zero, suc, refl, ap, ◌∙◌}
-use Rattle.std.specs.Prelude.{not, ◌||◌, slice_set, if◌then◌else◌}
-use Rattle.qs_base.specs.declared.identifiers.Member.{Member}
-use Rattle.qs_base.specs.declared.identifiers.NodeNo.{NodeNo}
-use Rattle.qs_base.specs.declared.identifiers.ServerNo.{ServerNo}
+use Rattle.qs_world_lawful.proofs.Words.{◌≡◌, ℕ, ◌+◌, ◌==◌, Bool, true, false, List, [], ◌∷◌, length, Option, Some, None, zero, suc, refl, ap, ◌∙◌, not, ◌||◌, slice_set, if◌then◌else◌, Member, NodeNo, ServerNo, last_number, peer_of, with_last, Engage, PeerPart, Cause, Vote, Record, class_here, is_told_class, is_answered_by, member_of, with_member, Participant, AreNumbered}
 use Rattle.qs_engage.specs.Engage as engage
-use Rattle.qs_engage.specs.Engage.{last_number, peer_of, with_last, with_peer, with_superior}
-use Rattle.qs_engage.specs.declared.engage.Engage.{Engage}
-use Rattle.qs_engage.specs.declared.engage.PeerPart.{PeerPart}
-use Rattle.qs_ops.specs.declared.answer.Cause.{Cause}
-use Rattle.qs_ops.specs.declared.vote.Vote.{Vote}
-use Rattle.qs_record.specs.declared.record.Record.{Record}
+use Rattle.qs_engage.specs.Engage.{with_peer, with_superior}
 use Rattle.qs_record.specs.declared.record.Record.TheVariants as records
-use Rattle.qs_tm.specs.Members.{class_here, is_told_class}
 use Rattle.qs_tm.specs.Outcomes as outcome_rules
 use Rattle.qs_tm.specs.Participant as participant
-use Rattle.qs_tm.specs.Participant.{is_answered_by, member_of, with_member}
-use Rattle.qs_tm.specs.declared.participant.Participant.{Participant}
-use Rattle.qs_world_lawful.specs.NodeFacts.{AreNumbered}
 use Rattle.qs_world_lawful.proofs.FactsKept.{IsQuiet}
 use Rattle.qs_world_lawful.proofs.Numbers.{as_many_given, fewer_wait, peer_sent}
 

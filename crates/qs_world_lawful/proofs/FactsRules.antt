@@ -1,51 +1,24 @@
 -- What holds of a node by itself through its rules: messages, answers, records, requests and replies, serving, notices and decisions.
-use Rattle.std.proofs.Common.{◌≡◌, ℕ, Bool, true, false, List, [], ◌∷◌, ◌++◌, fold, Option, Some, None, refl, sym, subst}
-use Rattle.std.specs.BTreeMap.{is_at}
-use Rattle.std.specs.Map.{lookup, remove_entry}
-use Rattle.std.specs.Prelude.{not, ◌&&◌, is_none, if◌then◌else◌}
-use Rattle.qs_base.specs.declared.identifiers.ClientNo.{ClientNo}
-use Rattle.qs_base.specs.declared.identifiers.Member.{Member}
-use Rattle.qs_base.specs.declared.identifiers.NodeNo.{NodeNo}
-use Rattle.qs_base.specs.declared.identifiers.Outcome.{Outcome}
+use Rattle.qs_world_lawful.proofs.Words.{◌≡◌, ℕ, Bool, true, false, List, [], ◌∷◌, ◌++◌, fold, Option, Some, None, refl, sym, subst, is_at, lookup, remove_entry, not, ◌&&◌, is_none, if◌then◌else◌, ClientNo, Member, NodeNo, Outcome, ServerNo, Tid, is_node, uncovered, listed, same_node, Engaged, Delivery, answer_of, after_serving, Answer, Cause, Op, Reply, Message, Record, client_of, is_client, ask_came, asked_by, become_asked, block, closer_came, pass_unknown, refusal_came, where_undecided, enter}
+use Rattle.qs_world_lawful.proofs.Words.{log_if, member_here, send, send_each, tid_of, decide_commit, due_endings, end_member, end_members, give_notices, keep_outcome, learn_member, learn_members, learners_at, answer_issuer, enqueue, reply_came, take_reply, waits_as, cover_from, engage, enter_serve, is_dropped, label_at, learn_label, lent_to, make_loan, may_serve, met, put_label, reply_here, request_came, serve_all, serve_next, serve_or_drop, take_in, Work, change_server, client_cmp, here}
+use Rattle.qs_world_lawful.proofs.Words.{with_doings, with_manager, with_queues, OpenCommand, is_undecided, Decision, Outstanding, Participant, HasFacts, HasNodeFacts, IsCommand, locals_of, none_is}
 use Rattle.qs_base.specs.declared.identifiers.Outcome.TheVariants as outcomes
-use Rattle.qs_base.specs.declared.identifiers.ServerNo.{ServerNo}
-use Rattle.qs_base.specs.declared.identifiers.Tid.{Tid}
-use Rattle.qs_engage.specs.Engage.{is_node, uncovered}
-use Rattle.qs_engage.specs.Nodes.{listed, same_node}
-use Rattle.qs_engage.specs.declared.engage.Engaged.{Engaged}
 use Rattle.qs_engage.specs.declared.engage.Engaged.TheVariants as engagements
 use Rattle.qs_ipc.specs.Ipc as ipc
 use Rattle.qs_ipc.specs.Queue.{is_for}
-use Rattle.qs_ipc.specs.declared.delivery.Delivery.{Delivery}
 use Rattle.qs_book_journal.specs.declared.entry.Act.TheVariants as acts
-use Rattle.qs_ops.specs.Operations.{answer_of}
-use Rattle.qs_ops.specs.Server.{after_serving}
-use Rattle.qs_ops.specs.declared.answer.Answer.{Answer}
-use Rattle.qs_ops.specs.declared.answer.Cause.{Cause}
 use Rattle.qs_ops.specs.declared.answer.Cause.TheVariants as causes
-use Rattle.qs_ops.specs.declared.operation.Op.{Op}
-use Rattle.qs_ops.specs.declared.reply.Reply.{Reply}
-use Rattle.qs_packet.specs.declared.message.Message.{Message}
 use Rattle.qs_packet.specs.declared.message.Message.TheVariants as messages
-use Rattle.qs_record.specs.declared.record.Record.{Record}
-use Rattle.qs_node_servers.specs.Servers.{client_of, is_client}
-use Rattle.qs_node_step.specs.Asking.{ask_came, asked_by, become_asked, block, closer_came, count, pass_unknown, refusal_came, where_undecided}
-use Rattle.qs_node_step.specs.Bringing.{answer, enter, log_if, member_here, send, send_each, tid_of}
-use Rattle.qs_node_step.specs.Deciding.{decide, decide_commit, due_endings, end_member, end_members, give_notices, keep_outcome, learn_member, learn_members, learners_at}
+use Rattle.qs_node_step.specs.Asking.{count}
+use Rattle.qs_node_step.specs.Bringing.{answer}
+use Rattle.qs_node_step.specs.Deciding.{decide}
 use Rattle.qs_node_step.specs.Requests as requests
-use Rattle.qs_node_step.specs.Requests.{answer_issuer, enqueue, reply_came, take_reply, waits_as}
-use Rattle.qs_node_step.specs.Serving.{cover_from, engage, enter_serve, is_dropped, label_at, learn_label, lent_to, make_loan, may_serve, met, put_label, reply_here, request_came, serve, serve_all, serve_next, serve_or_drop, take_in}
-use Rattle.qs_node_step.specs.State.{Work, change_server, client_cmp, here, part_of, with_doings, with_manager, with_queues}
-use Rattle.qs_node_step.specs.declared.state.OpenCommand.{OpenCommand}
+use Rattle.qs_node_step.specs.Serving.{serve}
+use Rattle.qs_node_step.specs.State.{part_of}
 use Rattle.qs_tm.specs.Manager as tm
 use Rattle.qs_tm.specs.Outcomes as outcome_rules
 use Rattle.qs_tm.specs.Participant as participant
-use Rattle.qs_tm.specs.Participant.{is_by_files, is_undecided}
-use Rattle.qs_tm.specs.declared.manager.Decision.{Decision}
-use Rattle.qs_tm.specs.declared.participant.Outstanding.{Outstanding}
-use Rattle.qs_tm.specs.declared.participant.Participant.{Participant}
-use Rattle.std.specs.Prelude.{is_none}
-use Rattle.qs_world_lawful.specs.NodeFacts.{HasFacts, HasNodeFacts, IsCommand, locals_of}
+use Rattle.qs_tm.specs.Participant.{is_by_files}
 use Rattle.qs_world_lawful.proofs.Asking.{sent_each_node, sent_node}
 use Rattle.qs_world_lawful.proofs.FactsKept.{IsQuiet, meet_facts, quiet_facts}
 use Rattle.qs_world_lawful.proofs.FactsLabelled.{commands_facts, decide_facts, every_removed, label_facts}
@@ -68,10 +41,6 @@ elim_keeps (Some x) n f work p q = q x refl
 pub fold_keeps : {A : Type 0} (f : Work → A → Work) → ((w : Work) (x : A) → Keeps w (f w x)) → (xs : List A) (work : Work) → Keeps work (fold f work xs)
 fold_keeps f each [] work h = h
 fold_keeps f each (x ∷ xs) work h = fold_keeps f each xs (f work x) (each work x h)
-
-none_is : {A : Type 0} (o : Option A) → is_none o ≡ true → o ≡ None
-none_is None e = refl
-none_is (Some x) e = absurd (cc e)
 
 pub undecided_keeps : (tid : Tid) (rule : Participant → Work → Work) (work : Work) → ((part : Participant) → part_of tid work ≡ Some part → part.outcome ≡ None → Keeps work (rule part work)) → Keeps work (where_undecided tid rule work)
 undecided_keeps tid rule work each = elim_keeps (part_of tid work) work (λ part. if is_undecided part then rule part work else work) work (λ h. h)

@@ -1,69 +1,34 @@
 -- What holds of a node by itself through commands, votes and settling, and so at each stage of a step.
-use Rattle.std.proofs.Common.{nat_lt, ◌≡◌, ℕ, true, false, List, [], ◌∷◌, Option, Some, None, refl, sym, ap, subst, ◌∙◌}
-use Rattle.std.specs.BTreeMap.{insert_entry, is_at}
-use Rattle.std.specs.Map.{lookup}
-use Rattle.std.specs.Prelude.{not, ◌&&◌, if◌then◌else◌}
-use Rattle.qs_base.specs.declared.identifiers.ClientNo.{ClientNo}
-use Rattle.qs_base.specs.declared.identifiers.Member.{Member}
-use Rattle.qs_base.specs.declared.identifiers.NodeNo.{NodeNo}
+use Rattle.qs_world_lawful.proofs.Words.{nat_lt, ◌≡◌, ℕ, true, false, List, [], ◌∷◌, Option, Some, None, refl, sym, ap, subst, ◌∙◌, insert_entry, is_at, lookup, not, ◌&&◌, if◌then◌else◌, ClientNo, Member, NodeNo, ServerNo, Tid, release_of, listed, same_node, Command, ScriptLine, first_untaken, last_taken, take_first, changes_in, vote_of, Cause, Op, Note, Vote, Message, client_server, server_at, kept_outcome, become_asked, borrower_command, is_aborted, is_void, lent_command, loan_command, take}
+use Rattle.qs_world_lawful.proofs.Words.{take_command, with_loan, enter, ask, begin_command, begin_or_refuse, decided_answer, enter_ask, open_command, owner_command, request_as, request_command, with_issued, decide_commit, end_members, next_number, begin_incarnation, label_at, put_label, answer_superior, due_tids, forget_rule, is_pass_due, is_quiet, may_answer, pass_rule, ready, ready_rule, refusal_goes_to, refuse_elsewhere, refuse_home, refuse_rule, say_yes, send_refusal, settle, settle_tid, try}
+use Rattle.qs_world_lawful.proofs.Words.{Work, client_cmp, doings_of, here, with_doings, with_kept, with_manager, work_on, abort_old, after_step, age_rule, borrower_waits, command_came, happen, is_owner, labelled, message_came, obey, owner_waits, wait_command, wait_on, waiting_clients, waits_at, with_command, forget, change_count, due_votes, enter_vote, issue_note, log_vote, owes_note, served_count, vote_frame, vote_next, vote_pass, vote_with, Event, Issued, OpenCommand, told_with_own}
+use Rattle.qs_world_lawful.proofs.Words.{is_forgotten, is_owed_by, is_undecided, BeginFault, Participant, tick_work, FitsEvent, HasNodeFacts, IsCommand, locals_of, Setting}
 use Rattle.qs_base.specs.declared.identifiers.Outcome.TheVariants as outcomes
-use Rattle.qs_base.specs.declared.identifiers.ServerNo.{ServerNo}
-use Rattle.qs_base.specs.declared.identifiers.Tid.{Tid}
-use Rattle.qs_engage.specs.Engage.{release_of}
-use Rattle.qs_engage.specs.Nodes.{listed, same_node}
 use Rattle.qs_ipc.specs.Queue.{is_for}
 use Rattle.qs_book_journal.specs.declared.entry.Act.TheVariants as acts
-use Rattle.qs_book_journal.specs.declared.script_line.Command.{Command}
 use Rattle.qs_book_journal.specs.declared.script_line.Command.TheVariants as commands
-use Rattle.qs_book_journal.specs.declared.script_line.ScriptLine.{ScriptLine}
-use Rattle.qs_node_kept.specs.Loans.{first_untaken, give_back, last_taken, take_first}
-use Rattle.qs_ops.specs.Server.{changes_in, vote_of}
+use Rattle.qs_node_kept.specs.Loans.{give_back}
 use Rattle.qs_ops.specs.declared.answer.Answer.TheVariants as answers
-use Rattle.qs_ops.specs.declared.answer.Cause.{Cause}
 use Rattle.qs_ops.specs.declared.answer.Cause.TheVariants as causes
-use Rattle.qs_ops.specs.declared.operation.Op.{Op}
-use Rattle.qs_ops.specs.declared.operation.Op.TheVariants.{Note}
-use Rattle.qs_ops.specs.declared.vote.Vote.{Vote}
 use Rattle.qs_ops.specs.declared.vote.Vote.TheVariants as votes
-use Rattle.qs_packet.specs.declared.message.Message.{Message}
 use Rattle.qs_packet.specs.declared.message.Message.TheVariants as messages
 use Rattle.qs_record.specs.declared.record.Record.TheVariants as records
-use Rattle.qs_node_servers.specs.Servers.{audit_no, client_server, server_at}
-use Rattle.qs_node_step.specs.Answering.{kept_outcome}
-use Rattle.qs_node_step.specs.Asking.{become_asked}
-use Rattle.qs_node_step.specs.Borrowing.{borrower_command, is_aborted, is_void, lent_command, loan_command, take, take_command, with_loan}
-use Rattle.qs_node_step.specs.Bringing.{answer, enter}
-use Rattle.qs_node_step.specs.Commands.{ask, begin_command, begin_or_refuse, decided_answer, enter_ask, open_command, owner_command, request_as, request_command, with_issued}
-use Rattle.qs_node_step.specs.Deciding.{decide, decide_commit, end_members}
-use Rattle.qs_node_step.specs.Requests.{next_number}
-use Rattle.qs_node_step.specs.Restarts.{begin_incarnation}
-use Rattle.qs_node_step.specs.Serving.{label_at, put_label}
-use Rattle.qs_node_step.specs.Settling.{answer_superior, due_tids, forget_rule, is_pass_due, is_quiet, may_answer, pass_rule, ready, ready_rule, refusal_goes_to, refuse_elsewhere, refuse_home, refuse_rule, say_yes, send_refusal, settle, settle_tid, try}
-use Rattle.qs_node_step.specs.State.{NodeValue, Work, client_cmp, doings_of, here, part_of, with_doings, with_kept, with_manager, work_on}
-use Rattle.qs_node_step.specs.Step.{abort_old, after_step, age_rule, borrower_waits, command_came, happen, is_owner, labelled, message_came, obey, owner_waits, wait_command, wait_on, waiting_clients, waits_at, with_command}
-use Rattle.qs_node_step.specs.Telling.{forget}
-use Rattle.qs_node_step.specs.Voting.{change_count, due_votes, enter_vote, issue_note, log_vote, note_text, owes_note, served_count, vote_frame, vote_next, vote_pass, vote_with}
-use Rattle.qs_node_step.specs.declared.event.Event.{Event}
+use Rattle.qs_node_servers.specs.Servers.{audit_no}
+use Rattle.qs_node_step.specs.Bringing.{answer}
+use Rattle.qs_node_step.specs.Deciding.{decide}
+use Rattle.qs_node_step.specs.State.{NodeValue, part_of}
+use Rattle.qs_node_step.specs.Voting.{note_text}
 use Rattle.qs_node_step.specs.declared.event.Event.TheVariants as events
-use Rattle.qs_node_step.specs.declared.state.Issued.{Issued}
-use Rattle.qs_node_step.specs.declared.state.OpenCommand.{OpenCommand}
 use Rattle.qs_tm.specs.Manager as tm
 use Rattle.qs_tm.specs.Members as rules
-use Rattle.qs_tm.specs.Outcomes.{told_with_own}
 use Rattle.qs_tm.specs.Participant as participant
-use Rattle.qs_tm.specs.Participant.{is_forgotten, is_owed_by, is_undecided}
-use Rattle.qs_tm.specs.declared.manager.BeginFault.{BeginFault}
 use Rattle.qs_tm.specs.declared.manager.BeginFault.TheVariants as faults
-use Rattle.qs_tm.specs.declared.participant.Participant.{Participant}
 use Rattle.qs_world.specs.Openings.{is_audit}
-use Rattle.qs_world_lawful.specs.GivenStep.{tick_work}
-use Rattle.qs_world_lawful.specs.NodeFacts.{FitsEvent, HasNodeFacts, IsCommand, locals_of}
 use Rattle.qs_world_lawful.proofs.FactsKept.{forget_facts, quiet_facts}
 use Rattle.qs_world_lawful.proofs.FactsLabelled.{begin_facts, command_in, commands_facts, every_put, every_set, label_facts}
 use Rattle.qs_world_lawful.proofs.FactsQuiet.{causes_quiet, released_quiet, voted_quiet}
 use Rattle.qs_world_lawful.proofs.FactsIssued.{issue_as_keeps, issue_keeps}
 use Rattle.qs_world_lawful.proofs.FactsRules.{Keeps, answer_keeps, ask_came_keeps, become_asked_keeps, closer_keeps, commit_keeps, decided_keeps, elim_keeps, ended_keeps, fold_keeps, if_keeps, log_if_keeps, part_keeps, refusal_keeps, reply_keeps, request_keeps, send_keeps, serve_all_keeps, undecided_keeps}
-use Rattle.qs_node_step.specs.declared.setting.Setting.{Setting}
 use Rattle.qs_world_lawful.proofs.SameSettingTold.{begin_same}
 use Rattle.qs_world_lawful.proofs.Truths.{clash, left_true, not_true, right_true, same_self}
 use Rattle.qs_world_lawful.proofs.FactsTold.{begin_incarnation_keeps, inquiry_keeps, peer_restarted_keeps, tell_keeps, told_keeps}

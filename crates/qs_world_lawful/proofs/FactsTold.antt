@@ -1,33 +1,18 @@
 -- What holds of a node by itself as an outcome is told and taken in, and as nodes restart.
-use Rattle.std.proofs.Common.{◌≡◌, ℕ, Bool, true, false, List, fold, Option, Some, None, refl, sym, subst, ◌∙◌}
-use Rattle.std.specs.List.{find, list_any}
-use Rattle.std.specs.Prelude.{not, ◌&&◌, if◌then◌else◌}
-use Rattle.qs_base.specs.declared.identifiers.ClientNo.{ClientNo}
-use Rattle.qs_base.specs.declared.identifiers.NodeNo.{NodeNo}
-use Rattle.qs_base.specs.declared.identifiers.Outcome.{Outcome}
+use Rattle.qs_world_lawful.proofs.Words.{◌≡◌, ℕ, Bool, true, false, List, fold, Option, Some, None, refl, sym, subst, ◌∙◌, find, list_any, not, ◌&&◌, if◌then◌else◌, ClientNo, NodeNo, Outcome, Tid, listed, same_node, has_label, is_outcome_of, Begun, answer_known, answer_unknown, inquiry_at_home, inquiry_came, block, log, send, give_notices, begin_incarnation, find_gone, inquire, is_orphaned_by, known_tids, name_again, notice_decided, notice_part, notice_tid, peer_restarted, resume_home, resume_part}
+use Rattle.qs_world_lawful.proofs.Words.{resume_tid, tell_again, Work, here, with_manager, with_queues, end_told, is_other_node, keep_abort_told, learn_unknown, names_at, record_learnt, take_names, take_outcome, tell_came, told_at_home, told_came, told_known, told_unknown, is_told_again, named_by, told_with_own, is_forgotten, is_owed_by, is_undecided, Participant, HasNodeFacts, locals_of}
 use Rattle.qs_base.specs.declared.identifiers.Outcome.TheVariants as outcomes
-use Rattle.qs_base.specs.declared.identifiers.Tid.{Tid}
-use Rattle.qs_engage.specs.Nodes.{listed, same_node}
 use Rattle.qs_ipc.specs.Ipc as ipc
-use Rattle.qs_node_kept.specs.Keeping.{has_label, is_outcome_of}
-use Rattle.qs_node_kept.specs.declared.kept.KeptLabel.{KeptLabel}
 use Rattle.qs_ops.specs.declared.answer.Cause.TheVariants as causes
 use Rattle.qs_packet.specs.declared.message.Message.TheVariants as messages
 use Rattle.qs_record.specs.declared.record.Record.TheVariants as records
-use Rattle.qs_node_step.specs.Answering.{answer_known, answer_unknown, inquiry_at_home, inquiry_came, was_committed}
-use Rattle.qs_node_step.specs.Asking.{block}
-use Rattle.qs_node_step.specs.Bringing.{log, send}
-use Rattle.qs_node_step.specs.Deciding.{give_notices}
-use Rattle.qs_node_step.specs.Restarts.{begin_incarnation, find_gone, inquire, is_orphaned_by, known_tids, name_again, notice_decided, notice_part, notice_tid, peer_restarted, resume_home, resume_part, resume_tid, tell_again}
-use Rattle.qs_node_step.specs.State.{Work, here, part_of, with_manager, with_node, with_queues}
-use Rattle.qs_node_step.specs.Telling.{end_told, is_other_node, keep_abort_told, learn, learn_unknown, names_at, record_learnt, take_names, take_outcome, tell_came, told_at_home, told_came, told_known, told_unknown}
+use Rattle.qs_node_step.specs.Answering.{was_committed}
+use Rattle.qs_node_step.specs.State.{part_of, with_node}
+use Rattle.qs_node_step.specs.Telling.{learn}
 use Rattle.qs_tm.specs.Manager as tm
 use Rattle.qs_tm.specs.Outcomes as outcome_rules
-use Rattle.qs_tm.specs.Outcomes.{is_abort, is_told_again, named_by, told_with_own}
+use Rattle.qs_tm.specs.Outcomes.{is_abort}
 use Rattle.qs_tm.specs.Participant as participant
-use Rattle.qs_tm.specs.Participant.{is_forgotten, is_owed_by, is_undecided}
-use Rattle.qs_tm.specs.declared.participant.Participant.{Participant}
-use Rattle.qs_world_lawful.specs.NodeFacts.{HasNodeFacts, locals_of}
 use Rattle.qs_world_lawful.proofs.FactsKept.{abort_facts, forget_facts, outcome_facts, quiet_facts}
 use Rattle.qs_world_lawful.proofs.FactsQuiet.{acknowledged_quiet, names_quiet, restarted_quiet, tell_quiet, told_quiet}
 use Rattle.qs_world_lawful.proofs.FactsRules.{Keeps, block_keeps, elim_keeps, fold_keeps, if_keeps, log_if_keeps, noticed_keeps, part_keeps, send_each_keeps, send_keeps}
@@ -61,7 +46,7 @@ keep_abort_keeps tid peer work h = quiet_facts work.node.setting work.node.kept.
 
 -- no client here waits for what is decided and not kept
 decided_unowned : (tid : Tid) (part : Participant) (work : Work) → HasNodeFacts work.node → part_of tid work ≡ Some part → (part.outcome ≡ None → ⊥)
-    → (label : List ℕ) (begun : KeptLabel) (client : ClientNo) → find (has_label label) work.node.kept.now.labels ≡ Some begun → begun.tid ≡ Some tid → begun.owner ≡ Some client → find (is_outcome_of tid) work.node.kept.now.outcomes ≡ None → ⊥
+    → (label : List ℕ) (begun : Begun) (client : ClientNo) → find (has_label label) work.node.kept.now.labels ≡ Some begun → begun.tid ≡ Some tid → begun.owner ≡ Some client → find (is_outcome_of tid) work.node.kept.now.outcomes ≡ None → ⊥
 decided_unowned tid part work h known decided label begun client found of owned kept =
     let r = h.labels.runs label begun tid client found of owned kept in decided (subst (λ (p : Participant). p.outcome ≡ None) (of_some (sym r.known ∙ known)) r.undecided)
 

@@ -1,20 +1,7 @@
 -- What a server does for one transaction leaves how many changes files have pending for every other, and what another server does leaves all.
-use Rattle.qs_world_lawful.specs.Waits.{is_idle}
-use Rattle.std.proofs.Common.{◌≡◌, ℕ, ◌==◌, Bool, true, false, refl, ap, length}
-use Rattle.std.specs.Prelude.{if◌then◌else◌}
-use Rattle.qs_base.specs.declared.identifiers.ServerNo.{ServerNo}
-use Rattle.qs_base.specs.declared.identifiers.Tid.{Tid}
-use Rattle.qs_ops.specs.Server.{ServerValue, changes_in, after_serving, served_by, after_vote, voted_by, after_notice, noted_by}
+use Rattle.qs_world_lawful.proofs.Words.{is_idle, ◌≡◌, ℕ, ◌==◌, Bool, true, false, refl, ap, length, if◌then◌else◌, ServerNo, Tid, ServerValue, changes_in, after_serving, served_by, after_vote, voted_by, after_notice, noted_by, share_of, Op, Reply, ServerKind, Files, Share, Notice, Vote, ServersValue, with_server}
 use Rattle.qs_ops.specs.Servers as numbers
-use Rattle.qs_ops.specs.Table.{share_of}
-use Rattle.qs_ops.specs.declared.operation.Op.{Op}
-use Rattle.qs_ops.specs.declared.reply.Reply.{Reply}
-use Rattle.qs_ops.specs.declared.server.ServerKind.{ServerKind}
-use Rattle.qs_ops.specs.declared.server.ServerKind.TheVariants.{Files, Audit, Names, Timers, Windows, Scratch, Nothing}
-use Rattle.qs_ops.specs.declared.share.Share.{Share}
-use Rattle.qs_ops.specs.declared.vote.Notice.{Notice}
-use Rattle.qs_ops.specs.declared.vote.Vote.{Vote}
-use Rattle.qs_node_servers.specs.Servers.{ServersValue, with_server}
+use Rattle.qs_ops.specs.declared.server.ServerKind.TheVariants.{Audit, Names, Timers, Windows, Scratch, Nothing}
 use Rattle.qs_world_lawful.proofs.Apart.{Apart}
 use Rattle.qs_world_lawful.proofs.OtherShares.{share_noted, share_put, share_voted}
 

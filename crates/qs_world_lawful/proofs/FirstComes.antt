@@ -1,34 +1,14 @@
 -- The first step of an incarnation leaves what comes: a client's line, and a message, come as they came before it; and what was young is.
-use Rattle.std.proofs.Common.{◌≡◌, ◌⊎◌, inl, inr, ◌<◌, ◌≤◌, ◌-◌, ℕ, Bool, true, false, List, [], ◌∷◌, Option, Some, None, refl, ap, sym, subst, ◌∙◌, fold, if◌then◌else◌}
-use Rattle.std.specs.BTreeMap.{is_at}
-use Rattle.std.specs.Map.{lookup}
-use Rattle.qs_base.specs.Order.{tid_cmp}
-use Rattle.qs_base.specs.declared.identifiers.NodeNo.{NodeNo}
-use Rattle.qs_base.specs.declared.identifiers.Outcome.{Outcome}
+use Rattle.qs_world_lawful.proofs.Words.{◌≡◌, ◌⊎◌, inl, inr, ◌<◌, ◌≤◌, ◌-◌, ℕ, Bool, true, false, List, [], ◌∷◌, Option, Some, None, refl, ap, sym, subst, ◌∙◌, fold, if◌then◌else◌, is_at, lookup, tid_cmp, NodeNo, Outcome, ServerNo, Tid, listed, changed_none, lookup_changed, BookValue, find_transaction, inc_at, with_transaction, TransactionValue, learnt, RequestNo, Record, log, log_if, member_here, send, tid_of, due_endings, end_member, end_members, give_notices, learn_member, learners_at}
+use Rattle.qs_world_lawful.proofs.Words.{begin_incarnation, known_tids, resume_home, resume_part, resume_tid, Work, here, record_learnt, Setting, Manager, Participant, book_at, standing_ops}
 use Rattle.qs_base.specs.declared.identifiers.Outcome.TheVariants as outcomes
-use Rattle.qs_base.specs.declared.identifiers.ServerNo.{ServerNo}
-use Rattle.qs_base.specs.declared.identifiers.Tid.{Tid}
-use Rattle.qs_engage.specs.Nodes.{listed}
 use Rattle.qs_book_journal.specs.declared.entry.Act.TheVariants as acts
-use Rattle.qs_book_laws.proofs.Maps.{changed_none, lookup_changed}
-use Rattle.qs_book_machine.specs.Book.{BookValue, find_transaction, inc_at, with_transaction}
-use Rattle.qs_book_machine.specs.Transaction.{TransactionValue, ended, learnt}
-use Rattle.qs_book_machine.specs.declared.transaction.RequestNo.{RequestNo}
+use Rattle.qs_book_machine.specs.Transaction.{ended}
 use Rattle.qs_packet.specs.declared.message.Message.TheVariants as messages
-use Rattle.qs_record.specs.declared.record.Record.{Record}
-use Rattle.qs_node_step.specs.Bringing.{log, log_if, member_here, send, tid_of}
-use Rattle.qs_node_step.specs.Deciding.{due_endings, end_member, end_members, give_notices, learn_member, learners_at}
-use Rattle.qs_node_step.specs.Restarts.{begin_incarnation, known_tids, resume_home, resume_part, resume_tid}
-use Rattle.qs_node_step.specs.State.{NodeValue, Work, here, part_of, with_node}
-use Rattle.qs_node_step.specs.Telling.{record_learnt}
-use Rattle.qs_node_step.specs.declared.setting.Setting.{Setting}
+use Rattle.qs_node_step.specs.State.{NodeValue, part_of, with_node}
 use Rattle.qs_tm.specs.Manager as tm
 use Rattle.qs_tm.specs.Outcomes as outcome_rules
-use Rattle.qs_tm.specs.declared.manager.Manager.{Manager}
-use Rattle.qs_tm.specs.declared.participant.Participant.{Participant}
-use Rattle.qs_world_lawful.specs.Entering.{book_at}
 use Rattle.qs_world_lawful.specs.NodeFacts.{AreYoung, IsYoung}
-use Rattle.qs_world_lawful.specs.Waits.{standing_ops}
 use Rattle.qs_world_lawful.proofs.Apart.{Apart, same_or_apart}
 use Rattle.qs_world_lawful.proofs.Asking.{sent_each_entries, sent_each_node, sent_entries, sent_node}
 use Rattle.qs_world_lawful.proofs.Faces.{part_apart, part_changed, part_unknown}

@@ -1,22 +1,9 @@
 -- The first step of an incarnation: what it found in its log is told, learnt or inquired of; the rule as a whole.
-use Rattle.std.proofs.Common.{◌≡◌, ℕ, Bool, true, false, List, [], ◌∷◌, Option, Some, None, refl, sym, subst}
-use Rattle.std.specs.Prelude.{fold, if◌then◌else◌}
-use Rattle.qs_base.specs.declared.identifiers.Outcome.{Outcome}
+use Rattle.qs_world_lawful.proofs.Words.{◌≡◌, ℕ, Bool, true, false, List, [], ◌∷◌, Option, Some, None, refl, sym, subst, fold, if◌then◌else◌, Outcome, Tid, listed, Record, BookValue, Participant, send, log_if, give_notices, resume_home, resume_part, resume_tid, known_tids, begin_incarnation, Work, record_learnt, HoldsFiles, HoldsWork, book_at}
 use Rattle.qs_base.specs.declared.identifiers.Outcome.TheVariants as outcomes
-use Rattle.qs_base.specs.declared.identifiers.Tid.{Tid}
-use Rattle.qs_engage.specs.Nodes.{listed}
 use Rattle.qs_packet.specs.declared.message.Message.TheVariants as messages
-use Rattle.qs_record.specs.declared.record.Record.{Record}
-use Rattle.qs_book_machine.specs.Book.{BookValue}
 use Rattle.qs_tm.specs.Manager as tm
-use Rattle.qs_tm.specs.declared.participant.Participant.{Participant}
-use Rattle.qs_node_step.specs.Bringing.{send, log_if}
-use Rattle.qs_node_step.specs.Deciding.{give_notices}
-use Rattle.qs_node_step.specs.Restarts.{resume_home, resume_part, resume_tid, known_tids, begin_incarnation}
-use Rattle.qs_node_step.specs.State.{Work, NodeValue, with_node}
-use Rattle.qs_node_step.specs.Telling.{record_learnt}
-use Rattle.qs_world_lawful.specs.Filed.{HoldsFiles}
-use Rattle.qs_world_lawful.specs.Entering.{HoldsWork, book_at}
+use Rattle.qs_node_step.specs.State.{NodeValue, with_node}
 use Rattle.qs_world_lawful.proofs.Asking.{by_send, by_send_each, sent_node, sent_each_node}
 use Rattle.qs_world_lawful.proofs.Bare.{by_log_if}
 use Rattle.qs_world_lawful.proofs.Frames.{held_on, at_none, clients_on}

@@ -1,41 +1,21 @@
 -- A home that committed a transaction and told all forgets it: of what is committed and unknown nothing more is held.
-use Rattle.std.proofs.Common.{◌≡◌, ◌⊎◌, inl, inr, ℕ, Bool, true, false, List, [], ◌∷◌, Option, Some, None, refl, sym, ap, subst, ◌∙◌}
-use Rattle.std.specs.Prelude.{not, ◌||◌, map, nat_lt, unwrap_or, if◌then◌else◌}
-use Rattle.std.specs.List.{filter}
-use Rattle.std.specs.Map.{lookup}
-use Rattle.std.specs.BTreeMap.{is_at}
-use Rattle.qs_base.specs.Order.{tid_cmp}
-use Rattle.qs_base.specs.declared.identifiers.ClientNo.{ClientNo}
-use Rattle.qs_base.specs.declared.identifiers.NodeNo.{NodeNo}
+use Rattle.qs_world_lawful.proofs.Words.{◌≡◌, ◌⊎◌, inl, inr, ℕ, Bool, true, false, List, [], ◌∷◌, Option, Some, None, refl, sym, ap, subst, ◌∙◌, true≢false, not, ◌||◌, map, nat_lt, unwrap_or, if◌then◌else◌, filter, lookup, is_at, tid_cmp, ClientNo, NodeNo, ServerNo, Tid, IpcValue, queue_at, server_cmp, QueueValue, no_queue, Delivery, at_exact, IsRising, removed, BookValue, find_transaction, TransactionValue, is_commit, is_open, is_outcome, Cell, Work, forget, Participant, HoldsWork, book_at}
+use Rattle.qs_world_lawful.proofs.Words.{face_of, HoldsAt, HoldsTid, IsAsking, IsOwner, some_same}
 use Rattle.qs_base.specs.declared.identifiers.Outcome.TheVariants as outcomes
-use Rattle.qs_base.specs.declared.identifiers.ServerNo.{ServerNo}
-use Rattle.qs_base.specs.declared.identifiers.Tid.{Tid}
 use Rattle.qs_ipc.specs.Ipc as ipc
-use Rattle.qs_ipc.specs.Ipc.{IpcValue, forgotten_below, queue_at, server_cmp, servers}
-use Rattle.qs_ipc.specs.Queue.{QueueValue, forgotten, is_of, no_queue}
-use Rattle.qs_ipc.specs.declared.delivery.Delivery.{Delivery}
-use Rattle.qs_book_laws.proofs.Alikes.{at_exact}
-use Rattle.qs_book_laws.proofs.Rising.{IsRising, removed}
-use Rattle.qs_book_machine.specs.Book.{BookValue, find_transaction}
-use Rattle.qs_book_machine.specs.Transaction.{TransactionValue, is_commit, is_open, is_outcome}
-use Rattle.qs_book_machine.specs.declared.transaction.Cell.{Cell}
+use Rattle.qs_ipc.specs.Ipc.{forgotten_below, servers}
+use Rattle.qs_ipc.specs.Queue.{forgotten, is_of}
 use Rattle.qs_book_machine.specs.declared.transaction.Cell.TheVariants as cells
-use Rattle.qs_node_step.specs.State.{Work, NodeValue}
-use Rattle.qs_node_step.specs.Telling.{drop_counts, forget}
+use Rattle.qs_node_step.specs.State.{NodeValue}
+use Rattle.qs_node_step.specs.Telling.{drop_counts}
 use Rattle.qs_tm.specs.Manager as tm
-use Rattle.qs_tm.specs.declared.participant.Participant.{Participant}
-use Rattle.qs_world_lawful.specs.Entering.{HoldsWork, book_at}
-use Rattle.qs_world_lawful.specs.Face.{Face, face_of}
-use Rattle.qs_world_lawful.specs.Holds.{HoldsAt, HoldsTid, IsAsking, IsOwner}
+use Rattle.qs_world_lawful.specs.Face.{Face}
 use Rattle.qs_world_lawful.proofs.OtherShares.{removed_apart}
 use Rattle.qs_world_lawful.proofs.Apart.{Apart, same_or_apart}
 use Rattle.qs_world_lawful.proofs.Clauses.{of_tid}
 use Rattle.qs_world_lawful.proofs.Frames.{asking_on, at_each, clients_with, held_on, tid_alike}
 use Rattle.qs_world_lawful.proofs.Growing.{kept_on}
 use Rattle.qs_world_lawful.proofs.SameWaits.{waits_alike}
-
-of_some : {X : Type 0} {x y : X} → Some x ≡ Some y → x ≡ y
-of_some e = cc e
 
 -- ---- queues keep what waits
 
@@ -68,7 +48,7 @@ forgotten_tid here inc tid tx face part committed h = record {
   members = λ held. absurd (not_held held);
   asked = λ is. absurd (cc is);
   outcome = λ o is. absurd (cc is);
-  silent = λ is. absurd (other (of_some (sym committed ∙ h.silent is)));
+  silent = λ is. absurd (other (some_same (sym committed ∙ h.silent is)));
   local = h.local;
   sent = λ held. absurd (not_held held);
   pending = h.pending;
@@ -92,11 +72,8 @@ forgotten_tid here inc tid tx face part committed h = record {
     no_open cells.Abort e is = cc e
     no_open cells.Open e is = cc e
 
-    clash : true ≡ false → ⊥
-    clash e = cc e
-
     not_held : (false || not (is_commit tx.cell)) ≡ true → ⊥
-    not_held held = clash (sym held ∙ ap not cell)
+    not_held held = true≢false (sym held ∙ ap not cell)
 
     other : outcomes.Commit ≡ outcomes.Abort → ⊥
     other e = cc e

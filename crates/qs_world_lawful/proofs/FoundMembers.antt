@@ -1,24 +1,8 @@
 -- A member of a node in a new incarnation: its vote was found, or it did nothing yet.
-use Rattle.std.proofs.Common.{◌≡◌, ◌⊎◌, inl, inr, ℕ, ◌≤◌, ◌==◌, ◌+◌, ◌&&◌, ◌||◌, Bool, true, false, List, [], ◌∷◌, Some, refl, sym, ap, subst, arith}
-use Rattle.std.proofs.lemmas.Bool.Decides.{nat_tests}
-use Rattle.std.specs.List.{filter, list_all, list_any}
-use Rattle.qs_base.specs.Order.{same_tid}
-use Rattle.qs_base.proofs.Same.{same_tid-true}
-use Rattle.qs_base.specs.declared.identifiers.Class.{Class}
+use Rattle.qs_world_lawful.proofs.Words.{◌≡◌, ◌⊎◌, inl, inr, ℕ, ◌≤◌, ◌==◌, ◌+◌, ◌&&◌, ◌||◌, Bool, true, false, List, [], ◌∷◌, Some, refl, sym, ap, subst, arith, nat_tests, filter, list_all, list_any, same_tid, same_tid-true, Class, Member, Tid, is_recoverable, is_among, TransactionValue, found_part, is_start, may_learn_still, no_part, Part, class_of, Prepared, no_member, member_as, HoldsMember, HoldsVoter, Every, eqb-true, or_left, eqb-self}
 use Rattle.qs_base.specs.declared.identifiers.Class.TheVariants as classes
-use Rattle.qs_base.specs.declared.identifiers.Member.{Member}
-use Rattle.qs_base.specs.declared.identifiers.Tid.{Tid}
-use Rattle.qs_book_machine.specs.Nodes.{is_recoverable}
-use Rattle.qs_book_machine.specs.Restart.{is_among}
-use Rattle.qs_book_machine.specs.Transaction.{TransactionValue, found_part, is_start, may_learn_still, no_part, part_of}
-use Rattle.qs_book_machine.specs.declared.transaction.Part.{Part}
-use Rattle.qs_ops.specs.Members.{class_of}
-use Rattle.qs_restart.specs.Recovery.{Prepared}
+use Rattle.qs_book_machine.specs.Transaction.{part_of}
 use Rattle.qs_tm.specs.Members as rules
-use Rattle.qs_tm.specs.Members.{no_member}
-use Rattle.qs_world_lawful.specs.Doubtful.{member_as}
-use Rattle.qs_world_lawful.specs.Holds.{HoldsMember, HoldsVoter}
-use Rattle.qs_world_lawful.specs.Logs.{Every}
 
 -- ---- lists
 
@@ -51,13 +35,6 @@ every_passed P p (x ∷ xs) all = by (p x) refl (every_passed P p xs all.1)
     by true is more = rw is (all.0, more)
     by false is more = rw is more
 
-pub and_false : (a b : Bool) → b ≡ false → (a && b) ≡ false
-and_false true b e = e
-and_false false b e = refl
-
-pub left_false : (a b : Bool) → a ≡ false → (a && b) ≡ false
-left_false a b e = rw e refl
-
 -- ---- a member in the new incarnation
 
 pub and_both : (a b : Bool) → (a && b) ≡ true → (a ≡ true) × (b ≡ true)
@@ -67,15 +44,12 @@ and_both false b e = absurd (cc e)
 three : (s : ℕ) → is_recoverable s ≡ true → (s ≡ 0) ⊎ ((s ≡ 1) ⊎ (s ≡ 6))
 three s kept = by (s == 0) (s == 1) refl refl
   where
-    no_is : (n m : ℕ) → (n == m) ≡ true → n ≡ m
-    no_is n m e = grind (arith, nat_tests, e)
-
     last : (n : ℕ) → is_recoverable n ≡ true → (n == 0) ≡ false → (n == 1) ≡ false → n ≡ 6
     last n k e f = grind (arith, nat_tests, k, e, f)
 
     by : (a b : Bool) → (s == 0) ≡ a → (s == 1) ≡ b → (s ≡ 0) ⊎ ((s ≡ 1) ⊎ (s ≡ 6))
-    by true b is _ = inl (no_is s 0 is)
-    by false true _ is = inr (inl (no_is s 1 is))
+    by true b is _ = inl (eqb-true s 0 is)
+    by false true _ is = inr (inl (eqb-true s 1 is))
     by false false far other = inr (inr (last s kept far other))
 
 unlearnt : (c : Class) → rules.is_to_learn c no_member ≡ false
@@ -85,9 +59,6 @@ unlearnt classes.Standard = refl
 unlearnt classes.Delayed = refl
 unlearnt classes.Immediate = refl
 unlearnt classes.Activity = refl
-
-pub self : (n : ℕ) → (n == n) ≡ true
-self n = grind (arith, nat_tests)
 
 pub member_none : (tx : TransactionValue) (member : Member) (inc : ℕ) → part_of tx member inc ≡ no_part → HoldsMember tx member inc no_member
 member_none tx member inc none = record {
@@ -102,15 +73,11 @@ pub member_found : (tx : TransactionValue) (member : Member) (inc count : ℕ) (
 member_found tx member inc count v kept is = record {
   covers = λ two. subst (λ (p : Part). ((v.covers == p.served + p.found) || list_any (is_start member inc p.served v.covers) tx.starts) ≡ true) (sym is) (or_left (v.covers == 0 + v.covers) _ (grind (arith, nat_tests)));
   voted = subst (λ (p : Part). p.voted ≤ p.served) (sym is) (grind (arith));
-  votes = λ two. subst (λ (p : Part). HoldsVoter p (member_as (Some v))) (sym is) (record { covers = grind (arith); is_due = rw (self v.covers) refl });
+  votes = λ two. subst (λ (p : Part). HoldsVoter p (member_as (Some v))) (sym is) (record { covers = grind (arith); is_due = rw (eqb-self v.covers) refl });
   learns = λ told. subst (λ (p : Part). may_learn_still p ≡ rules.is_to_learn (class_of member.server.0) (member_as (Some v))) (sym is) (learn (three member.server.0 kept));
   ends = λ immediate. absurd (never (three member.server.0 kept) immediate);
 }
   where
-    or_left : (a b : Bool) → a ≡ true → (a || b) ≡ true
-    or_left true b e = refl
-    or_left false b e = absurd (cc e)
-
     learn : (member.server.0 ≡ 0) ⊎ ((member.server.0 ≡ 1) ⊎ (member.server.0 ≡ 6)) → true ≡ rules.is_to_learn (class_of member.server.0) (member_as (Some v))
     learn (inl e) = rw e refl
     learn (inr (inl e)) = rw e refl

@@ -1,32 +1,8 @@
 -- What a log says: each member's vote for a transaction once, as clause 111 wants it.
-use Rattle.std.proofs.Common.{◌≡◌, ℕ, ◌==◌, Bool, true, false, List, [], ◌∷◌, ◌++◌, refl, ap, ◌∙◌, map, fold, arith}
-use Rattle.std.proofs.lemmas.Bool.Decides.{nat_tests}
-use Rattle.std.specs.Prelude.{not, ◌&&◌, if◌then◌else◌}
-use Rattle.std.specs.List.{filter, list_any}
-use Rattle.qs_base.specs.declared.identifiers.NodeNo.{NodeNo}
-use Rattle.qs_base.specs.declared.identifiers.Tid.{Tid}
-use Rattle.qs_book_journal.specs.declared.entry.Found.{Found}
-use Rattle.qs_record.specs.declared.record.Record.{Record}
+use Rattle.qs_world_lawful.proofs.Words.{◌≡◌, ℕ, ◌==◌, Bool, true, false, List, [], ◌∷◌, ◌++◌, refl, ap, ◌∙◌, map, fold, arith, nat_tests, not, ◌&&◌, if◌then◌else◌, filter, list_any, NodeNo, Tid, Found, Record, votes_once, is_same_vote, Prepared, Recovery, nothing_said, recovery, found_record, is_vote_of, mark_committed, with_list, names_transaction, open_vote, found_of, found_votes, and_from, not-true, and_first, and_last}
 use Rattle.qs_record.specs.declared.record.Record.TheVariants as records
-use Rattle.qs_book_machine.specs.Restart.{votes_once, is_same_vote}
-use Rattle.qs_restart.specs.Recovery.{Prepared, Recovery, nothing_said, recovery, found_record, is_vote_of, is_of, mark_committed, with_list, names_transaction, open_vote}
+use Rattle.qs_restart.specs.Recovery.{is_of}
 use Rattle.qs_world.specs.Moves as moves
-use Rattle.qs_world_lawful.specs.Logs.{found_of, found_votes}
-
-both : (a b : Bool) → a ≡ true → b ≡ true → (a && b) ≡ true
-both a b p q = rw (p, q) refl
-
-left_of : (a b : Bool) → (a && b) ≡ true → a ≡ true
-left_of true b h = refl
-left_of false b h = absurd (cc h)
-
-right_of : (a b : Bool) → (a && b) ≡ true → b ≡ true
-right_of true b h = h
-right_of false b h = absurd (cc h)
-
-turned : (b : Bool) → not b ≡ true → b ≡ false
-turned true h = absurd (cc h)
-turned false h = refl
 
 -- a vote is the same as another where that one is the same as it
 pub same_vote_sym : (v w : Prepared) → is_same_vote (found_of v) (found_of w) ≡ is_vote_of w.tid w.server v
@@ -64,13 +40,13 @@ apart_filtered p x (y ∷ ys) h = by (p y) refl (is_same_vote x (found_of y)) re
 
 once_filtered : (p : Prepared → Bool) (xs : List Prepared) → votes_once (map found_of xs) ≡ true → votes_once (map found_of (filter p xs)) ≡ true
 once_filtered p [] h = refl
-once_filtered p (x ∷ xs) h = by (p x) refl (once_filtered p xs (right_of _ _ h))
+once_filtered p (x ∷ xs) h = by (p x) refl (once_filtered p xs (and_last _ _ h))
   where
     alone : list_any (is_same_vote (found_of x)) (map found_of xs) ≡ false
-    alone = turned _ (left_of _ _ h)
+    alone = not-true _ (and_first _ _ h)
 
     by : (b : Bool) → p x ≡ b → votes_once (map found_of (filter p xs)) ≡ true → votes_once (map found_of (filter p (x ∷ xs))) ≡ true
-    by true is more = rw is (both _ _ (ap not (apart_filtered p (found_of x) xs alone)) more)
+    by true is more = rw is (and_from _ _ (ap not (apart_filtered p (found_of x) xs alone)) more)
     by false is more = rw is more
 
 apart_more : (x v : Prepared) (xs : List Prepared) → list_any (is_same_vote (found_of x)) (map found_of xs) ≡ false → is_vote_of v.tid v.server x ≡ false → list_any (is_same_vote (found_of x)) (map found_of (xs ++ v ∷ [])) ≡ false
@@ -85,11 +61,11 @@ apart_more x v (y ∷ ys) h other = by (is_same_vote (found_of x) (found_of y)) 
 
 once_more : (v : Prepared) (xs : List Prepared) → votes_once (map found_of xs) ≡ true → none_same v xs ≡ true → votes_once (map found_of (xs ++ v ∷ [])) ≡ true
 once_more v [] h none = refl
-once_more v (x ∷ xs) h none = by (is_vote_of v.tid v.server x) refl (once_more v xs (right_of _ _ h))
+once_more v (x ∷ xs) h none = by (is_vote_of v.tid v.server x) refl (once_more v xs (and_last _ _ h))
   where
     by : (b : Bool) → is_vote_of v.tid v.server x ≡ b → (none_same v xs ≡ true → votes_once (map found_of (xs ++ v ∷ [])) ≡ true) → votes_once (map found_of ((x ∷ xs) ++ v ∷ [])) ≡ true
     by true is more = absurd (cc (rw is at none))
-    by false is more = both _ _ (ap not (apart_more x v xs (turned _ (left_of _ _ h)) is)) (more (rw is at none))
+    by false is more = and_from _ _ (ap not (apart_more x v xs (not-true _ (and_first _ _ h)) is)) (more (rw is at none))
 
 mark_left : (tid : Tid) (v : Prepared) → found_of (mark_committed tid v) ≡ found_of v
 mark_left tid v = by (is_of tid v)

@@ -1,40 +1,12 @@
 -- What is held of each transaction is held on where the machine and the node change what they have of one alone.
-use Rattle.std.proofs.Common.{◌≡◌, ◌⊎◌, inl, inr, ℕ, Bool, true, List, [], Option, Some, None, refl, sym, ap, subst, ◌∙◌, nat_lt, length}
-use Rattle.std.specs.Prelude.{is_some, slice_get}
-use Rattle.std.specs.Option.{option_map}
-use Rattle.std.specs.List.{find}
-use Rattle.std.specs.Map.{lookup}
-use Rattle.std.specs.BTreeMap.{is_at}
-use Rattle.qs_base.specs.declared.identifiers.ClientNo.{ClientNo}
-use Rattle.qs_base.specs.declared.identifiers.NodeNo.{NodeNo}
-use Rattle.qs_base.specs.declared.identifiers.Outcome.{Outcome}
-use Rattle.qs_base.specs.declared.identifiers.ServerNo.{ServerNo}
-use Rattle.qs_base.specs.declared.identifiers.Tid.{Tid}
-use Rattle.qs_ops.specs.declared.answer.Answer.{Answer}
+use Rattle.qs_world_lawful.proofs.Words.{◌≡◌, ◌⊎◌, inl, inr, ℕ, Bool, true, List, [], Option, Some, None, refl, sym, ap, subst, ◌∙◌, nat_lt, length, is_some, slice_get, option_map, find, lookup, is_at, ClientNo, NodeNo, Outcome, ServerNo, Tid, Answer, Delivery, TransactionValue, is_outcome, Cell, BookValue, find_transaction, is_known, Owner, Participant, Begun, Decided, Lent, OpenCommand, is_outcome_of, outcome_answer, label_at, has_label, client_cmp, IsRising, face_of, HoldsServers, is_seen}
+use Rattle.qs_world_lawful.proofs.Words.{HoldsWaitsAt, Holds, HoldsTid, HoldsAt, HoldsClients, IsBehind, IsOwner, MayBeTold, HasEnded, IsAsking, is_next, same_Some}
 use Rattle.qs_ops.specs.declared.answer.Answer.TheVariants as answers
-use Rattle.qs_ipc.specs.declared.delivery.Delivery.{Delivery}
-use Rattle.qs_book_machine.specs.Transaction.{TransactionValue, is_outcome}
-use Rattle.qs_book_machine.specs.declared.transaction.Cell.{Cell}
-use Rattle.qs_book_machine.specs.Book.{BookValue, find_transaction}
-use Rattle.qs_book_machine.specs.Clauses.{is_known}
 use Rattle.qs_book_machine.specs.Nodes as machine
-use Rattle.qs_book_machine.specs.declared.state.Owner.{Owner}
 use Rattle.qs_tm.specs.Manager as tm
-use Rattle.qs_tm.specs.declared.participant.Participant.{Participant}
-use Rattle.qs_node_kept.specs.declared.kept.KeptLabel.{KeptLabel}
-use Rattle.qs_node_kept.specs.declared.kept.Decided.{Decided}
-use Rattle.qs_node_kept.specs.declared.kept.Lent.{Lent}
-use Rattle.qs_node_step.specs.declared.state.OpenCommand.{OpenCommand}
-use Rattle.qs_node_kept.specs.Keeping.{is_outcome_of}
-use Rattle.qs_node_step.specs.Commands.{outcome_answer}
-use Rattle.qs_node_step.specs.Serving.{label_at}
-use Rattle.qs_node_kept.specs.Keeping.{has_label}
-use Rattle.qs_node_step.specs.State.{NodeValue, client_cmp}
-use Rattle.qs_book_laws.proofs.Rising.{IsRising}
-use Rattle.qs_world_lawful.specs.Face.{Face, face_of}
-use Rattle.qs_world_lawful.specs.Tables.{HoldsServers, is_seen}
-use Rattle.qs_world_lawful.specs.Waits.{HoldsWaitsAt}
-use Rattle.qs_world_lawful.specs.Holds.{Holds, HoldsTid, HoldsAt, HoldsClients, IsBehind, IsOwner, MayBeTold, HasEnded, IsAsking, HasBegun, is_next}
+use Rattle.qs_node_step.specs.State.{NodeValue}
+use Rattle.qs_world_lawful.specs.Face.{Face}
+use Rattle.qs_world_lawful.specs.Holds.{HasBegun}
 use Rattle.qs_world_lawful.proofs.Apart.{Apart, same_or_apart}
 
 -- ---- a face that stays
@@ -147,10 +119,7 @@ KeepsTold node new = (t : Tid) → option_map told_of (tm.part_of t new.manager)
 -- a value of which a part is alike
 pub found_alike : {X Y : Type 0} (g : X → Y) (a b : Option X) (x : X) → option_map g a ≡ option_map g b → b ≡ Some x → (y : X) × (a ≡ Some y) × (g y ≡ g x)
 found_alike g None b x same is = absurd (cc (rw is at same))
-found_alike g (Some y) b x same is = (y, refl, some_same _ _ (rw is at same))
-  where
-    some_same : {Z : Type 0} (z w : Z) → Some z ≡ Some w → z ≡ w
-    some_same z w e = cc e
+found_alike g (Some y) b x same is = (y, refl, same_Some _ _ (rw is at same))
 
 module _ (book new_book : BookValue) (keeps : KeepsSeen book new_book) where
   found_on : (t : Tid) (tx : TransactionValue) → find_transaction book t ≡ Some tx → (now : TransactionValue) × (find_transaction new_book t ≡ Some now) × (seen now ≡ seen tx)
@@ -214,7 +183,7 @@ asking_on node new kept t client h = record {
 
 module _ (book new_book : BookValue) (node new : NodeValue) (seen_on : KeepsSeen book new_book) (owners : KeepsOwners book new_book) (same : SameNode node new) (kept : SameClients node new)
     (h : HoldsClients book node) where
-  label_back : (label : List ℕ) (begun : KeptLabel) → label_at label new ≡ Some begun → label_at label node ≡ Some begun
+  label_back : (label : List ℕ) (begun : Begun) → label_at label new ≡ Some begun → label_at label node ≡ Some begun
   label_back label begun is = ap (find (has_label label)) (sym kept.labels) ∙ is
 
   -- where it is shown who waits for a commit

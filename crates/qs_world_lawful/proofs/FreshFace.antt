@@ -1,50 +1,23 @@
 -- What a node has of each transaction as an incarnation of it begins is what the machine has of it, where that has nothing else of the
 -- incarnation.
-use Rattle.std.proofs.Common.{◌≡◌, ◌⊎◌, inl, inr, ℕ, ◌<◌, ◌==◌, ◌&&◌, Bool, true, false, List, [], length, Option, Some, None, fold, refl, sym, ap, subst, ◌∙◌, arith, is_some, nat_lt}
-use Rattle.std.proofs.lemmas.Bool.Decides.{nat_tests}
-use Rattle.std.specs.Global.{Global}
-use Rattle.std.specs.List.{filter, list_all}
-use Rattle.qs_base.specs.Order.{same_tid}
-use Rattle.qs_base.proofs.Same.{same_tid-true}
-use Rattle.qs_base.specs.declared.identifiers.ClientNo.{ClientNo}
-use Rattle.qs_base.specs.declared.identifiers.NodeNo.{NodeNo}
-use Rattle.qs_base.specs.declared.identifiers.Outcome.{Outcome}
+use Rattle.qs_world_lawful.proofs.Words.{◌≡◌, ◌⊎◌, inl, inr, ℕ, ◌<◌, ◌==◌, Bool, true, false, List, [], length, Option, Some, None, fold, refl, sym, ap, subst, ◌∙◌, arith, is_some, nat_lt, nat_tests, Global, filter, list_all, same_tid, same_tid-true, ClientNo, NodeNo, Outcome, Tid, same_node, Lent, BookValue, cell_of_transaction, find_transaction, is_recoverable, is_among, member_at, TransactionValue, has_note, is_outcome, learnt_abort, no_part, sent_in, sent_on, Cell, Part, ServerValue, client_no}
+use Rattle.qs_world_lawful.proofs.Words.{applied, no_table, share_of, Share, Prepared, Recovery, is_in_doubt, opened_servers, recovered_as, Setting, Participant, doubt_at, member_as, share_as, IsEmpty, at_server, face_of, is_given_back, is_loan_here, is_loan_in, HoldsAt, HoldsMember, HoldsTid, StandsOnce, HasAborted, HasCommitted, Every, HoldsWaits, HoldsWaitsAt, is_idle, and_right, and_left, eqb-true, and_parts}
 use Rattle.qs_base.specs.declared.identifiers.Outcome.TheVariants as outcomes
-use Rattle.qs_base.specs.declared.identifiers.Tid.{Tid}
-use Rattle.qs_engage.specs.Nodes.{same_node}
 use Rattle.qs_node_kept.specs.declared.kept.Kept.{Kept}
-use Rattle.qs_node_kept.specs.declared.kept.Lent.{Lent}
-use Rattle.qs_book_machine.specs.Book.{BookValue, cell_of_transaction, find_transaction}
 use Rattle.qs_book_machine.specs.Clauses.{note_text}
-use Rattle.qs_book_machine.specs.Nodes.{is_recoverable}
-use Rattle.qs_book_machine.specs.Restart.{is_among, member_at}
-use Rattle.qs_book_machine.specs.Transaction.{TransactionValue, borrower, has_note, is_outcome, learnt_abort, no_part, part_of, sent_in, sent_on}
-use Rattle.qs_book_machine.specs.declared.transaction.Cell.{Cell}
+use Rattle.qs_book_machine.specs.Transaction.{borrower, part_of}
 use Rattle.qs_book_machine.specs.declared.transaction.Cell.TheVariants as cells
-use Rattle.qs_book_machine.specs.declared.transaction.Part.{Part}
-use Rattle.qs_ops.specs.Server.{ServerValue}
-use Rattle.qs_ops.specs.Servers.{client_no, files_no}
-use Rattle.qs_ops.specs.Table.{applied, no_table, share_of}
-use Rattle.qs_ops.specs.declared.share.Share.{Share}
-use Rattle.qs_restart.specs.Recovery.{Prepared, Recovery, is_in_doubt}
-use Rattle.qs_node_step.specs.Opening.{opened_node, opened_servers, recovered_as}
+use Rattle.qs_ops.specs.Servers.{files_no}
+use Rattle.qs_node_step.specs.Opening.{opened_node}
 use Rattle.qs_node_step.specs.State.{NodeValue}
-use Rattle.qs_node_step.specs.declared.setting.Setting.{Setting}
-use Rattle.qs_tm.specs.declared.participant.Participant.{Participant}
-use Rattle.qs_world_lawful.specs.Doubtful.{doubt_at, member_as, share_as}
-use Rattle.qs_world_lawful.specs.Face.{IsEmpty, at_server, face_of, is_given_back, is_loan_here, is_loan_in}
-use Rattle.qs_world_lawful.specs.Holds.{HoldsAt, HoldsMember, HoldsTid}
-use Rattle.qs_world_lawful.specs.Lasting.{StandsOnce}
-use Rattle.qs_world_lawful.specs.Logged.{HasAborted, HasCommitted}
-use Rattle.qs_world_lawful.specs.Logs.{Every}
-use Rattle.qs_world_lawful.specs.Waits.{HoldsWaits, HoldsWaitsAt, is_idle}
-use Rattle.qs_world_lawful.proofs.FoundMembers.{and_false, every_passed, left_false, none_pass}
+use Rattle.qs_world_lawful.proofs.FoundMembers.{every_passed, none_pass}
 use Rattle.qs_world_lawful.proofs.LogFrames.{every_on}
 use Rattle.qs_world_lawful.proofs.Reopened.{IsReopened, doubt_is, manager_reopened, share_taken}
 use Rattle.qs_world_lawful.proofs.Reopened as reopened
 use Rattle.qs_world_lawful.proofs.RestartTables.{HasLogged, HaveTables, tables_kept, take_changes}
 use Rattle.qs_world_lawful.proofs.RestartVotes.{IsSorted}
 use Rattle.qs_world_lawful.proofs.TakenCommits.{IsListed}
+use Rattle.qs_base_lemmas.proofs.Tests.{lt_not_equal, lt_apart}
 
 -- of a transaction the machine has in the incarnation what stands in doubt in the log, and nothing else
 pub record FreshAt (here : NodeNo) (inc : ℕ) (log : Recovery) (tid : Tid) (tx : TransactionValue) : Type 0 where
@@ -101,10 +74,7 @@ module _ (alloc : Global) (setting : Setting) (saved : Kept) (after : BookValue)
   -- ---- loans
 
   earlier : (loan : Lent) → IsOldLoan after setting.inc loan → (loan.inc == setting.inc) ≡ false
-  earlier loan is = far loan.inc setting.inc is.made
-    where
-      far : (a b : ℕ) → a < b → (a == b) ≡ false
-      far a b p = grind (arith, nat_tests, p)
+  earlier loan is = lt_apart loan.inc setting.inc is.made
 
   no_loans : (tid : Tid) (p : Lent → Bool) → ((loan : Lent) → (loan.inc == setting.inc) ≡ false → p loan ≡ false) → length (filter p (face_of node tid).loans) ≡ 0
   no_loans tid p fails = ap length (none_pass p (filter (is_loan_in tid) saved.loans) (every_on (IsOldLoan after setting.inc) (λ (loan : Lent). p loan ≡ false) (λ loan is. fails loan (earlier loan is)) (filter (is_loan_in tid) saved.loans) (every_passed (IsOldLoan after setting.inc) (is_loan_in tid) saved.loans loans)))
@@ -124,11 +94,8 @@ module _ (alloc : Global) (setting : Setting) (saved : Kept) (after : BookValue)
     is_home_of : same_node tid.home setting.node ≡ true → tid.home ≡ setting.node
     is_home_of e = of tid.home setting.node e
       where
-        same_no : (m n : ℕ) → (m == n) ≡ true → m ≡ n
-        same_no m n e = grind (arith, nat_tests, e)
-
         of : (a b : NodeNo) → (a.0 == b.0) ≡ true → a ≡ b
-        of a b e = ap (λ (x : ℕ). record { 0 = x }) (same_no a.0 b.0 e)
+        of a b e = ap (λ (x : ℕ). record { 0 = x }) (eqb-true a.0 b.0 e)
 
     outcome : (o : Outcome) → ((o ≡ outcomes.Abort) × (same_node tid.home setting.node ≡ true) × In tid) ⊎ ((o ≡ outcomes.Commit) × (is_among log.committed tid ≡ true)) → is_outcome o later.cell ≡ true
     outcome o (inl abort) = rw (abort.0, some_cell cells.Abort (abort.2.away (is_home_of abort.1))) refl
@@ -141,10 +108,7 @@ module _ (alloc : Global) (setting : Setting) (saved : Kept) (after : BookValue)
         high c = grind (arith, nat_tests)
 
     not_now : tid.home ≡ setting.node → tid.inc ≡ setting.inc → ⊥
-    not_now home is = less tid.inc setting.inc (f.begun home) is
-      where
-        less : (a c : ℕ) → a < c → a ≡ c → ⊥
-        less a c p e = grind (arith, p, e)
+    not_now home is = lt_not_equal tid.inc setting.inc (f.begun home) is
 
     pub tid_held : HoldsTid setting.node setting.inc tid later (face_of node tid)
     tid_held = record {
@@ -158,8 +122,8 @@ module _ (alloc : Global) (setting : Setting) (saved : Kept) (after : BookValue)
       pending = f.pending ∙ sym (ap (λ (s : Share). length s.changes) (share_is tid));
       noted = λ held count low is. absurd (cc (sym (f.noted (note_text tid setting.node.0 count)) ∙ is));
       queued = λ server at to. grind (arith);
-      made = λ client small. ap (λ (p : Part). p.made) (plain_client client) ∙ sym (no_loans tid (is_loan_here client setting.inc) (λ loan far. and_false (loan.client.0 == client.0) _ far));
-      yielded = λ client small. ap (λ (p : Part). p.yielded) (plain_client client) ∙ sym (no_loans tid (is_given_back client setting.inc) (λ loan far. left_false _ loan.yielded (and_false (loan.client.0 == client.0) _ far)));
+      made = λ client small. ap (λ (p : Part). p.made) (plain_client client) ∙ sym (no_loans tid (is_loan_here client setting.inc) (λ loan far. and_right (loan.client.0 == client.0) _ far));
+      yielded = λ client small. ap (λ (p : Part). p.yielded) (plain_client client) ∙ sym (no_loans tid (is_given_back client setting.inc) (λ loan far. and_left _ loan.yielded (and_right (loan.client.0 == client.0) _ far)));
       home = λ home is. absurd (not_now home is);
     }
       where
@@ -181,16 +145,12 @@ module _ (alloc : Global) (setting : Setting) (saved : Kept) (after : BookValue)
     no_doubt : (s : ℕ) → doubt_at log.prepared tid s ≡ None
     no_doubt s = by (doubt_at log.prepared tid s) refl
       where
-        and_both : (a b : Bool) → (a && b) ≡ true → (a ≡ true) × (b ≡ true)
-        and_both true b e = (refl, e)
-        and_both false b e = absurd (cc e)
-
         by : (o : Option Prepared) → doubt_at log.prepared tid s ≡ o → doubt_at log.prepared tid s ≡ None
         by None is = is
         by (Some v) is =
             let p = doubt_is (λ (v : Prepared). is_in_doubt v ≡ true → In v.tid) tid s log.prepared r.doubts v is in
-            let two = and_both (is_in_doubt v) _ p.1 in
-            let same = same_tid-true v.tid tid (and_both (same_tid v.tid tid) (v.server.0 == s) two.1).0 in
+            let two = and_parts (is_in_doubt v) _ p.1 in
+            let same = same_tid-true v.tid tid (and_parts (same_tid v.tid tid) (v.server.0 == s) two.1).0 in
             absurd (cc (sym (ap is_some nothing) ∙ subst (λ (t : Tid). is_some (find_transaction after t) ≡ true) same (p.0 two.0).stands))
 
     no_part_known : (o : Option Participant) → (face_of node tid).known ≡ o → (face_of node tid).known ≡ None

@@ -1,37 +1,13 @@
 -- A node whose incarnation begins knows its log: what stands in doubt in it is known as prepared, and what is to be told as committed.
-use Rattle.std.proofs.Common.{◌≡◌, inl, inr, ℕ, ◌<◌, ◌==◌, ◌++◌, Bool, true, false, List, [], ◌∷◌, length, Option, Some, None, fold, refl, sym, ap, subst, ◌∙◌, arith, if◌then◌else◌, is_some}
-use Rattle.std.proofs.lemmas.Bool.Decides.{nat_tests}
-use Rattle.std.specs.Global.{Global}
-use Rattle.std.specs.List.{list_all}
-use Rattle.qs_base.specs.Order.{tid_cmp}
-use Rattle.qs_base.proofs.Same.{same_tid-self}
-use Rattle.qs_base.specs.declared.identifiers.NodeNo.{NodeNo}
+use Rattle.qs_world_lawful.proofs.Words.{◌≡◌, inl, inr, ℕ, ◌<◌, ◌==◌, ◌++◌, Bool, true, false, List, [], ◌∷◌, length, Option, Some, None, fold, refl, sym, ap, subst, ◌∙◌, arith, if◌then◌else◌, is_some, nat_tests, Global, list_all, tid_cmp, same_tid-self, NodeNo, Tid, same_node, tid_total, IsRising, put_rises, BookValue, Record, Prepared, Recovery, in_doubt, is_in_doubt, untold, new_manager, take_up, Setting, no_member, committed_before, voted_before, member_of, new_participant, Manager, MemberPart}
+use Rattle.qs_world_lawful.proofs.Words.{Participant, doubt_at, last_doubt, member_as, part_or_new, HasAborted, IsKnown, IsPrepared, KeepsRecords, KnowsLog, Every, IsApart, eqb-true, eqb-self}
 use Rattle.qs_base.specs.declared.identifiers.Outcome.TheVariants as outcomes
-use Rattle.qs_base.specs.declared.identifiers.Tid.{Tid}
-use Rattle.qs_engage.specs.Nodes.{same_node}
 use Rattle.qs_node_kept.specs.declared.kept.Kept.{Kept}
-use Rattle.qs_base.proofs.TidOrder.{tid_total}
-use Rattle.qs_book_laws.proofs.Rising.{IsRising, put_rises}
-use Rattle.qs_book_machine.specs.Book.{BookValue}
 use Rattle.qs_book_machine.specs.Nodes as machine
-use Rattle.qs_record.specs.declared.record.Record.{Record}
 use Rattle.qs_record.specs.declared.record.Record.TheVariants as records
-use Rattle.qs_restart.specs.Recovery.{Prepared, Recovery, in_doubt, is_in_doubt, untold}
-use Rattle.qs_node_step.specs.Opening.{new_manager, take_up}
 use Rattle.qs_node_step.specs.State.{NodeValue}
-use Rattle.qs_node_step.specs.declared.setting.Setting.{Setting}
 use Rattle.qs_tm.specs.Manager as tm
-use Rattle.qs_tm.specs.Members.{no_member}
-use Rattle.qs_tm.specs.Outcomes.{committed_before, voted_before}
-use Rattle.qs_tm.specs.Participant.{member_of, new_participant}
-use Rattle.qs_tm.specs.declared.manager.Manager.{Manager}
-use Rattle.qs_tm.specs.declared.members.MemberPart.{MemberPart}
-use Rattle.qs_tm.specs.declared.participant.Participant.{Participant}
-use Rattle.qs_world_lawful.specs.Doubtful.{doubt_at, is_doubt_at, last_doubt, member_as}
-use Rattle.qs_world_lawful.specs.Face.{part_or_new}
-use Rattle.qs_world_lawful.specs.Logged.{HasAborted, IsKnown, IsPrepared, KeepsRecords, KnowsLog}
-use Rattle.qs_world_lawful.specs.Logs.{Every}
-use Rattle.qs_world_lawful.specs.Said.{IsApart}
+use Rattle.qs_world_lawful.specs.Doubtful.{is_doubt_at}
 use Rattle.qs_world_lawful.proofs.FoundMembers.{and_both, every_two}
 use Rattle.qs_world_lawful.proofs.FreshFace.{Fresh, IsDoubt, IsOldLoan, known_as, node}
 use Rattle.qs_world_lawful.proofs.LogFrames.{every_on}
@@ -101,14 +77,11 @@ pub doubts_found : (votes : List Prepared) (o : Tid → ℕ → Option Prepared)
 doubts_found [] o = tt
 doubts_found (x ∷ votes) o = ((λ doubt. own doubt), doubts_found votes (λ tid s. last_doubt tid s (o tid s) x))
   where
-    self : (n : ℕ) → (n == n) ≡ true
-    self n = grind (arith, nat_tests)
-
     own : is_in_doubt x ≡ true → is_some (fold (last_doubt x.tid x.server.0) (last_doubt x.tid x.server.0 (o x.tid x.server.0) x) votes) ≡ true
     own doubt = subst (λ (b : Bool). is_some (fold (last_doubt x.tid x.server.0) (if b then Some x else o x.tid x.server.0) votes) ≡ true) (sym here) (some_stays x.tid x.server.0 votes x)
       where
         here : is_doubt_at x.tid x.server.0 x ≡ true
-        here = rw (doubt, same_tid-self x.tid) (self x.server.0)
+        here = rw (doubt, same_tid-self x.tid) (eqb-self x.server.0)
 
 -- ---- what it knows of its log
 
@@ -158,10 +131,7 @@ module _ (alloc : Global) (setting : Setting) (saved : Kept) (now : BookValue) (
   parts_kept tid part is = by ((k tid).marks part is)
     where
       home_is : (a b : NodeNo) → same_node a b ≡ true → a ≡ b
-      home_is a b e = ap (λ (x : ℕ). record { 0 = x }) (no_is a.0 b.0 e)
-        where
-          no_is : (m n : ℕ) → (m == n) ≡ true → m ≡ n
-          no_is m n e = grind (arith, nat_tests, e)
+      home_is a b e = ap (λ (x : ℕ). record { 0 = x }) (eqb-true a.0 b.0 e)
 
       by : reopened.IsMarkedAs (same_node tid.home setting.node) log.committed tid (IsDoubt now setting.node log tid) part → KeepsRecords now log tid part
       by (inl vote) = record {

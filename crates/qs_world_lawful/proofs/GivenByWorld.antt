@@ -1,37 +1,15 @@
 -- What comes to a node comes so from the world: a line from its client, and a message from a channel.
-use Rattle.std.proofs.Common.{◌≡◌, inl, inr, ℕ, ◌+◌, ◌-◌, ◌==◌, ◌≤◌, Bool, true, false, List, [], ◌∷◌, ◌++◌, length, drop, Option, Some, None, zero, suc, refl, sym, ap, subst, ◌∙◌, arith, nat_lt, append_assoc}
-use Rattle.std.proofs.lemmas.Bool.Decides.{nat_tests}
-use Rattle.std.specs.BTreeMap.{is_at}
-use Rattle.std.specs.List.{list_all}
-use Rattle.std.specs.Map.{lookup}
-use Rattle.std.specs.Prelude.{◌&&◌, slice_get, if◌then◌else◌}
-use Rattle.qs_base.proofs.Same.{same_tid-self}
-use Rattle.qs_base.specs.declared.identifiers.ClientNo.{ClientNo}
-use Rattle.qs_base.specs.declared.identifiers.Member.{Member}
-use Rattle.qs_base.specs.declared.identifiers.NodeNo.{NodeNo}
-use Rattle.qs_base.specs.declared.identifiers.ServerNo.{ServerNo}
-use Rattle.qs_base.specs.declared.identifiers.Tid.{Tid}
+use Rattle.qs_world_lawful.proofs.Words.{◌≡◌, inl, inr, ℕ, ◌+◌, ◌-◌, ◌==◌, ◌≤◌, Bool, true, false, List, [], ◌∷◌, ◌++◌, length, drop, Option, Some, None, zero, suc, refl, sym, ap, subst, ◌∙◌, arith, nat_lt, append_assoc, is_at, list_all, lookup, ◌&&◌, slice_get, if◌then◌else◌, same_tid-self, ClientNo, Member, NodeNo, ServerNo, Tid, Command, ScriptLine, BookValue, is_fresh, Op, Message, client_cmp, OpenCommand, are_rising, labels_begun, next_parcel, Opening, Parcel, World, inc_of, known_of}
+use Rattle.qs_world_lawful.proofs.Words.{ComesLine, ComesMessage, Every, GoesTo, HoldsChannels, IsParcel, on_its_way, ops_of, pending, pending_from, way_between, HoldsClient, IsFresh, IsWithin, standing_ops, waiting_ops, eqb-self, eqb-true}
 use Rattle.qs_ipc.specs.Queue.{is_for}
-use Rattle.qs_book_journal.specs.declared.script_line.Command.{Command}
 use Rattle.qs_book_journal.specs.declared.script_line.Command.TheVariants as commands
-use Rattle.qs_book_journal.specs.declared.script_line.ScriptLine.{ScriptLine}
-use Rattle.qs_book_machine.specs.Book.{BookValue}
-use Rattle.qs_book_machine.specs.Clauses.{is_fresh}
-use Rattle.qs_ops.specs.declared.operation.Op.{Op}
-use Rattle.qs_packet.specs.declared.message.Message.{Message}
 use Rattle.qs_packet.specs.declared.message.Message.TheVariants as messages
-use Rattle.qs_node_step.specs.State.{client_cmp}
-use Rattle.qs_node_step.specs.declared.state.OpenCommand.{OpenCommand}
-use Rattle.qs_world.specs.Openings.{are_rising, is_command, is_in_run, is_line, labels_begun}
-use Rattle.qs_world.specs.Posting.{next_line, next_parcel}
-use Rattle.qs_world.specs.World.{Opening, Parcel, World, inc_of, known_of}
-use Rattle.qs_world_lawful.specs.Coming.{ComesBehind, ComesLine, ComesMessage}
+use Rattle.qs_world.specs.Openings.{is_command, is_in_run, is_line}
+use Rattle.qs_world.specs.Posting.{next_line}
+use Rattle.qs_world_lawful.specs.Coming.{ComesBehind}
 use Rattle.qs_world_lawful.specs.Face.{waiting_at}
-use Rattle.qs_world_lawful.specs.Logs.{Every}
-use Rattle.qs_world_lawful.specs.Parcels.{GoesTo, HoldsChannels, HoldsWay, IsParcel, on_its_way, ops_of, pending, pending_from, way_between, IsBetween}
-use Rattle.qs_world_lawful.specs.Scripts.{HoldsClient, IsFresh}
-use Rattle.qs_world_lawful.specs.Waits.{IsWithin, standing_ops, waiting_ops}
-use Rattle.qs_world_lawful.proofs.Truths.{clash, left_true, node_is, number_is, of_some, right_true}
+use Rattle.qs_world_lawful.specs.Parcels.{HoldsWay, IsBetween}
+use Rattle.qs_world_lawful.proofs.Truths.{clash, left_true, node_is, of_some, right_true}
 
 -- ---- lists
 
@@ -83,7 +61,7 @@ module _ (o : Opening) (book : BookValue) (world : World) (k n : ℕ) (h : Holds
               (ap (list_all (is_line world.size k (labels_begun (o.clients k).1))) (sym lines_are) ∙ (ap (list_all (is_line world.size k (labels_begun (o.clients k).1))) h.rest.rest ∙ all_dropped (is_line world.size k (labels_begun (o.clients k).1)) h.rest.done (o.clients k).1 formed))
 
           client_is : record { 0 = k } ≡ line.client
-          client_is = ap (λ (i : ℕ). record { 0 = i }) (sym (number_is line.client.0 k (left_true (line.client.0 == k) _ is_of)))
+          client_is = ap (λ (i : ℕ). record { 0 = i }) (sym (eqb-true line.client.0 k (left_true (line.client.0 == k) _ is_of)))
 
           none : (c : Option OpenCommand) → lookup (is_at (client_cmp (record { 0 = k }))) (world.hosts n).node.commands ≡ c → lookup (is_at (client_cmp (record { 0 = k }))) (world.hosts n).node.commands ≡ None
           none None is = is
@@ -154,11 +132,8 @@ module _ (book : BookValue) (world : World) (n m : ℕ) (h : HoldsChannels book 
           (within_front (waiting_ops (way_between m n number) (waiting_at (world.hosts n).node tid member.server) ++ op ∷ []) (ops_of tid member.server number (first_way parcel next).0) (standing_ops tx (way_between m n number) (record { 0 = n }) member.server)
           (subst (λ (ds : List Op). IsWithin ds (standing_ops tx (way_between m n number) (record { 0 = n }) member.server)) (whole_ops tid label member number issuer op is) (way tid tx member.server number found)))
         where
-          itself : (i : ℕ) → (i == i) ≡ true
-          itself i = grind (arith, nat_tests)
-
           first_op : (tid : Tid) (label : List ℕ) (member : Member) (number : ℕ) (issuer : ServerNo) (op : Op) → parcel.message ≡ messages.Request tid label member number issuer op → (rest : List Parcel) → ops_of tid member.server number (parcel ∷ rest) ≡ op ∷ ops_of tid member.server number rest
-          first_op tid label member number issuer op is rest = rw (is, same_tid-self tid, itself member.server.0, itself number) refl
+          first_op tid label member number issuer op is rest = rw (is, same_tid-self tid, eqb-self member.server.0, eqb-self number) refl
 
           whole_ops : (tid : Tid) (label : List ℕ) (member : Member) (number : ℕ) (issuer : ServerNo) (op : Op) → parcel.message ≡ messages.Request tid label member number issuer op
               → waiting_ops (way_between m n number) (waiting_at (world.hosts n).node tid member.server) ++ ops_of tid member.server number (on_its_way world.channels m n)

@@ -1,27 +1,14 @@
 -- What an event is given, from what stands as it comes, from where it comes from, and from what the agreement protocol gives of it.
-use Rattle.std.proofs.Common.{◌≡◌, ℕ, ◌==◌, true, false, Option, Some, None, refl, sym, ap, subst, ◌∙◌, arith, nat_lt}
-use Rattle.std.proofs.lemmas.Bool.Decides.{nat_tests}
-use Rattle.std.specs.Prelude.{is_some}
-use Rattle.qs_base.specs.declared.identifiers.NodeNo.{NodeNo}
-use Rattle.qs_base.specs.declared.identifiers.Outcome.{Outcome}
+use Rattle.qs_world_lawful.proofs.Words.{◌≡◌, ℕ, ◌==◌, true, false, Option, Some, None, refl, sym, ap, subst, ◌∙◌, nat_lt, is_some, NodeNo, Outcome, Tid, same_node, BookValue, cell_of_transaction, find_transaction, TransactionValue, cell_of, is_outcome, Cell, Message, Work, ComesMessage, IsAborted, book_at, HasAborted, HasOutcome, Stands, eqb-self}
 use Rattle.qs_base.specs.declared.identifiers.Outcome.TheVariants as outcomes
-use Rattle.qs_base.specs.declared.identifiers.Tid.{Tid}
-use Rattle.qs_engage.specs.Nodes.{same_node}
-use Rattle.qs_book_machine.specs.Book.{BookValue, cell_of_transaction, find_transaction}
-use Rattle.qs_book_machine.specs.Transaction.{TransactionValue, cell_of, is_abort, is_outcome}
-use Rattle.qs_book_machine.specs.declared.transaction.Cell.{Cell}
+use Rattle.qs_book_machine.specs.Transaction.{is_abort}
 use Rattle.qs_book_machine.specs.declared.transaction.Cell.TheVariants as cells
-use Rattle.qs_packet.specs.declared.message.Message.{Message}
 use Rattle.qs_packet.specs.declared.message.Message.TheVariants as messages
 use Rattle.qs_node_step.specs.Answering.{was_committed}
-use Rattle.qs_node_step.specs.State.{NodeValue, Work}
+use Rattle.qs_node_step.specs.State.{NodeValue}
 use Rattle.qs_tm.specs.Manager as tm
 use Rattle.qs_world_lawful.specs.Agreed.{AgreesMessage, WasSent}
-use Rattle.qs_world_lawful.specs.Coming.{ComesMessage}
-use Rattle.qs_world_lawful.specs.Entering.{IsAborted, book_at}
 use Rattle.qs_world_lawful.specs.GivenStep.{IsCell, MayArrive, MayCome, MayCount}
-use Rattle.qs_world_lawful.specs.Logged.{HasAborted, HasOutcome}
-use Rattle.qs_world_lawful.specs.Standing.{Stands}
 use Rattle.qs_world_lawful.proofs.GivenServing.{may_reply}
 use Rattle.qs_world_lawful.proofs.GivenSettling.{uncommitted}
 use Rattle.qs_world_lawful.proofs.Truths.{clash, node_is, of_some}
@@ -62,12 +49,9 @@ module _ (stamp : ℕ) (before : BookValue) (size : ℕ) (nodes : ℕ → NodeVa
       by (Some tx) found there = record { tx = tx; found = found; open_still = uncommitted stamp before size nodes n work s.by tid a tx found; stands = c.behind tx found }
   may_come peer (messages.Answered tid member number reply) c a = may_reply stamp before size nodes n work s tid member number
   may_come peer (messages.AskVote tid) c a = record {
-    away = λ part known away e. clash (sym away ∙ ((s.by.facts.parts tid part known).homed ∙ (ap (λ (k : NodeNo). same_node k work.node.setting.node) e ∙ itself work.node.setting.node.0)));
+    away = λ part known away e. clash (sym away ∙ ((s.by.facts.parts tid part known).homed ∙ (ap (λ (k : NodeNo). same_node k work.node.setting.node) e ∙ eqb-self work.node.setting.node.0)));
     asked = λ tx found. subst (λ (t : TransactionValue). is_some t.asked ≡ true) (of_some (sym c.says.1 ∙ found)) c.says.2;
   }
-    where
-      itself : (k : ℕ) → (k == k) ≡ true
-      itself k = grind (arith, nat_tests)
   may_come peer (messages.Covered tid up_to) c a = count peer tid up_to c.other c.in_run a
   may_come peer (messages.VotedYes tid up_to told) c a = count peer tid up_to c.other c.in_run a
   may_come peer (messages.VotedAbort tid cause) c a = tt

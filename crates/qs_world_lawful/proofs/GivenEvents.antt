@@ -1,22 +1,13 @@
 -- An event of a node of the world comes as it is given: from the next line of a client, the next message of a channel, or by itself.
-use Rattle.std.proofs.Common.{◌≡◌, ℕ, ◌==◌, Bool, true, false, Option, Some, None, zero, suc, refl, sym, ap, subst, ◌∙◌, arith, nat_lt}
-use Rattle.std.proofs.lemmas.Bool.Decides.{nat_tests}
-use Rattle.std.specs.List.{list_all}
-use Rattle.std.specs.Prelude.{◌&&◌, if◌then◌else◌}
-use Rattle.qs_book_journal.specs.declared.script_line.ScriptLine.{ScriptLine}
-use Rattle.qs_book_machine.specs.Book.{BookValue}
-use Rattle.qs_node_step.specs.State.{work_on}
-use Rattle.qs_node_step.specs.declared.event.Event.{Event}
+use Rattle.qs_world_lawful.proofs.Words.{◌≡◌, ℕ, ◌==◌, Bool, true, false, Option, Some, None, zero, suc, refl, sym, ap, subst, ◌∙◌, arith, nat_lt, nat_tests, list_all, ◌&&◌, if◌then◌else◌, ScriptLine, BookValue, work_on, Event, Source, Commanded, Handed, Queues, Clock, Noticed, event_of, IsOpening, are_rising, labels_begun, next_parcel, Opening, Parcel, World, known_of, ComesTo, eqb-true}
 use Rattle.qs_node_step.specs.declared.event.Event.TheVariants as events
-use Rattle.qs_world.specs.Moves.{Source, Commanded, Handed, Queues, Clock, Noticed, command_of, event_of, has_begun, node_no}
-use Rattle.qs_world.specs.Openings.{IsOpening, are_rising, each_below, is_line, is_script, labels_begun}
-use Rattle.qs_world.specs.Posting.{next_line, next_parcel}
-use Rattle.qs_world.specs.World.{Opening, Parcel, World, known_of}
-use Rattle.qs_world_lawful.specs.Coming.{ComesTo}
+use Rattle.qs_world.specs.Moves.{command_of, has_begun, node_no}
+use Rattle.qs_world.specs.Openings.{each_below, is_line, is_script}
+use Rattle.qs_world.specs.Posting.{next_line}
 use Rattle.qs_world_lawful.specs.Parcels.{IsBetween}
 use Rattle.qs_world_lawful.specs.WorldGives.{WorldGives}
 use Rattle.qs_world_lawful.proofs.GivenByWorld.{line_comes, message_between, message_comes}
-use Rattle.qs_world_lawful.proofs.Truths.{left_true, number_is, of_some, right_true}
+use Rattle.qs_world_lawful.proofs.Truths.{left_true, of_some, right_true}
 
 each_at : (count : ℕ) (test : ℕ → Bool) (k : ℕ) → each_below count test ≡ true → nat_lt k count ≡ true → test k ≡ true
 each_at zero test k all below = absurd (no k below)
@@ -29,7 +20,7 @@ each_at (suc count) test k all below = by (k == count) refl (each_at count test 
     lower other = grind (arith, nat_tests, other, below)
 
     by : (b : Bool) → (k == count) ≡ b → (nat_lt k count ≡ true → test k ≡ true) → test k ≡ true
-    by true is rest = ap test (number_is k count is) ∙ left_true (test count) _ all
+    by true is rest = ap test (eqb-true k count is) ∙ left_true (test count) _ all
     by false is rest = rest (lower is)
 
 module _ (o : Opening) (book : BookValue) (world : World) (n stamp free : ℕ) (opens : IsOpening o) (source : Source) (g : WorldGives o book world n free source) where
@@ -42,7 +33,7 @@ module _ (o : Opening) (book : BookValue) (world : World) (n stamp free : ℕ) (
   commanded k event false test line next is = absurd (cc is)
   commanded k event true test None next is = absurd (cc is)
   commanded k event true test (Some line) next is = subst (λ (e : Event). ComesTo book e (work_on (world.hosts n).node free)) (of_some is)
-      (line_comes o book world k n (g.scripts.clients k (left_true (nat_lt k 64) _ test)) (left_true (nat_lt k 64) _ test) g.in_run g.up (number_is (world.clients k).at n (right_true (nat_lt k 64) _ test)) g.nodes (formed k (left_true (nat_lt k 64) _ test)) line next)
+      (line_comes o book world k n (g.scripts.clients k (left_true (nat_lt k 64) _ test)) (left_true (nat_lt k 64) _ test) g.in_run g.up (eqb-true (world.clients k).at n (right_true (nat_lt k 64) _ test)) g.nodes (formed k (left_true (nat_lt k 64) _ test)) line next)
 
   handed : (m : ℕ) (event : Event) (p : Option Parcel) → next_parcel world n m ≡ p → elim p [ None ↦ None | Some parcel ↦ if nat_lt parcel.stamp stamp then Some (events.Received (node_no m) parcel.message) else None ] ≡ Some event → ComesTo book event (work_on (world.hosts n).node free)
   handed m event None next is = absurd (cc is)

@@ -1,21 +1,8 @@
 -- A reply may come: each note that was served stays noted, or is still waited for, since no two requests wait under one number.
-use Rattle.std.proofs.Common.{◌≡◌, ◌⊎◌, inl, inr, ℕ, ◌==◌, Bool, true, false, List, [], ◌∷◌, Some, refl, sym, ap, subst, ◌∙◌}
-use Rattle.std.proofs.lemmas.List.Folds.{list_any-append}
-use Rattle.std.specs.List.{filter, find, list_any}
-use Rattle.std.specs.Prelude.{not, ◌&&◌, ◌||◌, if◌then◌else◌}
-use Rattle.qs_base.proofs.Same.{same_member-true}
-use Rattle.qs_base.specs.Order.{same_member}
-use Rattle.qs_base.specs.declared.identifiers.Member.{Member}
-use Rattle.qs_base.specs.declared.identifiers.NodeNo.{NodeNo}
-use Rattle.qs_base.specs.declared.identifiers.Tid.{Tid}
-use Rattle.qs_book_machine.specs.Transaction.{TransactionValue}
-use Rattle.qs_tm.specs.Participant.{awaits_note, drop_waiting, has_noted, is_answered_by, is_by_files, is_count, note_served, waiting_for}
-use Rattle.qs_tm.specs.declared.participant.Outstanding.{Outstanding}
-use Rattle.qs_tm.specs.declared.participant.Participant.{Participant}
-use Rattle.qs_world_lawful.specs.Beside.{HoldsNotes, awaits_count, is_note_with}
-use Rattle.qs_world_lawful.specs.Given.{AreNoted, replied}
-use Rattle.qs_world_lawful.specs.NodeFacts.{AreApart}
-use Rattle.qs_world_lawful.proofs.Truths.{clash, left_true, number_is, of_some, right_true}
+use Rattle.qs_world_lawful.proofs.Words.{◌≡◌, ◌⊎◌, inl, inr, ℕ, ◌==◌, Bool, true, false, List, [], ◌∷◌, Some, refl, sym, ap, subst, ◌∙◌, list_any-append, filter, find, list_any, not, ◌&&◌, ◌||◌, if◌then◌else◌, same_member-true, same_member, Member, NodeNo, Tid, TransactionValue, awaits_note, has_noted, is_answered_by, is_count, waiting_for, Outstanding, Participant, HoldsNotes, awaits_count, is_note_with, AreNoted, AreApart, eqb-true}
+use Rattle.qs_tm.specs.Participant.{drop_waiting, is_by_files, note_served}
+use Rattle.qs_world_lawful.specs.Given.{replied}
+use Rattle.qs_world_lawful.proofs.Truths.{clash, left_true, of_some, right_true}
 
 -- who waits for a note of that count waits for a note
 pub awaits_some : (count : ℕ) (ws : List Outstanding) → list_any (is_note_with count) ws ≡ true → list_any is_by_files ws ≡ true
@@ -39,7 +26,7 @@ module _ (member : Member) (number : ℕ) where
   -- an answer to one request is for no other
   pub for_one : (w : Outstanding) → is_answered_by member number w ≡ true → (rest : List Outstanding) → list_any (is_answered_by w.member w.number) rest ≡ false → list_any (is_answered_by member number) rest ≡ false
   for_one w is rest none = subst (λ (m : Member). list_any (is_answered_by m number) rest ≡ false) (same_member-true w.member member (left_true (same_member w.member member) _ is))
-      (subst (λ (k : ℕ). list_any (is_answered_by w.member k) rest ≡ false) (number_is w.number number (right_true (same_member w.member member) _ is)) none)
+      (subst (λ (k : ℕ). list_any (is_answered_by w.member k) rest ≡ false) (eqb-true w.number number (right_true (same_member w.member member) _ is)) none)
 
   -- a note that is waited for is the one that is answered, or is still waited for
   still_waits : (count : ℕ) (ws : List Outstanding) (request : Outstanding) → AreApart ws → find (is_answered_by member number) ws ≡ Some request → list_any (is_note_with count) ws ≡ true

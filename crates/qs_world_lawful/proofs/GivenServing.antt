@@ -1,43 +1,14 @@
 -- What serving is given: a note that is served is waited for, and so is the reply where it was issued here.
-use Rattle.std.proofs.Common.{◌≡◌, ◌⊎◌, inl, inr, ℕ, ◌+◌, ◌==◌, ◌≤◌, Bool, true, false, List, [], ◌∷◌, ◌++◌, Option, Some, None, refl, sym, ap, subst, ◌∙◌}
-use Rattle.std.specs.List.{list_any}
-use Rattle.std.specs.BTreeMap.{is_at}
-use Rattle.std.specs.Prelude.{◌||◌, if◌then◌else◌}
-use Rattle.qs_base.specs.declared.identifiers.ClientNo.{ClientNo}
-use Rattle.qs_base.specs.declared.identifiers.Member.{Member}
-use Rattle.qs_base.specs.declared.identifiers.NodeNo.{NodeNo}
-use Rattle.qs_base.specs.declared.identifiers.ServerNo.{ServerNo}
-use Rattle.qs_base.specs.declared.identifiers.Tid.{Tid}
-use Rattle.qs_engage.specs.Engage.{last_number}
-use Rattle.qs_engage.specs.Nodes.{same_node}
+use Rattle.qs_world_lawful.proofs.Words.{◌≡◌, ◌⊎◌, inl, inr, ℕ, ◌+◌, ◌==◌, ◌≤◌, Bool, true, false, List, [], ◌∷◌, ◌++◌, Option, Some, None, refl, sym, ap, subst, ◌∙◌, list_any, is_at, ◌||◌, if◌then◌else◌, ClientNo, Member, NodeNo, ServerNo, Tid, last_number, same_node, Delivery, Act, BookValue, find_transaction, inc_at, loan_to, borrower_at, TransactionValue, has_note, lent, noted_cmp, served_in, Noted, Request, RequestNo, Reply, is_client, member_here, enter_serve, lent_to, make_loan, reply_here}
+use Rattle.qs_world_lawful.proofs.Words.{Work, change_server, here, with_queues, Setting, after_serving, class_here, is_told_class, awaits_note, has_noted, is_count, member_of, waiting_for, Participant, HoldsNotes, awaits_count, has_issued, has_note_in, is_note_with, book_at, at_server, AreNoted, MayServe, AreApart, CanCount, Stands}
 use Rattle.qs_ipc.specs.Ipc as ipc
-use Rattle.qs_ipc.specs.declared.delivery.Delivery.{Delivery}
-use Rattle.qs_book_journal.specs.declared.entry.Act.{Act}
 use Rattle.qs_book_journal.specs.declared.entry.Act.TheVariants as acts
-use Rattle.qs_book_machine.specs.Book.{BookValue, find_transaction, inc_at, is_done, loan_to}
-use Rattle.qs_book_machine.specs.Clauses.{borrower_at, note_text}
-use Rattle.qs_book_machine.specs.Transaction.{TransactionValue, has_note, lent, noted_cmp, served_in}
-use Rattle.qs_book_machine.specs.declared.transaction.Noted.{Noted}
-use Rattle.qs_book_machine.specs.declared.transaction.Request.{Request}
-use Rattle.qs_book_machine.specs.declared.transaction.RequestNo.{RequestNo}
-use Rattle.qs_ops.specs.declared.reply.Reply.{Reply}
-use Rattle.qs_node_servers.specs.Servers.{is_client}
-use Rattle.qs_node_step.specs.Bringing.{member_here}
-use Rattle.qs_node_step.specs.Serving.{enter_serve, lent_to, make_loan, reply_here}
-use Rattle.qs_node_step.specs.State.{NodeValue, Work, change_server, here, with_queues}
-use Rattle.qs_node_step.specs.declared.setting.Setting.{Setting}
-use Rattle.qs_ops.specs.Server.{after_serving}
+use Rattle.qs_book_machine.specs.Book.{is_done}
+use Rattle.qs_book_machine.specs.Clauses.{note_text}
+use Rattle.qs_node_step.specs.State.{NodeValue}
 use Rattle.qs_tm.specs.Manager as tm
-use Rattle.qs_tm.specs.Members.{class_here, is_told_class}
 use Rattle.qs_tm.specs.Participant as participant
-use Rattle.qs_tm.specs.Participant.{awaits_note, has_noted, is_count, member_of, waiting_for}
-use Rattle.qs_tm.specs.declared.participant.Participant.{Participant}
-use Rattle.qs_world_lawful.specs.Beside.{HoldsNotes, awaits_count, has_issued, has_note_in, is_note_with}
-use Rattle.qs_world_lawful.specs.Entering.{book_at}
-use Rattle.qs_world_lawful.specs.Face.{at_server}
-use Rattle.qs_world_lawful.specs.Given.{AreNoted, MayReply, MayServe, replied}
-use Rattle.qs_world_lawful.specs.NodeFacts.{AreApart}
-use Rattle.qs_world_lawful.specs.Standing.{CanCount, Stands}
+use Rattle.qs_world_lawful.specs.Given.{MayReply, replied}
 use Rattle.qs_world_lawful.proofs.Faces.{part_changed, part_unknown}
 use Rattle.qs_world_lawful.proofs.GivenReplies.{awaits_some, replied_notes}
 use Rattle.qs_world_lawful.proofs.Growing.{book_now}

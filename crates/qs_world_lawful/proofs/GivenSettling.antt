@@ -1,33 +1,21 @@
 -- What settling a transaction is given, from what stands at each of its stages and from what the agreement protocol gives.
-use Rattle.std.proofs.Common.{length-append, ◌≡◌, ℕ, ◌==◌, ◌+◌, ◌<◌, ◌≤◌, Bool, true, false, List, [], ◌∷◌, ◌++◌, length, fold, suc, Option, Some, None, refl, sym, ap, subst, ◌∙◌, arith, nat_lt}
-use Rattle.std.proofs.lemmas.Bool.Decides.{nat_tests}
-use Rattle.std.specs.List.{list_any}
-use Rattle.std.specs.Prelude.{not, ◌&&◌, ◌||◌, slice_get, if◌then◌else◌}
-use Rattle.qs_base.specs.declared.identifiers.NodeNo.{NodeNo}
-use Rattle.qs_base.specs.declared.identifiers.Tid.{Tid}
-use Rattle.qs_engage.specs.Nodes.{all_nodes, has_node, is_no_node, listed, same_node, with_listed}
+use Rattle.qs_world_lawful.proofs.Words.{◌≡◌, ℕ, ◌==◌, ◌+◌, ◌<◌, ◌≤◌, Bool, true, false, List, [], ◌∷◌, ◌++◌, length, fold, suc, Option, Some, None, refl, sym, ap, subst, ◌∙◌, arith, nat_lt, nat_tests, list_any, not, ◌&&◌, ◌||◌, slice_get, if◌then◌else◌, NodeNo, Tid, is_no_node, listed, same_node, BookValue, find_transaction, TransactionValue, has_refusal, is_commit, is_unanimous, has_no_record, Cause, Work, is_forgotten, Participant, IsTrueCause, book_at, HoldsNode, HasCause, IsUncommitted}
+use Rattle.qs_world_lawful.proofs.Words.{MayCommit, MayDecide, MayPass, IsPart, locals_of, Stands, StandsBy, eqb-self, and_from, not-false, eqb-true}
+use Rattle.std.proofs.Common.{length-append}
+use Rattle.qs_engage.specs.Nodes.{all_nodes, has_node, with_listed}
 use Rattle.qs_engage.specs.declared.nodes.Nodes.{Nodes}
-use Rattle.qs_book_machine.specs.Book.{BookValue, find_transaction}
 use Rattle.qs_book_machine.specs.Nodes as machine
-use Rattle.qs_book_machine.specs.Transaction.{TransactionValue, has_refusal, is_commit, is_unanimous}
-use Rattle.qs_book_machine.specs.Clauses.{has_no_record, is_gone_cause}
-use Rattle.qs_ops.specs.declared.answer.Cause.{Cause}
+use Rattle.qs_book_machine.specs.Clauses.{is_gone_cause}
 use Rattle.qs_ops.specs.declared.answer.Cause.TheVariants as causes
-use Rattle.qs_node_step.specs.State.{NodeValue, Work}
+use Rattle.qs_node_step.specs.State.{NodeValue}
 use Rattle.qs_tm.specs.Manager as tm
 use Rattle.qs_tm.specs.Outcomes as outcome_rules
-use Rattle.qs_tm.specs.Participant.{is_forgotten}
-use Rattle.qs_tm.specs.declared.participant.Participant.{Participant}
 use Rattle.qs_world.specs.Openings.{is_audit}
 use Rattle.qs_world_lawful.specs.Agreed.{IsIdle, IsUndone}
-use Rattle.qs_world_lawful.specs.Beside.{IsTrueCause, is_committed_at, is_done}
-use Rattle.qs_world_lawful.specs.Entering.{book_at}
-use Rattle.qs_world_lawful.specs.Holds.{HoldsNode}
+use Rattle.qs_world_lawful.specs.Beside.{is_committed_at, is_done}
 use Rattle.qs_world_lawful.proofs.OnlyRead.{only_read_there}
-use Rattle.qs_world_lawful.proofs.Truths.{both_true, clash, left_true, node_is, number_is, not_false, not_true, of_some, right_true}
-use Rattle.qs_world_lawful.specs.Given.{HasCause, IsUncommitted, MayCommit, MayDecide, MayForget, MayPass}
-use Rattle.qs_world_lawful.specs.NodeFacts.{IsPart, locals_of}
-use Rattle.qs_world_lawful.specs.Standing.{Stands, StandsBy}
+use Rattle.qs_world_lawful.proofs.Truths.{clash, left_true, node_is, not_true, of_some, right_true}
+use Rattle.qs_world_lawful.specs.Given.{MayForget}
 
 -- the Commit's need stands between those of a Commit that names nobody and of one that names all nodes
 room_within : (x k l nodes need room ex kp : ℕ) → ex ≡ x → kp ≡ k → 1 ≤ l → l < nodes → 41 + x + (15 + l) + k ≡ need → nat_lt room (41 + x + (15 + l) + k) ≡ true
@@ -54,7 +42,7 @@ module _ (nodes : Nodes) where
       by false is q r = r is
 
 some_listed : (nodes : Nodes) → is_no_node nodes ≡ false → 1 ≤ length (listed nodes)
-some_listed nodes some = some_in nodes all_nodes [] (not_false (list_any (has_node nodes) all_nodes) some)
+some_listed nodes some = some_in nodes all_nodes [] (not-false (list_any (has_node nodes) all_nodes) some)
 
 module _ (stamp : ℕ) (before : BookValue) (size : ℕ) (nodes : ℕ → NodeValue) (n : ℕ) where
   -- what its home has not committed the machine has not
@@ -62,7 +50,7 @@ module _ (stamp : ℕ) (before : BookValue) (size : ℕ) (nodes : ℕ → NodeVa
   uncommitted work s tid undone tx found = by (is_commit tx.cell) refl
     where
       here_is : (tid.home.0 == n) ≡ true → tid.home ≡ work.node.setting.node
-      here_is e = node_is tid.home work.node.setting.node (number_is tid.home.0 n e ∙ sym s.at)
+      here_is e = node_is tid.home work.node.setting.node (eqb-true tid.home.0 n e ∙ sym s.at)
 
       node_now : (b : Bool) → (tid.home.0 == n) ≡ b → is_commit tx.cell ≡ true → is_committed_at (if b then work.node else nodes tid.home.0) tid ≡ true
       node_now true e is = ap (λ (b : Bool). b || tm.told_of tid false (λ part. is_done part.outcome) work.node.manager) (((s.beside.at tid).ended tx (here_is e) found).committed is)
@@ -79,7 +67,7 @@ module _ (stamp : ℕ) (before : BookValue) (size : ℕ) (nodes : ℕ → NodeVa
     is_part = s.facts.parts tid part known
 
     at_home : part.engage.home ≡ true → tid.home ≡ work.node.setting.node
-    at_home home = node_is tid.home work.node.setting.node (number_is tid.home.0 work.node.setting.node.0 (sym is_part.homed ∙ home))
+    at_home home = node_is tid.home work.node.setting.node (eqb-true tid.home.0 work.node.setting.node.0 (sym is_part.homed ∙ home))
 
     pub may_decide : part.engage.home ≡ true → part.outcome ≡ None → MayDecide stamp before work tid
     may_decide home unknown = record {
@@ -121,13 +109,10 @@ module _ (stamp : ℕ) (before : BookValue) (size : ℕ) (nodes : ℕ → NodeVa
 
     pub may_forget : part.engage.home ≡ false → is_forgotten part ≡ true → IsIdle part → MayForget stamp before work tid
     may_forget away forgotten idle = record {
-      away = λ e. clash (sym away ∙ ((s.by.facts.parts tid part known).homed ∙ ap (λ (k : NodeNo). same_node k work.node.setting.node) e ∙ itself work.node.setting.node.0));
+      away = λ e. clash (sym away ∙ ((s.by.facts.parts tid part known).homed ∙ ap (λ (k : NodeNo). same_node k work.node.setting.node) e ∙ eqb-self work.node.setting.node.0));
       once = s.by.facts.rising;
       read = λ tx found. only_read_there stamp before size nodes n work s tid part known tx found forgotten idle;
     }
-      where
-        itself : (k : ℕ) → (k == k) ≡ true
-        itself k = grind (arith, nat_tests)
 
     -- ---- committing: what is unanimous, and where its Commit finds no room the machine finds so
 
@@ -136,7 +121,7 @@ module _ (stamp : ℕ) (before : BookValue) (size : ℕ) (nodes : ℕ → NodeVa
 
     -- the Commit names at least one node, and not all
     room_cause : part.engage.home ≡ true → part.outcome ≡ None → IsAgreed → length (listed part.told) < work.node.setting.nodes → (need : ℕ) → tm.need_past tid work.room work.node.manager ≡ Some need → HasCause stamp before work tid (causes.Room need work.room)
-    room_cause home unknown agreed lacks_one need is state tx there found = both_true (is_unanimous tx && has_no_record state tid) _ (both_true (is_unanimous tx) (has_no_record state tid) (agreed tx found) unrecorded) (room_within work.node.manager.extra work.node.manager.keep (length (listed part.told)) (length (book_at stamp before work).nodes) need work.room (machine.extra_of state.format) (machine.keep_of state.format) same_extra same_keep named few lacks.1 short)
+    room_cause home unknown agreed lacks_one need is state tx there found = and_from (is_unanimous tx && has_no_record state tid) _ (and_from (is_unanimous tx) (has_no_record state tid) (agreed tx found) unrecorded) (room_within work.node.manager.extra work.node.manager.keep (length (listed part.told)) (length (book_at stamp before work).nodes) need work.room (machine.extra_of state.format) (machine.keep_of state.format) same_extra same_keep named few lacks.1 short)
       where
         sound : IsPart work.node.setting (locals_of work.node tid) tid part
         sound = s.by.facts.parts tid part known

@@ -1,22 +1,7 @@
 -- Each transaction is settled with what it is given, at each stage of the fold: by what stands there, and by what the protocol gives there.
-use Rattle.std.proofs.Common.{◌≡◌, ℕ, true, false, List, [], ◌∷◌, Some, None, subst, fold}
-use Rattle.std.specs.Prelude.{not, ◌&&◌}
-use Rattle.qs_base.specs.declared.identifiers.Tid.{Tid}
-use Rattle.qs_book_machine.specs.Book.{BookValue, find_transaction}
-use Rattle.qs_book_machine.specs.Transaction.{TransactionValue}
-use Rattle.qs_ops.specs.declared.answer.Cause.{Cause}
-use Rattle.qs_node_step.specs.Settling.{forget_rule, is_quiet, may_answer, pass_rule, ready_rule, refuse_rule, settle_tid, try}
-use Rattle.qs_node_step.specs.State.{NodeValue, Work, doings_of}
+use Rattle.qs_world_lawful.proofs.Words.{◌≡◌, ℕ, true, false, List, [], ◌∷◌, Some, None, subst, fold, not, ◌&&◌, Tid, BookValue, find_transaction, TransactionValue, Cause, forget_rule, is_quiet, may_answer, pass_rule, ready_rule, refuse_rule, settle_tid, try, Work, doings_of, is_forgotten, is_undecided, Participant, AgreementGives, IsTrueCause, HasCountRoom, HoldsWork, book_at, AtEach, HasCause, MayCommit, MayDecide, MaySettle, Every, KeepsStanding, Stands}
+use Rattle.qs_node_step.specs.State.{NodeValue}
 use Rattle.qs_tm.specs.Manager as tm
-use Rattle.qs_tm.specs.Participant.{is_forgotten, is_undecided}
-use Rattle.qs_tm.specs.declared.participant.Participant.{Participant}
-use Rattle.qs_world_lawful.specs.Agreed.{AgreementGives}
-use Rattle.qs_world_lawful.specs.Beside.{IsTrueCause}
-use Rattle.qs_world_lawful.specs.BesideStep.{HasCountRoom}
-use Rattle.qs_world_lawful.specs.Entering.{HoldsWork, book_at}
-use Rattle.qs_world_lawful.specs.Given.{AtEach, HasCause, MayCommit, MayDecide, MaySettle}
-use Rattle.qs_world_lawful.specs.Logs.{Every}
-use Rattle.qs_world_lawful.specs.Standing.{KeepsStanding, Stands}
 use Rattle.qs_world_lawful.proofs.GivenSettling.{has_cause, may_commit, may_decide, may_forget, may_pass}
 use Rattle.qs_world_lawful.proofs.LearningAll.{stands}
 use Rattle.qs_world_lawful.proofs.PassingAll.{by_pass_rule}

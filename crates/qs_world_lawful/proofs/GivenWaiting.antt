@@ -1,42 +1,17 @@
 -- What a client's command is given, as it comes and while it waits: what a client here owns runs here, what is lent here is known and not
 -- committed, and a request fits the run.
-use Rattle.std.proofs.Common.{◌≡◌, ℕ, ◌==◌, Bool, true, false, List, [], ◌∷◌, Option, Some, None, refl, sym, ap, subst, ◌∙◌, arith, nat_lt}
-use Rattle.std.proofs.lemmas.Bool.Decides.{nat_tests}
-use Rattle.std.specs.BTreeMap.{is_at}
-use Rattle.std.specs.List.{list_any}
-use Rattle.std.specs.Map.{lookup}
-use Rattle.std.specs.Prelude.{not, ◌||◌, is_some, if◌then◌else◌}
-use Rattle.qs_base.proofs.Same.{same_tid-true, same_tid-self}
-use Rattle.qs_base.specs.Order.{same_tid}
-use Rattle.qs_base.specs.declared.identifiers.ClientNo.{ClientNo}
-use Rattle.qs_base.specs.declared.identifiers.Member.{Member}
-use Rattle.qs_base.specs.declared.identifiers.NodeNo.{NodeNo}
-use Rattle.qs_base.specs.declared.identifiers.Tid.{Tid}
-use Rattle.qs_engage.specs.Nodes.{same_node}
+use Rattle.qs_world_lawful.proofs.Words.{◌≡◌, ℕ, ◌==◌, Bool, true, false, List, [], ◌∷◌, Option, Some, None, refl, sym, ap, subst, ◌∙◌, arith, nat_lt, nat_tests, is_at, list_any, lookup, not, ◌||◌, is_some, if◌then◌else◌, same_tid-true, same_tid-self, same_tid, ClientNo, Member, NodeNo, Tid, same_node, ScriptLine, last_taken, Begun, Lent, BookValue, Op, kept_outcome, is_aborted, label_at, is_lent, Work, client_cmp, OpenCommand, Participant, ComesLine, book_at, MayRequest, MayWait, IsCommand}
+use Rattle.qs_world_lawful.proofs.Words.{IsRunning, StandsBy, eqb-self}
 use Rattle.qs_ipc.specs.Queue.{is_for}
-use Rattle.qs_book_journal.specs.declared.script_line.ScriptLine.{ScriptLine}
-use Rattle.qs_node_kept.specs.Loans.{is_loan_of, is_standing_loan, is_taken, last_taken}
-use Rattle.qs_node_kept.specs.declared.kept.KeptLabel.{KeptLabel}
-use Rattle.qs_node_kept.specs.declared.kept.Lent.{Lent}
-use Rattle.qs_book_machine.specs.Book.{BookValue}
-use Rattle.qs_ops.specs.declared.operation.Op.{Op}
-use Rattle.qs_node_step.specs.Answering.{kept_outcome}
-use Rattle.qs_node_step.specs.Borrowing.{is_aborted}
-use Rattle.qs_node_step.specs.Serving.{label_at}
-use Rattle.qs_node_step.specs.Settling.{is_lent}
-use Rattle.qs_node_step.specs.State.{NodeValue, Work, client_cmp}
-use Rattle.qs_node_step.specs.declared.state.OpenCommand.{OpenCommand}
+use Rattle.qs_node_kept.specs.Loans.{is_loan_of, is_standing_loan, is_taken}
+use Rattle.qs_node_step.specs.State.{NodeValue}
 use Rattle.qs_tm.specs.Manager as tm
-use Rattle.qs_tm.specs.declared.participant.Participant.{Participant}
 use Rattle.qs_world_lawful.specs.Agreed.{AreLentUndone}
-use Rattle.qs_world_lawful.specs.Coming.{ComesLine}
-use Rattle.qs_world_lawful.specs.Entering.{book_at}
-use Rattle.qs_world_lawful.specs.GivenStep.{IsLentHere, IsLentTo, IsUndecidedOfNow, MayCommand, MayRequest, MayWait}
-use Rattle.qs_world_lawful.specs.NodeFacts.{IsCommand, IsRunning}
-use Rattle.qs_world_lawful.specs.Standing.{StandsBy}
+use Rattle.qs_world_lawful.specs.GivenStep.{IsLentHere, IsLentTo, IsUndecidedOfNow, MayCommand}
 use Rattle.qs_world_lawful.proofs.FactsLabelled.{command_in}
 use Rattle.qs_world_lawful.proofs.GivenSettling.{uncommitted}
 use Rattle.qs_world_lawful.proofs.Truths.{left_true, of_some, right_true}
+use Rattle.qs_base_lemmas.proofs.Tests.{not_implied}
 
 -- ---- loans
 
@@ -60,14 +35,11 @@ taken_in client tid test loan (x ∷ xs) found is = by (last_taken client tid xs
 module _ (stamp : ℕ) (before : BookValue) (size : ℕ) (nodes : ℕ → NodeValue) (n : ℕ) (work : Work) (s : StandsBy stamp before size nodes n work) where
   -- ---- what is owned here
 
-  owned_now : (label : List ℕ) (begun : KeptLabel) (tid : Tid) (client : ClientNo) → label_at label work.node ≡ Some begun → begun.tid ≡ Some tid → begun.owner ≡ Some client → IsUndecidedOfNow work tid
+  owned_now : (label : List ℕ) (begun : Begun) (tid : Tid) (client : ClientNo) → label_at label work.node ≡ Some begun → begun.tid ≡ Some tid → begun.owner ≡ Some client → IsUndecidedOfNow work tid
   owned_now label begun tid client known of owned part there undecided = (s.facts.parts tid part there).began at_home undecided
     where
-      itself : (k : ℕ) → (k == k) ≡ true
-      itself k = grind (arith, nat_tests)
-
       at_home : part.engage.home ≡ true
-      at_home = (s.facts.parts tid part there).homed ∙ (ap (λ (k : NodeNo). same_node k work.node.setting.node) (s.facts.labels.homed label begun tid client known of owned) ∙ itself work.node.setting.node.0)
+      at_home = (s.facts.parts tid part there).homed ∙ (ap (λ (k : NodeNo). same_node k work.node.setting.node) (s.facts.labels.homed label begun tid client known of owned) ∙ eqb-self work.node.setting.node.0)
 
   -- ---- what is lent here
 
@@ -78,11 +50,7 @@ module _ (stamp : ℕ) (before : BookValue) (size : ℕ) (nodes : ℕ → NodeVa
       valid = lent.valid
 
       now : (lent.loan.inc == work.node.setting.inc) ≡ true
-      now = first (lent.loan.inc == work.node.setting.inc) (is_aborted tid work.node) valid
-        where
-          first : (a b : Bool) → (not a || b) ≡ false → a ≡ true
-          first true b is = refl
-          first false b is = absurd (cc is)
+      now = not_implied (lent.loan.inc == work.node.setting.inc) (is_aborted tid work.node) valid
 
       its : (list_any (is_standing_loan lent.loan.tid work.node.setting.inc) work.node.kept.now.loans ≡ true) × (same_tid lent.loan.tid tid ≡ true)
       its = taken_in client tid (is_standing_loan lent.loan.tid work.node.setting.inc) lent.loan work.node.kept.now.loans lent.taken (rw (same_tid-self lent.loan.tid, lent.stands, now) refl)
@@ -131,5 +99,5 @@ module _ (stamp : ℕ) (before : BookValue) (size : ℕ) (nodes : ℕ → NodeVa
     lent = λ begun tid member op known of other is lent. lent_here line.client tid undone lent;
   }
     where
-      running_now : (begun : KeptLabel) (tid : Tid) → label_at line.label work.node ≡ Some begun → begun.tid ≡ Some tid → begun.owner ≡ Some line.client → kept_outcome tid work.node ≡ None → tid.inc ≡ work.node.setting.inc
+      running_now : (begun : Begun) (tid : Tid) → label_at line.label work.node ≡ Some begun → begun.tid ≡ Some tid → begun.owner ≡ Some line.client → kept_outcome tid work.node ≡ None → tid.inc ≡ work.node.setting.inc
       running_now begun tid known of owned kept = let r : IsRunning work.node.manager tid = s.facts.labels.runs line.label begun tid line.client known of owned kept in owned_now line.label begun tid line.client known of owned r.part r.known r.undecided

@@ -1,27 +1,10 @@
 -- A whole step is given what it needs, from what stands as its event comes and from what the agreement protocol gives at each stage.
-use Rattle.std.proofs.Common.{◌≡◌, ℕ, true, List, [], ◌∷◌, refl, map, nat_lt}
-use Rattle.qs_base.specs.declared.identifiers.ClientNo.{ClientNo}
-use Rattle.qs_base.specs.declared.identifiers.ServerNo.{ServerNo}
-use Rattle.qs_base.specs.declared.identifiers.Tid.{Tid}
+use Rattle.qs_world_lawful.proofs.Words.{◌≡◌, ℕ, true, List, [], ◌∷◌, refl, map, nat_lt, ClientNo, ServerNo, Tid, BookValue, serve_next, due_tids, settle, settle_tid, Work, wait_on, waiting_clients, Event, OpenCommand, AgreementGives, HasCountRoom, ComesTo, HoldsWork, book_at, AtEach, MayServe, MaySettle, MayStep, MayWait, done_work, first_work, Every, IsCommand, CanCount, Stands, StepStands}
 use Rattle.qs_ipc.specs.Ipc as ipc
-use Rattle.qs_book_machine.specs.Book.{BookValue}
-use Rattle.qs_node_step.specs.Serving.{serve_next}
-use Rattle.qs_node_step.specs.Settling.{due_tids, settle, settle_tid}
-use Rattle.qs_node_step.specs.State.{NodeValue, Work}
-use Rattle.qs_node_step.specs.Step.{wait_on, waiting_clients}
-use Rattle.qs_node_step.specs.declared.event.Event.{Event}
+use Rattle.qs_node_step.specs.State.{NodeValue}
 use Rattle.qs_node_step.specs.declared.event.Event.TheVariants as events
-use Rattle.qs_node_step.specs.declared.state.OpenCommand.{OpenCommand}
-use Rattle.qs_world_lawful.specs.Agreed.{AgreementGives, AgreesEvent, AreLentUndone}
-use Rattle.qs_world_lawful.specs.BesideStep.{HasCountRoom}
-use Rattle.qs_world_lawful.specs.Coming.{ComesTo}
-use Rattle.qs_world_lawful.specs.Entering.{HoldsWork, book_at}
-use Rattle.qs_world_lawful.specs.Given.{AtEach, MayServe, MaySettle}
-use Rattle.qs_world_lawful.specs.GivenStep.{MayHappen, MayStep, MayWait, done_work, first_work}
-use Rattle.qs_world_lawful.specs.Logs.{Every}
-use Rattle.qs_world_lawful.specs.NodeFacts.{IsCommand}
-use Rattle.qs_world_lawful.specs.Standing.{CanCount, Stands}
-use Rattle.qs_world_lawful.specs.StepStands.{StepStands}
+use Rattle.qs_world_lawful.specs.Agreed.{AgreesEvent, AreLentUndone}
+use Rattle.qs_world_lawful.specs.GivenStep.{MayHappen}
 use Rattle.qs_world_lawful.proofs.CommandCame.{by_waits}
 use Rattle.qs_world_lawful.proofs.GivenComing.{may_come}
 use Rattle.qs_world_lawful.proofs.GivenServing.{may_serve}

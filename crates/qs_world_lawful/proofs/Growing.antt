@@ -1,13 +1,5 @@
 -- The history of a step grows by an entry, or by none.
-use Rattle.std.proofs.Common.{◌≡◌, ℕ, List, [], ◌∷◌, ◌++◌, None, refl, sym, ap, subst, ◌∙◌}
-use Rattle.qs_book_journal.specs.declared.entry.Act.{Act}
-use Rattle.qs_book_journal.specs.declared.entry.Entry.{Entry}
-use Rattle.qs_book_machine.specs.Book.{BookValue}
-use Rattle.qs_book_machine.specs.Lawful.{IsLawful, book_after, broken, effect}
-use Rattle.qs_world.specs.Posting.{entry_of, entries_of}
-use Rattle.qs_node_step.specs.State.{Work, here}
-use Rattle.qs_world_lawful.specs.Holds.{Holds}
-use Rattle.qs_world_lawful.specs.Entering.{entries_so_far, HoldsWork, book_at}
+use Rattle.qs_world_lawful.proofs.Words.{◌≡◌, ℕ, List, [], ◌∷◌, ◌++◌, None, refl, sym, ap, subst, ◌∙◌, Act, Entry, BookValue, IsLawful, book_after, broken, effect, entry_of, entries_of, Work, here, Holds, entries_so_far, HoldsWork, book_at}
 
 map_more : (n stamp : ℕ) (acts : List Act) (act : Act) → entries_of n stamp (acts ++ act ∷ []) ≡ entries_of n stamp acts ++ entry_of n stamp act ∷ []
 map_more n stamp [] act = refl

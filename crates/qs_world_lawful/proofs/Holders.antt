@@ -1,23 +1,9 @@
 -- Who keeps a transaction from an operation at files, by the machine's table: the same, or one that is crossed and holds something.
-use Rattle.std.proofs.Common.{◌≡◌, ◌⊎◌, inl, inr, ℕ, Less, Equal, Greater, Bool, true, false, List, [], ◌∷◌, Option, Some, None, refl, sym, ap, subst, ◌∙◌, fold}
-use Rattle.std.specs.Prelude.{not, ◌&&◌, unwrap_or}
-use Rattle.std.specs.List.{filter, list_any}
-use Rattle.std.specs.Map.{lookup}
-use Rattle.std.specs.BTreeMap.{is_at}
-use Rattle.qs_base.specs.Order.{tid_cmp, same_bytes, same_tid}
-use Rattle.std.specs.declared.cmp.Ordering.{Ordering}
-use Rattle.qs_base.specs.declared.identifiers.Tid.{Tid}
-use Rattle.qs_book_laws.proofs.Alikes.{at_exact, tid_itself}
-use Rattle.qs_book_laws.proofs.Rising.{IsRising, IsBelow}
-use Rattle.qs_book_machine.specs.Clauses.{takes_lock}
+use Rattle.qs_world_lawful.proofs.Words.{◌≡◌, ◌⊎◌, inl, inr, ℕ, Less, Equal, Greater, Bool, true, false, List, [], ◌∷◌, Option, Some, None, refl, sym, ap, subst, ◌∙◌, fold, not, ◌&&◌, unwrap_or, filter, list_any, lookup, is_at, tid_cmp, same_tid, Ordering, Tid, at_exact, tid_itself, IsRising, IsBelow, takes_lock, TableValue, share_of, nothing_held, holder, is_change_of, apply_change, apply_note, File, Op, Put, Append, Del, Get, Listing, Note, Notes, Bind, Find, Window, Title, Keep, Fetch, Share}
+use Rattle.qs_world_lawful.proofs.Words.{HoldsTable, of_seen, is_idle, false≢true, and_false}
+use Rattle.qs_base.specs.Order.{same_bytes}
 use Rattle.qs_ops.specs.Files.{or_else}
-use Rattle.qs_ops.specs.Table.{TableValue, share_of, nothing_held, least_other, holder_of_name, holder, is_change_of, changes_name, reads_name, free_reply, view_contents, view_notes, apply_change, apply_note}
-use Rattle.qs_ops.specs.declared.file.File.{File}
-use Rattle.qs_ops.specs.declared.operation.Op.{Op}
-use Rattle.qs_ops.specs.declared.operation.Op.TheVariants.{Put, Append, Del, Get, Listing, Note, Notes, Bind, Find, Window, Title, Keep, Fetch}
-use Rattle.qs_ops.specs.declared.share.Share.{Share}
-use Rattle.qs_world_lawful.specs.Tables.{HoldsTable, of_seen}
-use Rattle.qs_world_lawful.specs.Waits.{is_idle}
+use Rattle.qs_ops.specs.Table.{least_other, holder_of_name, changes_name, reads_name, free_reply, view_contents, view_notes}
 use Rattle.qs_world_lawful.proofs.Tables.{own_share}
 
 abbrev is_at_equal : Ordering → Bool
@@ -30,15 +16,12 @@ behind : (k t : Tid) (s : Share) (xs : List (Tid × Share)) → IsBelow tid_cmp 
 behind k t s [] below found at = absurd (cc found)
 behind k t s (x ∷ xs) below found at = by (is_at (tid_cmp t) x.0) refl (behind k t s xs below.1)
   where
-    clash : false ≡ true → ⊥
-    clash c = cc c
-
     by : (b : Bool) → is_at (tid_cmp t) x.0 ≡ b → (lookup (is_at (tid_cmp t)) xs ≡ Some s → is_at (tid_cmp t) k ≡ true → ⊥) → ⊥
     by false is more = more (rw is at found) at
     by true is more =
         let same_key : k ≡ x.0 = sym (at_exact t k at) ∙ at_exact t x.0 is in
         let less : tid_cmp k x.0 ≡ Less = below.0 in
-        clash (sym (ap is_at_equal less) ∙ subst (λ (u : Tid). is_at_equal (tid_cmp k u) ≡ true) same_key (ap is_at_equal (tid_itself k)))
+        false≢true (sym (ap is_at_equal less) ∙ subst (λ (u : Tid). is_at_equal (tid_cmp k u) ≡ true) same_key (ap is_at_equal (tid_itself k)))
 
 -- ---- the least other that holds something
 
@@ -108,10 +91,6 @@ not_idle name share (inl is) = by share.changes refl is
     by (x ∷ xs) so e = rw so refl
 not_idle name share (inr is) = by share.reads refl is
   where
-    and_false : (b : Bool) → (b && false) ≡ false
-    and_false true = refl
-    and_false false = refl
-
     by : (xs : List (List ℕ)) → share.reads ≡ xs → list_any (same_bytes name) xs ≡ true → is_idle share ≡ false
     by [] so e = absurd (cc e)
     by (x ∷ xs) so e = rw so (and_false _)

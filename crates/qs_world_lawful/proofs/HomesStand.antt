@@ -1,37 +1,19 @@
 -- What a node enters decides no transaction that began at another node: so what the machine has committed, the other homes have.
-use Rattle.std.proofs.Common.{◌≡◌, ℕ, ◌==◌, Bool, true, false, List, [], ◌∷◌, fold, Option, Some, None, refl, sym, ap, ◌∙◌}
-use Rattle.std.specs.BTreeMap.{is_at}
-use Rattle.std.specs.Option.{option_map}
-use Rattle.std.specs.Prelude.{is_some, slice_get, if◌then◌else◌}
-use Rattle.qs_base.specs.Order.{tid_cmp}
-use Rattle.qs_base.proofs.TidOrder.{tid_exact}
-use Rattle.qs_base.specs.declared.identifiers.ClientNo.{ClientNo}
-use Rattle.qs_base.specs.declared.identifiers.Outcome.{Outcome}
+use Rattle.qs_world_lawful.proofs.Words.{◌≡◌, ℕ, ◌==◌, Bool, true, false, List, [], ◌∷◌, fold, Option, Some, None, refl, sym, ap, ◌∙◌, is_at, option_map, is_some, slice_get, if◌then◌else◌, tid_cmp, tid_exact, ClientNo, Outcome, Tid, Act, Found, Alike, face, changed_apart, lookup_put_apart, next_is, begin_may, held, Cause, BookValue, begin, find_transaction, inc_at, with_transaction, broken_decide, may_decide, IsLawful, book_after, broken, broken_act, broken_at, broken_node, effect, effect_act}
+use Rattle.qs_world_lawful.proofs.Words.{abort_begun, begun_at, begun_tid, commit_found, count_of, is_among, is_open_here, learn_found, member_at, put_new_votes, record_at, restart, up_to, vote_found, TransactionValue, found_at, is_commit, is_open, with_learnt, Work, entries_of, entry_of, book_at, entries_so_far, HoldsHomes}
 use Rattle.qs_base.specs.declared.identifiers.Outcome.TheVariants as outcomes
-use Rattle.qs_base.specs.declared.identifiers.Tid.{Tid}
-use Rattle.qs_book_journal.specs.declared.entry.Act.{Act}
 use Rattle.qs_book_journal.specs.declared.entry.Act.TheVariants as acts
-use Rattle.qs_book_journal.specs.declared.entry.Found.{Found}
 use Rattle.qs_book_laws.proofs.Acts as of
-use Rattle.qs_book_laws.proofs.Faces.{Alike, Face, face, face_at, transaction_alike}
-use Rattle.qs_book_laws.proofs.Maps.{changed_apart, lookup_put_apart}
-use Rattle.qs_book_laws.proofs.Outcomes.{next_is}
-use Rattle.qs_book_laws.proofs.Steps.{begin_may, held}
+use Rattle.qs_book_laws.proofs.Faces.{Face, face_at, transaction_alike}
 use Rattle.qs_ops.specs.Servers.{audit_no, extra_no, files_no}
-use Rattle.qs_ops.specs.declared.answer.Cause.{Cause}
 use Rattle.qs_ops.specs.declared.answer.Cause.TheVariants as causes
-use Rattle.qs_book_machine.specs.Book.{BookValue, begin, decide, find_transaction, inc_at, with_transaction}
-use Rattle.qs_book_machine.specs.Clauses.{broken_decide, broken_outcome, may_decide}
-use Rattle.qs_book_machine.specs.Lawful.{IsLawful, book_after, broken, broken_act, broken_at, broken_node, effect, effect_act, is_in_order}
+use Rattle.qs_book_machine.specs.Book.{decide}
+use Rattle.qs_book_machine.specs.Clauses.{broken_outcome}
+use Rattle.qs_book_machine.specs.Lawful.{is_in_order}
 use Rattle.qs_book_machine.specs.Nodes.{NodeValue}
-use Rattle.qs_book_machine.specs.Restart.{abort_begun, begun_at, begun_tid, commit_found, count_of, is_among, is_open_here, learn_found, member_at, put_new_votes, record_at, restart, restart_found, up_to, vote_found}
-use Rattle.qs_book_machine.specs.Transaction.{TransactionValue, found_at, is_commit, is_open, with_learnt}
+use Rattle.qs_book_machine.specs.Restart.{restart_found}
 use Rattle.qs_node_step.specs.State as state
-use Rattle.qs_node_step.specs.State.{Work}
-use Rattle.qs_world.specs.Posting.{entries_of, entry_of}
 use Rattle.qs_world_lawful.specs.Beside.{is_committed_at}
-use Rattle.qs_world_lawful.specs.Entering.{book_at, entries_so_far}
-use Rattle.qs_world_lawful.specs.Standing.{HoldsHomes}
 use Rattle.qs_world_lawful.proofs.Apart.{Apart, apart}
 use Rattle.qs_world_lawful.proofs.Truths.{clash, left_true, of_some, same_self}
 

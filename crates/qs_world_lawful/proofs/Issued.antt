@@ -1,30 +1,12 @@
 -- A request that is issued to a server of the node itself leaves what is held of its transaction.
-use Rattle.std.proofs.Common.{◌≡◌, ◌≢◌, ◌⊎◌, inl, inr, ℕ, ◌+◌, ◌==◌, ◌≤◌, Bool, true, false, List, [], ◌∷◌, ◌++◌, Option, Some, None, suc, refl, sym, ap, subst, ◌∙◌, arith, length}
-use Rattle.std.proofs.lemmas.Bool.Decides.{nat_tests}
-use Rattle.std.specs.Prelude.{unwrap_or, ◌&&◌}
-use Rattle.std.specs.List.{filter, list_any}
-use Rattle.std.specs.BTreeMap.{is_at}
-use Rattle.qs_base.specs.declared.identifiers.Member.{Member}
-use Rattle.qs_base.specs.declared.identifiers.NodeNo.{NodeNo}
-use Rattle.qs_base.specs.declared.identifiers.ServerNo.{ServerNo}
-use Rattle.qs_base.specs.declared.identifiers.Tid.{Tid}
-use Rattle.qs_base.proofs.Same.{same_member-self}
-use Rattle.qs_ipc.specs.declared.delivery.Delivery.{Delivery}
-use Rattle.qs_book_laws.proofs.Maps.{lookup_put, lookup_put_apart}
-use Rattle.qs_book_machine.specs.Transaction.{TransactionValue, issued, sent_in, sent_on, sent_more, request_cmp, link_cmp, requests_at, is_standing}
-use Rattle.qs_book_machine.specs.declared.transaction.Link.{Link}
-use Rattle.qs_book_machine.specs.declared.transaction.Request.{Request}
-use Rattle.qs_book_machine.specs.declared.transaction.RequestNo.{RequestNo}
-use Rattle.qs_book_machine.specs.declared.transaction.Sent.{Sent}
+use Rattle.qs_world_lawful.proofs.Words.{◌≡◌, ◌≢◌, ◌⊎◌, inl, inr, ℕ, ◌+◌, ◌==◌, ◌≤◌, Bool, true, false, List, [], ◌∷◌, ◌++◌, Option, Some, None, suc, refl, sym, ap, subst, ◌∙◌, arith, length, le_refl, nat_tests, unwrap_or, filter, list_any, is_at, Member, NodeNo, ServerNo, Tid, same_member-self, Delivery, lookup_put, lookup_put_apart, TransactionValue, issued, sent_in, sent_on, sent_more, request_cmp, link_cmp, requests_at, is_standing, Link, Request, RequestNo, Sent, awaits_note, has_noted}
+use Rattle.qs_world_lawful.proofs.Words.{MemberPart, Outstanding, Participant, at_server, HoldsMember, HoldsHome, HoldsTid, some_same, le_le, le_suc, and_parts, eqb-true, eq-eqb}
 use Rattle.qs_tm.specs.Participant as participant
-use Rattle.qs_tm.specs.Participant.{awaits_note, has_noted, is_by_files}
-use Rattle.qs_tm.specs.declared.members.MemberPart.{MemberPart}
-use Rattle.qs_tm.specs.declared.participant.Outstanding.{Outstanding}
-use Rattle.qs_tm.specs.declared.participant.Participant.{Participant}
-use Rattle.qs_world_lawful.specs.Face.{Face, at_server, is_numbered}
-use Rattle.qs_world_lawful.specs.Holds.{HoldsMember, HoldsHome, HoldsTid}
+use Rattle.qs_tm.specs.Participant.{is_by_files}
+use Rattle.qs_world_lawful.specs.Face.{Face, is_numbered}
 use Rattle.qs_world_lawful.proofs.Faces.{filter_last, filter_more}
 use Rattle.qs_world_lawful.proofs.Keys.{KeyApart, same_key_or, link_exact, link_itself, request_exact, request_itself}
+use Rattle.qs_base_lemmas.proofs.Tests.{equal_apart}
 
 -- ---- numbers
 
@@ -34,17 +16,11 @@ numbered_as a b n = record { link = record { from = a; to = b }; number = n }
 pub sent_again : (inc : ℕ) (request : Request) (o : Option Sent) → request.inc ≡ inc → sent_in inc (Some (sent_more request o)) ≡ sent_in inc o + 1
 sent_again inc request None same = by (request.inc == inc) refl
   where
-    itself : (a b : ℕ) → a ≡ b → (a == b) ≡ false → ⊥
-    itself a b e is = grind (arith, nat_tests, e, is)
-
     by : (b : Bool) → (request.inc == inc) ≡ b → sent_in inc (Some (sent_more request None)) ≡ sent_in inc None + 1
     by true is = rw is refl
-    by false is = absurd (itself request.inc inc same is)
+    by false is = absurd (equal_apart request.inc inc same is)
 sent_again inc request (Some sent) same = by (sent.inc == request.inc) refl
   where
-    itself : (a b : ℕ) → a ≡ b → (a == b) ≡ true
-    itself a b e = grind (arith, nat_tests, e)
-
     moved : (a b c : ℕ) → b ≡ c → (a == b) ≡ true → (a == c) ≡ true
     moved a b c e is = grind (arith, nat_tests, e, is)
 
@@ -53,7 +29,7 @@ sent_again inc request (Some sent) same = by (sent.inc == request.inc) refl
 
     by : (b : Bool) → (sent.inc == request.inc) ≡ b → sent_in inc (Some (sent_more request (Some sent))) ≡ sent_in inc (Some sent) + 1
     by true is = rw (is, moved sent.inc request.inc inc same is) refl
-    by false is = rw (is, itself request.inc inc same, other sent.inc request.inc inc same is) refl
+    by false is = rw (is, eq-eqb request.inc inc same, other sent.inc request.inc inc same is) refl
 
 -- ---- what stands
 
@@ -64,18 +40,12 @@ length_more (y ∷ ys) x = ap suc (length_more ys x)
 rise : (a b : ℕ) → a ≤ b → suc a ≤ suc b
 rise a b h = grind (arith, h)
 
-weaker : (a b : ℕ) → a ≤ b → a ≤ suc b
-weaker a b h = grind (arith, h)
-
 count_more : {A : Type 0} (p : A → Bool) (xs : List A) (x : A) → length (filter p xs) ≤ length (filter p (xs ++ x ∷ []))
 count_more p xs x = by (p x) refl
   where
-    itself : (n : ℕ) → n ≤ n
-    itself n = grind arith
-
     by : (b : Bool) → p x ≡ b → length (filter p xs) ≤ length (filter p (xs ++ x ∷ []))
-    by true is = rw (filter_last p xs x is, length_more (filter p xs) x) (weaker _ _ (itself (length (filter p xs))))
-    by false is = rw (filter_more p xs x is) (itself (length (filter p xs)))
+    by true is = rw (filter_last p xs x is, length_more (filter p xs) x) (le_suc _ _ (le_refl (length (filter p xs))))
+    by false is = rw (filter_more p xs x is) (le_refl (length (filter p xs)))
 
 pub any_more : {A : Type 0} (p : A → Bool) (xs : List A) (x : A) → list_any p xs ≡ true → list_any p (xs ++ x ∷ []) ≡ true
 any_more p [] x h = absurd (cc h)
@@ -118,13 +88,10 @@ module _ (here : NodeNo) (inc number peer_inc place : ℕ) (request : Request) (
   stand_on : (member : Member) (other : RequestNo) → length (filter (is_standing member) (requests_at tx other)) ≤ length (filter (is_standing member) (requests_at now other))
   stand_on member other = by (same_key_or request_cmp request_exact request_itself at other)
     where
-      itself : (n : ℕ) → n ≤ n
-      itself n = grind arith
-
       by : (at ≡ other) ⊎ KeyApart request_cmp request_exact request_itself at other → length (filter (is_standing member) (requests_at tx other)) ≤ length (filter (is_standing member) (requests_at now other))
       by (inl same) = subst (λ (k : RequestNo). length (filter (is_standing member) (requests_at tx k)) ≤ length (filter (is_standing member) (requests_at now k))) same
           (rw requests_here (count_more (is_standing member) (requests_at tx at) request))
-      by (inr far) = rw (requests_apart other far) (itself _)
+      by (inr far) = rw (requests_apart other far) (le_refl _)
 
   -- and of its own one more
   module _ (unserved : request.served ≡ false) (delivery : Delivery) (from : delivery.from ≡ here) (numbered : delivery.number ≡ number) where
@@ -138,18 +105,10 @@ module _ (here : NodeNo) (inc number peer_inc place : ℕ) (request : Request) (
 
     pub key_is : (other : RequestNo) → other.link.to ≡ here → is_numbered other delivery ≡ true → at ≡ other
     key_is other near is =
-        let parts = both (delivery.from.0 == other.link.from.0) (delivery.number == other.number) is in
+        let parts = and_parts (delivery.from.0 == other.link.from.0) (delivery.number == other.number) is in
         made here other.link.from request.member.node other.link.to number other.number
-        (node_is here other.link.from (ap (λ (n : NodeNo). n.0) (sym from) ∙ number_is delivery.from.0 other.link.from.0 parts.0)) (at_here ∙ sym near) (sym numbered ∙ number_is delivery.number other.number parts.1)
+        (node_is here other.link.from (ap (λ (n : NodeNo). n.0) (sym from) ∙ eqb-true delivery.from.0 other.link.from.0 parts.0)) (at_here ∙ sym near) (sym numbered ∙ eqb-true delivery.number other.number parts.1)
       where
-        both : (a b : Bool) → (a && b) ≡ true → (a ≡ true) × (b ≡ true)
-        both true true e = (refl, refl)
-        both true false e = absurd (cc e)
-        both false b e = absurd (cc e)
-
-        number_is : (a b : ℕ) → (a == b) ≡ true → a ≡ b
-        number_is a b e = grind (arith, nat_tests, e)
-
         node_is : (m n : NodeNo) → m.0 ≡ n.0 → m ≡ n
         node_is m n e = ap (λ (k : ℕ). record { 0 = k }) e
 
@@ -160,15 +119,12 @@ module _ (here : NodeNo) (inc number peer_inc place : ℕ) (request : Request) (
         → length (filter (is_numbered other) (waiting ++ delivery ∷ [])) ≤ length (filter (is_standing request.member) (requests_at now other))
     queued_more waiting other near h = by (is_numbered other delivery) refl
       where
-        less : (a b c : ℕ) → a ≤ b → b ≤ c → a ≤ c
-        less a b c p q = grind (arith, p, q)
-
         by : (b : Bool) → is_numbered other delivery ≡ b → length (filter (is_numbered other) (waiting ++ delivery ∷ [])) ≤ length (filter (is_standing request.member) (requests_at now other))
         by true is =
             rw (filter_last (is_numbered other) waiting delivery is, length_more (filter (is_numbered other) waiting) delivery)
             (subst (λ (k : RequestNo). length (filter (is_numbered k) waiting) ≤ length (filter (is_standing request.member) (requests_at tx k)) → suc (length (filter (is_numbered k) waiting)) ≤ length (filter (is_standing request.member) (requests_at now k))) (key_is other near is)
             (λ bound. rw stands_more (rise _ _ bound)) h)
-        by false is = rw (filter_more (is_numbered other) waiting delivery is) (less _ _ _ h (stand_on request.member other))
+        by false is = rw (filter_more (is_numbered other) waiting delivery is) (le_le _ _ _ h (stand_on request.member other))
 
     -- ---- all of it
 
@@ -182,21 +138,15 @@ module _ (here : NodeNo) (inc number peer_inc place : ℕ) (request : Request) (
       issued_home : HoldsHome tx (Some part) → HoldsHome now (Some (participant.issued outstanding part))
       issued_home k = record {
         runs = λ is. refl;
-        undecided = λ p same unknown. k.undecided part refl (ap (λ q. q.outcome) (of_some same) ∙ unknown);
-        asked = λ p same still. k.asked part refl still ∙ ap (λ q. q.asked) (of_some same);
+        undecided = λ p same unknown. k.undecided part refl (ap (λ q. q.outcome) (some_same same) ∙ unknown);
+        asked = λ p same still. k.asked part refl still ∙ ap (λ q. q.asked) (some_same same);
       }
-        where
-          of_some : {X : Type 0} {x y : X} → Some x ≡ Some y → x ≡ y
-          of_some e = cc e
 
       -- an own request at an own server
       queued_on : ((server : ServerNo) (other : RequestNo) → other.link.to ≡ here → length (filter (is_numbered other) (face.waiting server)) ≤ length (filter (is_standing (at_server here server)) (requests_at tx other)))
           → (server : ServerNo) (other : RequestNo) → other.link.to ≡ here → length (filter (is_numbered other) (waiting server)) ≤ length (filter (is_standing (at_server here server)) (requests_at now other))
       queued_on h server other near = by (server.0 == request.member.server.0) refl
         where
-          less : (a b c : ℕ) → a ≤ b → b ≤ c → a ≤ c
-          less a b c p q = grind (arith, p, q)
-
           server_is : (a b : ServerNo) → (a.0 == b.0) ≡ true → b ≡ a
           server_is a b e = ap (λ (k : ℕ). record { 0 = k }) (same b.0 a.0 e)
             where
@@ -204,10 +154,7 @@ module _ (here : NodeNo) (inc number peer_inc place : ℕ) (request : Request) (
               same m n e = grind (arith, nat_tests, e)
 
           server_far : (a b : ServerNo) → (a.0 == b.0) ≡ false → a ≢ b
-          server_far a b e same = far a.0 b.0 (ap (λ (s : ServerNo). s.0) same) e
-            where
-              far : (m n : ℕ) → m ≡ n → (m == n) ≡ false → ⊥
-              far m n p q = grind (arith, nat_tests, p, q)
+          server_far a b e same = equal_apart a.0 b.0 (ap (λ (s : ServerNo). s.0) same) e
 
           member_is : at_server here request.member.server ≡ request.member
           member_is = ap (λ (n : NodeNo). at_server n request.member.server) (sym at_here)
@@ -218,7 +165,7 @@ module _ (here : NodeNo) (inc number peer_inc place : ℕ) (request : Request) (
               (rw waits_here (subst (λ (m : Member). length (filter (is_numbered other) (face.waiting request.member.server ++ delivery ∷ [])) ≤ length (filter (is_standing m) (requests_at now other))) (sym member_is)
               (queued_more (face.waiting request.member.server) other near
               (subst (λ (m : Member). length (filter (is_numbered other) (face.waiting request.member.server)) ≤ length (filter (is_standing m) (requests_at tx other))) member_is (h request.member.server other near)))))
-          by false is = rw (waits_elsewhere server (server_far server request.member.server is)) (less _ _ _ (h server other near) (stand_on (at_server here server) other))
+          by false is = rw (waits_elsewhere server (server_far server request.member.server is)) (le_le _ _ _ (h server other near) (stand_on (at_server here server) other))
 
       pub issued_tid : HoldsTid here inc tid tx (record face { known = Some part })
           → HoldsTid here inc tid now (record face { known = Some (participant.issued outstanding part); local = number; waiting = waiting })

@@ -1,35 +1,10 @@
 -- A request to another node changes of a transaction what went to that node, and nothing of what came here or stands here.
-use Rattle.std.proofs.Common.{◌≡◌, ◌≢◌, ◌⊎◌, inl, inr, ℕ, ◌==◌, ◌+◌, ◌≤◌, ◌<◌, Bool, true, false, List, [], ◌∷◌, ◌++◌, Option, Some, None, refl, sym, ap, subst, ◌∙◌, arith, length, map}
-use Rattle.std.proofs.lemmas.Bool.Decides.{nat_tests}
-use Rattle.std.specs.Prelude.{not, ◌&&◌, slice_get, slice_set, unwrap_or, if◌then◌else◌}
-use Rattle.std.specs.List.{filter}
-use Rattle.std.specs.BTreeMap.{is_at}
-use Rattle.qs_base.specs.Order.{member_cmp, same_member}
-use Rattle.qs_base.specs.declared.identifiers.Member.{Member}
-use Rattle.qs_base.specs.declared.identifiers.NodeNo.{NodeNo}
-use Rattle.qs_base.specs.declared.identifiers.ServerNo.{ServerNo}
-use Rattle.qs_base.specs.declared.identifiers.Tid.{Tid}
-use Rattle.qs_base.proofs.Same.{same_member-true}
+use Rattle.qs_world_lawful.proofs.Words.{◌≡◌, ◌≢◌, ◌⊎◌, inl, inr, ℕ, ◌==◌, ◌+◌, ◌≤◌, ◌<◌, Bool, true, false, List, [], ◌∷◌, ◌++◌, Option, Some, None, refl, sym, ap, subst, ◌∙◌, length, map, true≢false, not, ◌&&◌, slice_get, slice_set, unwrap_or, if◌then◌else◌, filter, is_at, member_cmp, same_member, Member, NodeNo, ServerNo, Tid, same_member-true, last_number, no_peer, peer_of, Engage, PeerPart, changed_at_either, lookup_put, lookup_put_apart, changed_at, TransactionValue, is_commit, is_crossed}
+use Rattle.qs_world_lawful.proofs.Words.{is_standing, issued, link_cmp, request_cmp, requests_at, sent_in, sent_more, sent_on, Link, Request, RequestNo, Delivery, ServersValue, awaits_note, has_noted, MemberPart, Outstanding, Participant, at_server, HoldsHome, HoldsMember, HoldsTid, AreFor, HoldsWaits, IsWithin, op_in, waiting_ops, some_same, eqb_turned, eqb-false}
 use Rattle.qs_engage.specs.Engage as engage
-use Rattle.qs_engage.specs.Engage.{last_number, no_peer, peer_of}
-use Rattle.qs_engage.specs.declared.engage.Engage.{Engage}
-use Rattle.qs_engage.specs.declared.engage.PeerPart.{PeerPart}
-use Rattle.qs_book_laws.proofs.Maps.{changed_at_either, lookup_put, lookup_put_apart}
-use Rattle.qs_book_machine.specs.Book.{changed_at}
-use Rattle.qs_book_machine.specs.Transaction.{TransactionValue, is_commit, is_crossed, is_standing, issued, link_cmp, request_cmp, requests_at, sent_in, sent_more, sent_on}
-use Rattle.qs_book_machine.specs.declared.transaction.Link.{Link}
-use Rattle.qs_book_machine.specs.declared.transaction.Request.{Request}
-use Rattle.qs_book_machine.specs.declared.transaction.RequestNo.{RequestNo}
-use Rattle.qs_ipc.specs.declared.delivery.Delivery.{Delivery}
-use Rattle.qs_node_servers.specs.Servers.{ServersValue}
 use Rattle.qs_tm.specs.Participant as participant
-use Rattle.qs_tm.specs.Participant.{awaits_note, has_noted, is_by_files}
-use Rattle.qs_tm.specs.declared.members.MemberPart.{MemberPart}
-use Rattle.qs_tm.specs.declared.participant.Outstanding.{Outstanding}
-use Rattle.qs_tm.specs.declared.participant.Participant.{Participant}
-use Rattle.qs_world_lawful.specs.Face.{Face, at_server}
-use Rattle.qs_world_lawful.specs.Holds.{HoldsHome, HoldsMember, HoldsTid}
-use Rattle.qs_world_lawful.specs.Waits.{AreFor, HoldsWaits, IsWithin, op_in, waiting_ops}
+use Rattle.qs_tm.specs.Participant.{is_by_files}
+use Rattle.qs_world_lawful.specs.Face.{Face}
 use Rattle.qs_world_lawful.proofs.Faces.{filter_more}
 use Rattle.qs_world_lawful.proofs.Issued.{any_more, sent_again}
 use Rattle.qs_world_lawful.proofs.Parts.{index_apart, index_set}
@@ -139,23 +114,14 @@ module _ (here : NodeNo) (inc number peer_inc place : ℕ) (request : Request) (
     home = λ near in_it. away_home (h.home near in_it);
   }
     where
-      of_some : {X : Type 0} {x y : X} → Some x ≡ Some y → x ≡ y
-      of_some e = cc e
-
-      same : (a b : ℕ) → (a == b) ≡ true → b ≡ a
-      same a b e = grind (arith, nat_tests, e)
-
-      differ : (a b : ℕ) → (a == b) ≡ false → a ≢ b
-      differ a b e is = grind (arith, nat_tests, e, is)
-
       there : request.member.node.0 ≢ here.0 → sent_in inc (sent_on away_tx (record { from = here; to = request.member.node })) ≡ (peer_of (engage.sent request.member.node part.engage) request.member.node).sent
       there apart = sent_there ∙ (ap (λ (n : ℕ). n + 1) (h.sent refl request.member.node apart) ∙ sym (counts request.member.node part.engage room slot))
 
       sent_on_now : (peer : NodeNo) → peer.0 ≢ here.0 → (b : Bool) → (peer.0 == request.member.node.0) ≡ b → sent_in inc (sent_on away_tx (record { from = here; to = peer })) ≡ (peer_of (engage.sent request.member.node part.engage) peer).sent
-      sent_on_now peer apart true is = subst (λ (n : ℕ). sent_in inc (sent_on away_tx (record { from = here; to = record { 0 = n } })) ≡ (peer_of (engage.sent request.member.node part.engage) (record { 0 = n })).sent) (same peer.0 request.member.node.0 is) (there far)
+      sent_on_now peer apart true is = subst (λ (n : ℕ). sent_in inc (sent_on away_tx (record { from = here; to = record { 0 = n } })) ≡ (peer_of (engage.sent request.member.node part.engage) (record { 0 = n })).sent) (eqb_turned peer.0 request.member.node.0 is) (there far)
       sent_on_now peer apart false is =
-          ap (sent_in inc) (sent_elsewhere (record { from = here; to = peer }) (differ peer.0 request.member.node.0 is))
-          ∙ (h.sent refl peer apart ∙ sym (counts_other request.member.node peer part.engage (λ e. differ peer.0 request.member.node.0 is (sym e))))
+          ap (sent_in inc) (sent_elsewhere (record { from = here; to = peer }) (eqb-false peer.0 request.member.node.0 is))
+          ∙ (h.sent refl peer apart ∙ sym (counts_other request.member.node peer part.engage (λ e. eqb-false peer.0 request.member.node.0 is (sym e))))
 
       noted_on : (count : ℕ) → (has_noted count part ≡ true) ⊎ (awaits_note part ≡ true) → (has_noted count part ≡ true) ⊎ (awaits_note (participant.issued outstanding part) ≡ true)
       noted_on count (inl is) = inl is
@@ -164,18 +130,15 @@ module _ (here : NodeNo) (inc number peer_inc place : ℕ) (request : Request) (
       away_home : HoldsHome tx (Some part) → HoldsHome away_tx (Some (participant.sent request.member.node (participant.issued outstanding part)))
       away_home k = record {
         runs = λ is. refl;
-        undecided = λ p alike unknown. k.undecided part refl (ap (λ q. q.outcome) (of_some alike) ∙ unknown);
-        asked = λ p alike still. k.asked part refl still ∙ ap (λ q. q.asked) (of_some alike);
+        undecided = λ p alike unknown. k.undecided part refl (ap (λ q. q.outcome) (some_same alike) ∙ unknown);
+        asked = λ p alike still. k.asked part refl still ∙ ap (λ q. q.asked) (some_same alike);
       }
 
   pub away_waits : (tid : Tid) (waiting : ServerNo → List Delivery) (servers : ServersValue) → is_commit tx.cell ≡ false → HoldsWaits here inc tid tx waiting servers → HoldsWaits here inc tid away_tx waiting servers
   away_waits tid waiting servers still k = record {
-    whole = λ is. absurd (clash (sym is ∙ still));
+    whole = λ is. absurd (true≢false (sym is ∙ still));
     due = k.due;
     within = λ server at near. subst (λ (rs : List Request). IsWithin (waiting_ops at (waiting server)) (map op_in (filter (is_standing (at_server here server)) rs))) (sym (requests_near at near)) (k.within server at near);
     once = λ server at whole. subst (λ (rs : List Request). length rs ≤ 1) (sym (standing_near server at)) (k.once server at (sym (crossed_near server.0) ∙ whole));
     fits = λ server at near. subst (λ (rs : List Request). AreFor server (map op_in (filter (is_standing (at_server here server)) rs))) (sym (requests_near at near)) (k.fits server at near);
   }
-    where
-      clash : true ≡ false → ⊥
-      clash e = cc e

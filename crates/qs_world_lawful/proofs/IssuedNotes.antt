@@ -1,33 +1,13 @@
 -- A request that is issued is one more under its number: each note that was issued before is issued still, and no other one is.
-use Rattle.std.proofs.Common.{◌≡◌, ◌⊎◌, inl, inr, ℕ, Bool, true, false, List, [], ◌∷◌, ◌++◌, Some, Less, Equal, Greater, refl, ap, if◌then◌else◌}
-use Rattle.std.specs.BTreeMap.{insert_entry, is_at}
-use Rattle.std.specs.List.{list_any}
-use Rattle.std.specs.Map.{lookup}
-use Rattle.std.specs.Prelude.{◌||◌, unwrap_or}
-use Rattle.std.specs.declared.cmp.Ordering.{Ordering}
-use Rattle.qs_base.specs.declared.identifiers.NodeNo.{NodeNo}
-use Rattle.qs_book_machine.specs.Transaction.{TransactionValue, issued, request_cmp, requests_at}
-use Rattle.qs_book_machine.specs.declared.transaction.Request.{Request}
-use Rattle.qs_book_machine.specs.declared.transaction.RequestNo.{RequestNo}
-use Rattle.qs_world_lawful.specs.Beside.{has_issued, is_note_by}
+use Rattle.qs_world_lawful.proofs.Words.{◌≡◌, ◌⊎◌, inl, inr, ℕ, Bool, true, false, List, [], ◌∷◌, ◌++◌, Some, Less, Equal, Greater, refl, if◌then◌else◌, insert_entry, is_at, list_any, lookup, ◌||◌, unwrap_or, Ordering, NodeNo, TransactionValue, issued, request_cmp, requests_at, Request, RequestNo, has_issued, is_note_by, or_left, or_right}
 use Rattle.qs_world_lawful.proofs.Issued.{any_more}
+use Rattle.std.proofs.lemmas.Bool.{or_cases}
 
 -- ---- requests under their numbers, one more
 
 module _ (p : Request → Bool) where
   abbrev any_in : RequestNo × List Request → Bool
   any_in entry = list_any p entry.1
-
-  or_left : (a b : Bool) → a ≡ true → (a || b) ≡ true
-  or_left a b e = ap (λ (x : Bool). x || b) e
-
-  or_right : (a b : Bool) → b ≡ true → (a || b) ≡ true
-  or_right true b e = refl
-  or_right false b e = e
-
-  or_case : (a b : Bool) → (a || b) ≡ true → (a ≡ true) ⊎ (b ≡ true)
-  or_case true b e = inl refl
-  or_case false b e = inr e
 
   -- what is looked up stands in the list
   looked : (test : RequestNo → Bool) (es : List (RequestNo × List Request)) → list_any p (unwrap_or (lookup test es) []) ≡ true → list_any any_in es ≡ true
@@ -52,7 +32,7 @@ module _ (p : Request → Bool) where
 
   -- what there is once these were put there was before, or is of these
   put_back : (key : RequestNo) (vs : List Request) (es : List (RequestNo × List Request)) → list_any any_in (insert_entry request_cmp es key vs) ≡ true → (list_any any_in es ≡ true) ⊎ (list_any p vs ≡ true)
-  put_back key vs [] h = swap (or_case (list_any p vs) false h)
+  put_back key vs [] h = swap (or_cases (list_any p vs) false h)
     where
       swap : (list_any p vs ≡ true) ⊎ (false ≡ true) → (false ≡ true) ⊎ (list_any p vs ≡ true)
       swap (inl e) = inr e
@@ -61,17 +41,17 @@ module _ (p : Request → Bool) where
     where
       by : (r : Ordering) → request_cmp key e.0 ≡ r → list_any any_in (insert_entry request_cmp (e ∷ es) key vs) ≡ true → (list_any any_in (insert_entry request_cmp es key vs) ≡ true → (list_any any_in es ≡ true) ⊎ (list_any p vs ≡ true))
           → (list_any any_in (e ∷ es) ≡ true) ⊎ (list_any p vs ≡ true)
-      by Less is h more = first (or_case (list_any p vs) (list_any p e.1 || list_any any_in es) (rw is at h))
+      by Less is h more = first (or_cases (list_any p vs) (list_any p e.1 || list_any any_in es) (rw is at h))
         where
           first : (list_any p vs ≡ true) ⊎ ((list_any p e.1 || list_any any_in es) ≡ true) → (list_any any_in (e ∷ es) ≡ true) ⊎ (list_any p vs ≡ true)
           first (inl new) = inr new
           first (inr old) = inl old
-      by Equal is h more = first (or_case (list_any p vs) (list_any any_in es) (rw is at h))
+      by Equal is h more = first (or_cases (list_any p vs) (list_any any_in es) (rw is at h))
         where
           first : (list_any p vs ≡ true) ⊎ (list_any any_in es ≡ true) → (list_any any_in (e ∷ es) ≡ true) ⊎ (list_any p vs ≡ true)
           first (inl new) = inr new
           first (inr old) = inl (or_right (list_any p e.1) (list_any any_in es) old)
-      by Greater is h more = first (or_case (list_any p e.1) (list_any any_in (insert_entry request_cmp es key vs)) (rw is at h))
+      by Greater is h more = first (or_cases (list_any p e.1) (list_any any_in (insert_entry request_cmp es key vs)) (rw is at h))
         where
           next : (list_any any_in es ≡ true) ⊎ (list_any p vs ≡ true) → (list_any any_in (e ∷ es) ≡ true) ⊎ (list_any p vs ≡ true)
           next (inl old) = inl (or_right (list_any p e.1) (list_any any_in es) old)
@@ -91,12 +71,12 @@ module _ (p : Request → Bool) where
           → ((list_any p (unwrap_or (lookup (is_at (request_cmp key)) es) []) ≡ true → list_any p vs ≡ true) → list_any any_in es ≡ true → list_any any_in (insert_entry request_cmp es key vs) ≡ true)
           → list_any any_in (insert_entry request_cmp (e ∷ es) key vs) ≡ true
       by Less is old h more = rw is (or_right (list_any p vs) (list_any p e.1 || list_any any_in es) h)
-      by Equal is old h more = rw is (first (or_case (list_any p e.1) (list_any any_in es) h))
+      by Equal is old h more = rw is (first (or_cases (list_any p e.1) (list_any any_in es) h))
         where
           first : (list_any p e.1 ≡ true) ⊎ (list_any any_in es ≡ true) → (list_any p vs || list_any any_in es) ≡ true
           first (inl was) = or_left (list_any p vs) (list_any any_in es) ((rw is at old) was)
           first (inr rest) = or_right (list_any p vs) (list_any any_in es) rest
-      by Greater is old h more = rw is (first (or_case (list_any p e.1) (list_any any_in es) h))
+      by Greater is old h more = rw is (first (or_cases (list_any p e.1) (list_any any_in es) h))
         where
           first : (list_any p e.1 ≡ true) ⊎ (list_any any_in es ≡ true) → (list_any p e.1 || list_any any_in (insert_entry request_cmp es key vs)) ≡ true
           first (inl was) = or_left (list_any p e.1) (list_any any_in (insert_entry request_cmp es key vs)) was

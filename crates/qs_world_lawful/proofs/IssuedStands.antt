@@ -1,26 +1,9 @@
 -- What waits of a transaction stands, as requests are issued to servers here.
-use Rattle.std.proofs.Common.{◌≡◌, ◌≢◌, ◌⊎◌, inl, inr, ℕ, ◌==◌, ◌≤◌, Bool, true, false, List, [], ◌∷◌, ◌++◌, Option, Some, None, refl, sym, ap, subst, ◌∙◌, arith, length}
-use Rattle.std.proofs.lemmas.Bool.Decides.{nat_tests}
-use Rattle.std.specs.Prelude.{◌&&◌, not, is_some}
-use Rattle.std.specs.List.{filter, find}
-use Rattle.std.specs.Map.{lookup}
-use Rattle.std.specs.BTreeMap.{insert_entry, is_at}
-use Rattle.qs_base.specs.Order.{member_cmp, same_member}
-use Rattle.qs_base.specs.declared.identifiers.Member.{Member}
-use Rattle.qs_base.specs.declared.identifiers.NodeNo.{NodeNo}
-use Rattle.qs_base.specs.declared.identifiers.ServerNo.{ServerNo}
-use Rattle.qs_base.specs.declared.identifiers.Tid.{Tid}
-use Rattle.qs_base.proofs.Same.{same_member-self, same_member-true}
-use Rattle.qs_ipc.specs.declared.delivery.Delivery.{Delivery}
-use Rattle.qs_book_laws.proofs.Maps.{lookup_put, lookup_put_apart, put_known}
-use Rattle.qs_book_machine.specs.Transaction.{TransactionValue, is_commit, is_crossed, is_standing, requests_at, issued, crossed_by, crossed_from, standing_request, request_cmp}
-use Rattle.qs_book_machine.specs.declared.transaction.Request.{Request}
-use Rattle.qs_book_machine.specs.declared.transaction.RequestNo.{RequestNo}
-use Rattle.qs_ops.specs.declared.operation.Op.{Op}
-use Rattle.qs_node_servers.specs.Servers.{ServersValue}
-use Rattle.qs_world_lawful.specs.Face.{at_server, is_numbered}
+use Rattle.qs_world_lawful.proofs.Words.{◌≡◌, ◌≢◌, ◌⊎◌, inl, inr, ℕ, ◌==◌, ◌≤◌, Bool, true, false, List, [], ◌∷◌, ◌++◌, Option, Some, None, refl, sym, ap, subst, ◌∙◌, arith, length, true≢false, nat_tests, ◌&&◌, not, is_some, filter, find, lookup, insert_entry, is_at, member_cmp, same_member, Member, NodeNo, ServerNo, Tid, same_member-self, same_member-true, Delivery, lookup_put, lookup_put_apart, TransactionValue, is_commit, is_crossed, is_standing, requests_at, issued, crossed_by, crossed_from}
+use Rattle.qs_world_lawful.proofs.Words.{standing_request, request_cmp, Request, RequestNo, Op, ServersValue, at_server, AreFor, HoldsWaits, IsWithin, op_in, op_of, waiting_ops, standing_ops, eqb_turned, eqb-false}
+use Rattle.qs_book_laws.proofs.Maps.{put_known}
+use Rattle.qs_world_lawful.specs.Face.{is_numbered}
 use Rattle.qs_ipc.specs.Queue.{is_for}
-use Rattle.qs_world_lawful.specs.Waits.{AreFor, HoldsWaits, IsWithin, op_in, op_of, waiting_ops, standing_ops}
 use Rattle.qs_world_lawful.proofs.Faces.{filter_last, filter_more}
 use Rattle.qs_world_lawful.proofs.Issued as issuing
 use Rattle.qs_world_lawful.proofs.Keys.{KeyApart, same_key_or, member_exact, member_itself, request_exact, request_itself}
@@ -77,9 +60,6 @@ module _ (here : NodeNo) (inc number peer_inc place : ℕ) (request : Request) (
   crossed_on : (m : Member) → is_crossed issued_tx m ≡ false → is_crossed tx m ≡ false
   crossed_on m whole = by (is_crossed tx m) refl (standing_request tx issued_at request.member)
     where
-      clash : true ≡ false → ⊥
-      clash e = cc e
-
       from_on : is_crossed tx m ≡ true → is_some (lookup (is_at (member_cmp m)) (crossed_from place request.member tx.crossed)) ≡ true
       from_on is = of (lookup (is_at (member_cmp request.member)) tx.crossed)
         where
@@ -93,7 +73,7 @@ module _ (here : NodeNo) (inc number peer_inc place : ℕ) (request : Request) (
 
       by : (b : Bool) → is_crossed tx m ≡ b → (o : Option Request) → b ≡ false
       by false is o = refl
-      by true is o = absurd (clash (sym (grown is (standing_request tx issued_at request.member)) ∙ whole))
+      by true is o = absurd (true≢false (sym (grown is (standing_request tx issued_at request.member)) ∙ whole))
 
   -- where none stands nothing is crossed
   pub crossed_none : standing_request tx issued_at request.member ≡ None → issued_tx.crossed ≡ tx.crossed
@@ -130,16 +110,13 @@ module _ (here : NodeNo) (inc number peer_inc place : ℕ) (request : Request) (
     once_here : is_crossed issued_tx request.member ≡ false → length (filter (is_standing (at_server here request.member.server)) (requests_at issued_tx issued_at)) ≤ 1
     once_here whole = by (standing_request tx issued_at request.member) refl
       where
-        clash : true ≡ false → ⊥
-        clash e = cc e
-
         one : 1 ≤ 1
         one = grind arith
 
         by : (o : Option Request) → standing_request tx issued_at request.member ≡ o → length (filter (is_standing (at_server here request.member.server)) (requests_at issued_tx issued_at)) ≤ 1
         by None is = rw standing_here (rw (subst (λ (m : Member). filter (is_standing m) (requests_at tx issued_at) ≡ []) (sym member_is) (none_found (is_standing request.member) (requests_at tx issued_at) is)) one)
         by (Some earlier) is =
-            absurd (clash (sym (crossed_some earlier is) ∙ whole))
+            absurd (true≢false (sym (crossed_some earlier is) ∙ whole))
 
     module _ (delivery : Delivery) (from : delivery.from ≡ here) (numbered : delivery.number ≡ number) (its : delivery.op ≡ request.op)
         (tid : Tid) (waiting after : ServerNo → List Delivery) (waits_here : after request.member.server ≡ waiting request.member.server ++ delivery ∷ []) (waits_elsewhere : (server : ServerNo) → server ≢ request.member.server → after server ≡ waiting server)
@@ -153,9 +130,6 @@ module _ (here : NodeNo) (inc number peer_inc place : ℕ) (request : Request) (
       number_apart : (key : RequestNo) → key.link.to ≡ here → KeyApart request_cmp request_exact request_itself issued_at key → is_numbered key delivery ≡ false
       number_apart key near far = by (is_numbered key delivery) refl
         where
-          clash : true ≡ false → ⊥
-          clash e = cc e
-
           itself : is_at (request_cmp issued_at) issued_at ≡ true
           itself = rw (request_itself issued_at) refl
 
@@ -163,7 +137,7 @@ module _ (here : NodeNo) (inc number peer_inc place : ℕ) (request : Request) (
           by false is = refl
           by true is =
               let same : issued_at ≡ key = issuing.key_is here inc number peer_inc place request tx at_here in_inc unserved delivery from numbered key near is in
-              absurd (clash (sym itself ∙ subst (λ (k : RequestNo). is_at (request_cmp k) issued_at ≡ false) (sym same) far.at))
+              absurd (true≢false (sym itself ∙ subst (λ (k : RequestNo). is_at (request_cmp k) issued_at ≡ false) (sym same) far.at))
 
       within_here : (key : RequestNo) → key.link.to ≡ here → IsWithin (waiting_ops key (waiting request.member.server ++ delivery ∷ [])) (standing_ops issued_tx key here request.member.server)
       within_here key near = by (same_key_or request_cmp request_exact request_itself issued_at key)
@@ -180,15 +154,9 @@ module _ (here : NodeNo) (inc number peer_inc place : ℕ) (request : Request) (
       at_server_of : (P : ServerNo → Type 0) → P request.member.server → ((server : ServerNo) → server ≢ request.member.server → P server) → (server : ServerNo) → P server
       at_server_of P here_it elsewhere server = by (server.0 == request.member.server.0) refl
         where
-          equal : (a b : ℕ) → (a == b) ≡ true → b ≡ a
-          equal a b e = grind (arith, nat_tests, e)
-
-          differ : (a b : ℕ) → (a == b) ≡ false → a ≢ b
-          differ a b e same = grind (arith, nat_tests, e, same)
-
           by : (b : Bool) → (server.0 == request.member.server.0) ≡ b → P server
-          by true is = subst P (ap (λ (n : ℕ). record { 0 = n }) (equal server.0 request.member.server.0 is)) here_it
-          by false is = elsewhere server (λ e. differ server.0 request.member.server.0 is (ap (λ (s : ServerNo). s.0) e))
+          by true is = subst P (ap (λ (n : ℕ). record { 0 = n }) (eqb_turned server.0 request.member.server.0 is)) here_it
+          by false is = elsewhere server (λ e. eqb-false server.0 request.member.server.0 is (ap (λ (s : ServerNo). s.0) e))
 
       issued_once : (server : ServerNo) (key : RequestNo) → is_crossed issued_tx (at_server here server) ≡ false → length (filter (is_standing (at_server here server)) (requests_at issued_tx key)) ≤ 1
       issued_once server key = at_server_of (λ (s : ServerNo). is_crossed issued_tx (at_server here s) ≡ false → length (filter (is_standing (at_server here s)) (requests_at issued_tx key)) ≤ 1)
@@ -217,13 +185,10 @@ module _ (here : NodeNo) (inc number peer_inc place : ℕ) (request : Request) (
 
       pub issued_waits : is_for request.member.server request.op ≡ true → is_commit tx.cell ≡ false → HoldsWaits here inc tid issued_tx after servers
       issued_waits its_own still = record {
-        whole = λ is. absurd (clash (sym is ∙ still));
+        whole = λ is. absurd (true≢false (sym is ∙ still));
         due = h.due;
         within = λ server key near. at_server_of (λ (s : ServerNo). IsWithin (waiting_ops key (after s)) (standing_ops issued_tx key here s))
             (rw waits_here (within_here key near)) (λ s far. rw (waits_elsewhere s far, standing_elsewhere s far key) (h.within s key near)) server;
         once = issued_once;
         fits = issued_fits its_own;
       }
-        where
-          clash : true ≡ false → ⊥
-          clash e = cc e

@@ -1,40 +1,17 @@
 -- Clauses 20 and 21: a request that a client issues.
-use Rattle.std.proofs.Common.{◌≡◌, ◌≢◌, ℕ, ◌+◌, ◌==◌, ◌≤◌, ◌<◌, Bool, true, false, List, [], ◌∷◌, Option, Some, None, suc, refl, sym, ap, subst, ◌∙◌, arith, nat_lt, length}
-use Rattle.std.proofs.lemmas.Bool.Decides.{nat_tests}
-use Rattle.std.specs.Prelude.{not, ◌&&◌, ◌||◌, is_none, is_some, if◌then◌else◌}
-use Rattle.std.specs.List.{filter, list_any}
-use Rattle.qs_base.specs.declared.identifiers.ClientNo.{ClientNo}
-use Rattle.qs_base.specs.declared.identifiers.Member.{Member}
-use Rattle.qs_base.specs.declared.identifiers.NodeNo.{NodeNo}
+use Rattle.qs_world_lawful.proofs.Words.{◌≡◌, ◌≢◌, ℕ, ◌+◌, ◌==◌, ◌≤◌, ◌<◌, Bool, true, false, List, [], ◌∷◌, Option, Some, None, suc, refl, sym, ap, subst, ◌∙◌, arith, nat_lt, length, nat_tests, not, ◌&&◌, is_none, is_some, if◌then◌else◌, filter, list_any, ClientNo, Member, NodeNo, Tid, Op, TransactionValue, is_commit, is_open, sent_in, sent_on, learnt_abort, Cell, BookValue, find_transaction, link_to, broken, Lent, peer_of, same_node, Participant, client_server, local_count, entry_of, face_of}
+use Rattle.qs_world_lawful.proofs.Words.{part_in, at_server, is_loan_here, is_given_back, Holds, next_to, eqb-true, eqb-false, eq-eqb, and_from, or_left, or_right, eqb-self, le_suc}
 use Rattle.qs_base.specs.declared.identifiers.Outcome.TheVariants as outcomes
-use Rattle.qs_base.specs.declared.identifiers.Tid.{Tid}
-use Rattle.qs_ops.specs.declared.operation.Op.{Op}
 use Rattle.qs_book_journal.specs.declared.entry.Act.TheVariants as acts
-use Rattle.qs_book_machine.specs.Transaction.{TransactionValue, is_commit, is_open, sent_in, sent_on, learnt_abort, has_loan, borrower}
-use Rattle.qs_book_machine.specs.declared.transaction.Cell.{Cell}
+use Rattle.qs_book_machine.specs.Transaction.{has_loan, borrower}
 use Rattle.qs_book_machine.specs.declared.transaction.Cell.TheVariants as cells
-use Rattle.qs_book_machine.specs.Book.{BookValue, find_transaction}
-use Rattle.qs_book_machine.specs.Clauses.{link_to, is_for, may_issue, is_owner_of}
-use Rattle.qs_book_machine.specs.Lawful.{broken}
-use Rattle.qs_node_kept.specs.declared.kept.Lent.{Lent}
-use Rattle.qs_engage.specs.Engage.{peer_of}
-use Rattle.qs_engage.specs.Nodes.{same_node}
+use Rattle.qs_book_machine.specs.Clauses.{is_for, may_issue, is_owner_of}
 use Rattle.qs_tm.specs.Manager as tm
-use Rattle.qs_tm.specs.declared.participant.Participant.{Participant}
-use Rattle.qs_node_servers.specs.Servers.{client_server}
 use Rattle.qs_node_step.specs.State.{NodeValue}
-use Rattle.qs_node_step.specs.Requests.{local_count}
-use Rattle.qs_world.specs.Posting.{entry_of}
-use Rattle.qs_world_lawful.specs.Face.{face_of, part_in, at_server, is_loan_here, is_given_back}
-use Rattle.qs_world_lawful.specs.Holds.{Holds}
-use Rattle.qs_world_lawful.specs.Issues.{next_to}
 use Rattle.qs_world_lawful.proofs.Clauses.{lawful_act, of_tid, open_held}
 
 rise : (a b : ℕ) → a ≤ b → suc a ≤ suc b
 rise a b h = grind (arith, h)
-
-weaker : (a b : ℕ) → a ≤ b → a ≤ suc b
-weaker a b h = grind (arith, h)
 
 -- ---- more loans were made than given back, where one of them stands
 
@@ -45,7 +22,7 @@ most client inc (loan ∷ loans) = by (is_loan_here client inc loan) refl loan.y
     by : (a : Bool) → is_loan_here client inc loan ≡ a → (b : Bool) → loan.yielded ≡ b → length (filter (is_given_back client inc) loans) ≤ length (filter (is_loan_here client inc) loans)
         → length (filter (is_given_back client inc) (loan ∷ loans)) ≤ length (filter (is_loan_here client inc) (loan ∷ loans))
     by true is true gave more = rw (is, gave) (rise _ _ more)
-    by true is false gave more = rw (is, gave) (weaker _ _ more)
+    by true is false gave more = rw (is, gave) (le_suc _ _ more)
     by false is b gave more = rw is more
 
 fewer : (client : ClientNo) (inc : ℕ) (loans : List Lent) → list_any (λ (loan : Lent). is_loan_here client inc loan && not loan.yielded) loans ≡ true
@@ -70,13 +47,7 @@ module _ (stamp : ℕ) (book : BookValue) (node : NodeValue) (h : Holds stamp bo
   number_is member still = by (same_node member.node node.setting.node) refl
     where
       equal : (m n : NodeNo) → same_node m n ≡ true → m ≡ n
-      equal m n is = ap (λ (k : ℕ). record { 0 = k }) (numbers m.0 n.0 is)
-        where
-          numbers : (a b : ℕ) → (a == b) ≡ true → a ≡ b
-          numbers a b e = grind (arith, nat_tests, e)
-
-      unequal : (a b : ℕ) → (a == b) ≡ false → a ≢ b
-      unequal a b e = grind (arith, nat_tests, e)
+      equal m n is = ap (λ (k : ℕ). record { 0 = k }) (eqb-true m.0 n.0 is)
 
       by : (b : Bool) → same_node member.node node.setting.node ≡ b
           → (if b then local_count tid node + 1 else (peer_of (part_in (face_of node tid)).engage member.node).sent + 1) ≡ sent_in h.state.inc (sent_on tx (link_to node.setting.node.0 member)) + 1
@@ -86,7 +57,7 @@ module _ (stamp : ℕ) (book : BookValue) (node : NodeValue) (h : Holds stamp bo
           ∙ ap (λ (n : ℕ). n + 1) (of_tid stamp book node h tid tx found).local))
       by false is =
           sym (ap (λ (inc : ℕ). sent_in inc (sent_on tx (record { from = node.setting.node; to = member.node })) + 1) h.same.inc
-          ∙ ap (λ (n : ℕ). n + 1) ((of_tid stamp book node h tid tx found).sent (open_held stamp book node h tid tx found still) member.node (unequal member.node.0 node.setting.node.0 is)))
+          ∙ ap (λ (n : ℕ). n + 1) ((of_tid stamp book node h tid tx found).sent (open_held stamp book node h tid tx found still) member.node (eqb-false member.node.0 node.setting.node.0 is)))
 
   -- 20 and 21, where the client may issue
   pub may_issue_as : (client : ClientNo) (member : Member) (op : Op) → is_commit tx.cell ≡ false → is_for op member ≡ true → nat_lt member.node.0 node.setting.nodes ≡ true
@@ -94,13 +65,10 @@ module _ (stamp : ℕ) (book : BookValue) (node : NodeValue) (h : Holds stamp bo
       → broken book (entry_of node.setting.node.0 stamp (acts.Issue tid (at_server node.setting.node (client_server client)) member (next_to node tid member.node) op)) ≡ None
   may_issue_as client member op still fits in_run may =
       lawful_act stamp book node h (acts.Issue tid (at_server node.setting.node (client_server client)) member (next_to node tid member.node) op) (λ state. refl)
-      (rw found (allowed _ _ _ _ _ _ _ still (same _ _ (number_is member still)) fits (subst (λ n. nat_lt member.node.0 n ≡ true) (sym h.run) in_run) (no_files node.setting.node.0 client.0) may))
+      (rw found (allowed _ _ _ _ _ _ _ still (eq-eqb _ _ (number_is member still)) fits (subst (λ n. nat_lt member.node.0 n ≡ true) (sym h.run) in_run) (no_files node.setting.node.0 client.0) may))
     where
       clause : ℕ → Option ℕ
       clause n = Some n
-
-      same : (a b : ℕ) → a ≡ b → (a == b) ≡ true
-      same a b e = grind (arith, nat_tests, e)
 
       no_files : (n k : ℕ) → ((n == n) && (k + 32 == 0)) ≡ false
       no_files n k = grind (arith, nat_tests)
@@ -114,22 +82,13 @@ module _ (stamp : ℕ) (book : BookValue) (node : NodeValue) (h : Holds stamp bo
       → may_issue node.setting.node.0 h.state tid tx (at_server node.setting.node (client_server client)) ≡ true
   owner_may client part known owns home inc unasked unknown =
       let still : is_open tx.cell ≡ true = ((of_tid stamp book node h tid tx found).home home inc).undecided part known unknown in
-      both _ _ (mine node.setting.node.0 client.0) (or_left _ _ (both _ _ (both _ _ (owned owns) (at_home home)) (both _ _ still (none _ (((of_tid stamp book node h tid tx found).home home inc).asked part known still ∙ unasked)))))
+      and_from _ _ (mine node.setting.node.0 client.0) (or_left _ _ (and_from _ _ (and_from _ _ (owned owns) (at_home home)) (and_from _ _ still (none _ (((of_tid stamp book node h tid tx found).home home inc).asked part known still ∙ unasked)))))
     where
-      both : (a b : Bool) → a ≡ true → b ≡ true → (a && b) ≡ true
-      both a b p q = rw (p, q) refl
-
-      or_left : (a b : Bool) → a ≡ true → (a || b) ≡ true
-      or_left a b p = rw p refl
-
       mine : (n k : ℕ) → ((n == n) && nat_lt 31 (k + 32)) ≡ true
       mine n k = grind (arith, nat_tests)
 
       owned : tx.owner ≡ Some client → is_owner_of (client.0 + 32) tx.owner ≡ true
-      owned is = ap (is_owner_of (client.0 + 32)) is ∙ itself (client.0 + 32)
-        where
-          itself : (n : ℕ) → (n == n) ≡ true
-          itself n = grind (arith, nat_tests)
+      owned is = ap (is_owner_of (client.0 + 32)) is ∙ eqb-self (client.0 + 32)
 
       at_home : tid.home ≡ node.setting.node → (tid.home.0 == node.setting.node.0) ≡ true
       at_home e = grind (arith, nat_tests, e)
@@ -143,15 +102,8 @@ module _ (stamp : ℕ) (book : BookValue) (node : NodeValue) (h : Holds stamp bo
       → (part_in (face_of node tid)).outcome ≢ Some outcomes.Abort
       → may_issue node.setting.node.0 h.state tid tx (at_server node.setting.node (client_server client)) ≡ true
   borrower_may client small stands unaborted =
-      both _ _ (mine node.setting.node.0 client.0) (or_right _ _ (both _ _ has (ap not silent)))
+      and_from _ _ (mine node.setting.node.0 client.0) (or_right _ _ (and_from _ _ has (ap not silent)))
     where
-      both : (a b : Bool) → a ≡ true → b ≡ true → (a && b) ≡ true
-      both a b p q = rw (p, q) refl
-
-      or_right : (a b : Bool) → b ≡ true → (a || b) ≡ true
-      or_right true b p = refl
-      or_right false b p = p
-
       mine : (n k : ℕ) → ((n == n) && nat_lt 31 (k + 32)) ≡ true
       mine n k = grind (arith, nat_tests)
 

@@ -1,46 +1,15 @@
 -- A request goes to a server of another node: the rule as a whole. What is crossed there is nothing of this node's.
-use Rattle.std.proofs.Common.{◌≡◌, ◌≢◌, ◌⊎◌, inl, inr, ℕ, ◌==◌, ◌+◌, ◌<◌, Bool, true, false, List, Option, Some, None, refl, sym, ap, subst, ◌∙◌, arith, length, nat_lt}
-use Rattle.std.proofs.lemmas.Bool.Decides.{nat_tests}
-use Rattle.std.specs.Prelude.{not, slice_get, if◌then◌else◌}
-use Rattle.std.specs.Option.{option_map}
-use Rattle.std.specs.Map.{lookup}
-use Rattle.std.specs.BTreeMap.{is_at}
-use Rattle.qs_base.specs.Order.{tid_cmp}
-use Rattle.qs_base.specs.declared.identifiers.Member.{Member}
-use Rattle.qs_base.specs.declared.identifiers.NodeNo.{NodeNo}
-use Rattle.qs_base.specs.declared.identifiers.ServerNo.{ServerNo}
-use Rattle.qs_base.specs.declared.identifiers.Tid.{Tid}
-use Rattle.qs_base.specs.declared.identifiers.ClientNo.{ClientNo}
+use Rattle.qs_world_lawful.proofs.Words.{◌≡◌, ◌≢◌, ◌⊎◌, inl, inr, ℕ, ◌==◌, ◌+◌, ◌<◌, Bool, true, false, List, Option, Some, None, refl, sym, ap, subst, ◌∙◌, length, nat_lt, not, slice_get, if◌then◌else◌, option_map, lookup, is_at, tid_cmp, Member, NodeNo, ServerNo, Tid, ClientNo, client_server, next_to, last_number, peer_of, changed_alike, BookValue, crosses, find_transaction, inc_at, with_crossing, with_transaction, with_waiting, link_to, broken, crossed_node, TransactionValue, issued, Request}
+use Rattle.qs_world_lawful.proofs.Words.{Owner, Op, member_here, send, local_count, ask_on, enter_issue, is_asked, issue_away, label_of, Work, with_manager, awaits_note, has_noted, Outstanding, Participant, entry_of, HoldsWork, book_at, at_server, face_of, part_in, part_or_new, HoldsTid, HoldsServers, is_seen, seen_in}
 use Rattle.qs_ipc.specs.Queue as queues
-use Rattle.qs_node_servers.specs.Servers.{client_server}
-use Rattle.qs_world_lawful.specs.Issues.{next_to}
 use Rattle.qs_world_lawful.proofs.Issuing.{owner_issues}
-use Rattle.qs_engage.specs.Engage.{last_number, peer_of}
 use Rattle.qs_book_journal.specs.declared.entry.Act.TheVariants as acts
-use Rattle.qs_book_laws.proofs.Maps.{changed_alike}
-use Rattle.qs_book_machine.specs.Book.{BookValue, crosses, find_transaction, inc_at, with_crossing, with_transaction, with_waiting}
-use Rattle.qs_book_machine.specs.Clauses.{link_to}
-use Rattle.qs_book_machine.specs.Lawful.{broken}
 use Rattle.qs_book_machine.specs.Nodes as machine
-use Rattle.qs_book_machine.specs.Nodes.{crossed_node}
-use Rattle.qs_book_machine.specs.Transaction.{TransactionValue, issued}
-use Rattle.qs_book_machine.specs.declared.transaction.Request.{Request}
-use Rattle.qs_book_machine.specs.declared.state.Owner.{Owner}
-use Rattle.qs_ops.specs.declared.operation.Op.{Op}
 use Rattle.qs_packet.specs.declared.message.Message.TheVariants as messages
-use Rattle.qs_node_step.specs.Bringing.{member_here, send}
-use Rattle.qs_node_step.specs.Requests.{local_count, ask_on, enter_issue, is_asked, issue_away, label_of}
-use Rattle.qs_node_step.specs.State.{Work, NodeValue, with_manager}
+use Rattle.qs_node_step.specs.State.{NodeValue}
 use Rattle.qs_tm.specs.Manager as tm
 use Rattle.qs_tm.specs.Participant as participant
-use Rattle.qs_tm.specs.Participant.{awaits_note, has_noted, is_by_files}
-use Rattle.qs_tm.specs.declared.participant.Outstanding.{Outstanding}
-use Rattle.qs_tm.specs.declared.participant.Participant.{Participant}
-use Rattle.qs_world.specs.Posting.{entry_of}
-use Rattle.qs_world_lawful.specs.Entering.{HoldsWork, book_at}
-use Rattle.qs_world_lawful.specs.Face.{at_server, face_of, part_in, part_or_new}
-use Rattle.qs_world_lawful.specs.Holds.{HoldsTid}
-use Rattle.qs_world_lawful.specs.Tables.{HoldsServers, is_seen, seen_in}
+use Rattle.qs_tm.specs.Participant.{is_by_files}
 use Rattle.qs_world_lawful.proofs.Apart.{Apart, same_or_apart}
 use Rattle.qs_world_lawful.proofs.Asking.{by_send}
 use Rattle.qs_world_lawful.proofs.Clauses.{of_tid}
@@ -52,6 +21,7 @@ use Rattle.qs_world_lawful.proofs.Growing.{book_with, entered}
 use Rattle.qs_world_lawful.proofs.CommitsWhole.{open_still}
 use Rattle.qs_world_lawful.proofs.IssuedAway.{away_tid, away_waits, changed_elsewhere, crossed_near}
 use Rattle.qs_world_lawful.proofs.Steps.{one_changed, tx_apart, tx_changed, tx_seen, waits_of}
+use Rattle.std.proofs.lemmas.Bool.{ne_eqb}
 
 module _ (stamp : ℕ) (before : BookValue) (work : Work) (tid : Tid) (outstanding : Outstanding) (op : Op) (part : Participant) (tx : TransactionValue) (h : HoldsWork stamp before work)
     (known : tm.part_of tid work.node.manager ≡ Some part) (found : find_transaction (book_at stamp before work) tid ≡ Some tx)
@@ -170,11 +140,8 @@ module _ (stamp : ℕ) (before : BookValue) (work : Work) (tid : Tid) (outstandi
 -- ---- of an owner
 
 pub next_away : (node : NodeValue) (tid : Tid) (to : NodeNo) → to.0 ≢ node.setting.node.0 → next_to node tid to ≡ (peer_of (part_in (face_of node tid)).engage to).sent + 1
-next_away node tid to far = by (to.0 == node.setting.node.0) (is_far to.0 node.setting.node.0 far)
+next_away node tid to far = by (to.0 == node.setting.node.0) (ne_eqb to.0 node.setting.node.0 far)
   where
-    is_far : (a b : ℕ) → a ≢ b → (a == b) ≡ false
-    is_far a b e = grind (arith, nat_tests, e)
-
     by : (b : Bool) → b ≡ false → (if b then local_count tid node + 1 else (peer_of (part_in (face_of node tid)).engage to).sent + 1) ≡ (peer_of (part_in (face_of node tid)).engage to).sent + 1
     by true e = absurd (cc e)
     by false e = refl

@@ -1,31 +1,10 @@
 -- A client that owns a transaction, or that holds a loan of it, issues a request to a server of its own node lawfully.
-use Rattle.std.proofs.Common.{◌≡◌, ◌≢◌, ℕ, ◌+◌, ◌==◌, Bool, true, false, Option, Some, None, refl, sym, ap, subst, ◌∙◌, arith, nat_lt}
-use Rattle.std.proofs.lemmas.Bool.Decides.{nat_tests}
-use Rattle.std.specs.Prelude.{not, ◌&&◌, if◌then◌else◌}
-use Rattle.std.specs.List.{list_any}
-use Rattle.qs_base.specs.declared.identifiers.ClientNo.{ClientNo}
-use Rattle.qs_base.specs.declared.identifiers.NodeNo.{NodeNo}
+use Rattle.qs_world_lawful.proofs.Words.{◌≡◌, ◌≢◌, ℕ, ◌+◌, ◌==◌, Bool, true, false, Option, Some, None, refl, sym, ap, subst, ◌∙◌, arith, nat_lt, nat_tests, not, ◌&&◌, if◌then◌else◌, list_any, ClientNo, NodeNo, ServerNo, Tid, peer_of, Op, TransactionValue, is_commit, BookValue, find_transaction, broken, Outstanding, Participant, Lent, client_server, issue_here, local_count, Work, entry_of, HoldsWork, book_at, face_of, part_in, part_or_new, at_server, is_loan_here, next_to}
 use Rattle.qs_base.specs.declared.identifiers.Outcome.TheVariants as outcomes
-use Rattle.qs_base.specs.declared.identifiers.ServerNo.{ServerNo}
-use Rattle.qs_base.specs.declared.identifiers.Tid.{Tid}
 use Rattle.qs_ipc.specs.Queue as queues
-use Rattle.qs_engage.specs.Engage.{peer_of}
-use Rattle.qs_ops.specs.declared.operation.Op.{Op}
 use Rattle.qs_book_journal.specs.declared.entry.Act.TheVariants as acts
-use Rattle.qs_book_machine.specs.Transaction.{TransactionValue, is_commit}
-use Rattle.qs_book_machine.specs.Book.{BookValue, find_transaction}
-use Rattle.qs_book_machine.specs.Lawful.{broken}
 use Rattle.qs_tm.specs.Manager as tm
-use Rattle.qs_tm.specs.declared.participant.Outstanding.{Outstanding}
-use Rattle.qs_tm.specs.declared.participant.Participant.{Participant}
-use Rattle.qs_node_kept.specs.declared.kept.Lent.{Lent}
-use Rattle.qs_node_servers.specs.Servers.{client_server}
-use Rattle.qs_node_step.specs.Requests.{issue_here, local_count}
-use Rattle.qs_node_step.specs.State.{Work, NodeValue}
-use Rattle.qs_world.specs.Posting.{entry_of}
-use Rattle.qs_world_lawful.specs.Entering.{HoldsWork, book_at}
-use Rattle.qs_world_lawful.specs.Face.{face_of, part_in, part_or_new, at_server, is_loan_here}
-use Rattle.qs_world_lawful.specs.Issues.{next_to}
+use Rattle.qs_node_step.specs.State.{NodeValue}
 use Rattle.qs_world_lawful.proofs.Issuing.{owner_issues, borrower_issues}
 use Rattle.qs_world_lawful.proofs.IssuingHere.{by_issue_here}
 

@@ -1,45 +1,15 @@
 -- A request goes to a server of the node itself: the rule as a whole.
-use Rattle.std.proofs.Common.{◌⊎◌, inl, inr, ◌≡◌, ◌≢◌, ℕ, ◌+◌, Bool, true, false, List, [], ◌∷◌, ◌++◌, Option, Some, None, refl, sym, ap, subst, ◌∙◌, length}
-use Rattle.std.specs.Prelude.{not, ◌&&◌, is_some, unwrap_or, slice_get, if◌then◌else◌}
-use Rattle.std.specs.Option.{option_map}
-use Rattle.std.specs.List.{filter}
-use Rattle.std.specs.BTreeMap.{is_at}
-use Rattle.qs_base.specs.Order.{tid_cmp, same_tid}
-use Rattle.qs_base.specs.declared.identifiers.Member.{Member}
-use Rattle.qs_base.specs.declared.identifiers.NodeNo.{NodeNo}
-use Rattle.qs_base.specs.declared.identifiers.ServerNo.{ServerNo}
-use Rattle.qs_base.specs.declared.identifiers.Tid.{Tid}
-use Rattle.qs_base.proofs.Same.{same_tid-self}
-use Rattle.qs_base.proofs.TidOrder.{tid_exact}
+use Rattle.qs_world_lawful.proofs.Words.{◌⊎◌, inl, inr, ◌≡◌, ◌≢◌, ℕ, ◌+◌, Bool, true, false, List, [], ◌∷◌, ◌++◌, Option, Some, None, refl, sym, ap, subst, ◌∙◌, length, not, ◌&&◌, is_some, unwrap_or, slice_get, if◌then◌else◌, option_map, filter, is_at, tid_cmp, same_tid, Member, NodeNo, ServerNo, Tid, same_tid-self, tid_exact, queue_at, QueueValue, Delivery, tid_itself, lookup_put, lookup_put_apart, changed_alike, Op, TransactionValue, issued, Request, RequestNo, BookValue, find_transaction}
+use Rattle.qs_world_lawful.proofs.Words.{inc_at, with_waiting, crosses, with_transaction, link_to, broken, crossed_node, Owner, Outstanding, Participant, member_here, enter_issue, with_local, issue_here, local_count, Work, with_queues, here, entry_of, face_of, HoldsTid, HoldsClients, HoldsWork, book_at, HoldsServers, is_seen, seen_in, HoldsWaits, is_commit, is_crossed, standing_request, member_cmp, lookup, and_false, and_true}
 use Rattle.qs_ipc.specs.Ipc as ipc
-use Rattle.qs_ipc.specs.Ipc.{queue_at}
-use Rattle.qs_ipc.specs.Queue.{QueueValue, is_of}
+use Rattle.qs_ipc.specs.Queue.{is_of}
 use Rattle.qs_ipc.specs.Queue as queues
-use Rattle.qs_ipc.specs.declared.delivery.Delivery.{Delivery}
-use Rattle.qs_book_laws.proofs.Alikes.{tid_itself}
-use Rattle.qs_book_laws.proofs.Maps.{lookup_put, lookup_put_apart, changed_alike}
-use Rattle.qs_ops.specs.declared.operation.Op.{Op}
 use Rattle.qs_book_journal.specs.declared.entry.Act.TheVariants as acts
-use Rattle.qs_book_machine.specs.Transaction.{TransactionValue, issued}
-use Rattle.qs_book_machine.specs.declared.transaction.Request.{Request}
-use Rattle.qs_book_machine.specs.declared.transaction.RequestNo.{RequestNo}
-use Rattle.qs_book_machine.specs.Book.{BookValue, find_transaction, inc_at, with_waiting, crosses, with_transaction}
-use Rattle.qs_book_machine.specs.Clauses.{link_to}
-use Rattle.qs_book_machine.specs.Lawful.{broken}
 use Rattle.qs_book_machine.specs.Nodes as machine
-use Rattle.qs_book_machine.specs.Nodes.{crossed_node}
-use Rattle.qs_book_machine.specs.declared.state.Owner.{Owner}
 use Rattle.qs_tm.specs.Manager as tm
 use Rattle.qs_tm.specs.Participant as participant
-use Rattle.qs_tm.specs.declared.participant.Outstanding.{Outstanding}
-use Rattle.qs_tm.specs.declared.participant.Participant.{Participant}
-use Rattle.qs_node_step.specs.Bringing.{member_here}
-use Rattle.qs_node_step.specs.Requests.{enter_issue, with_local, issue_here, local_count}
-use Rattle.qs_node_step.specs.State.{Work, NodeValue, with_queues, here}
-use Rattle.qs_world.specs.Posting.{entry_of}
-use Rattle.qs_world_lawful.specs.Face.{face_of, waiting_at}
-use Rattle.qs_world_lawful.specs.Holds.{HoldsTid, HoldsClients}
-use Rattle.qs_world_lawful.specs.Entering.{HoldsWork, book_at}
+use Rattle.qs_node_step.specs.State.{NodeValue}
+use Rattle.qs_world_lawful.specs.Face.{waiting_at}
 use Rattle.qs_world_lawful.proofs.Apart.{Apart, same_or_apart}
 use Rattle.qs_world_lawful.proofs.Clauses.{of_tid}
 use Rattle.qs_world_lawful.proofs.CommitsWhole.{open_still}
@@ -52,11 +22,6 @@ use Rattle.qs_world_lawful.proofs.IssuedStands.{crossed_none, crossed_some, cros
 use Rattle.qs_world_lawful.proofs.Steps.{one_changed, tx_apart, tx_changed, tx_seen, waits_of}
 use Rattle.qs_world_lawful.proofs.CrossedTables.{crossed_up, servers_alike}
 use Rattle.qs_world_lawful.proofs.Keys.{member_found}
-use Rattle.qs_world_lawful.specs.Tables.{HoldsServers, is_seen, seen_in}
-use Rattle.qs_world_lawful.specs.Waits.{HoldsWaits}
-use Rattle.qs_book_machine.specs.Transaction.{is_commit, is_crossed, standing_request}
-use Rattle.qs_base.specs.Order.{member_cmp}
-use Rattle.std.specs.Map.{lookup}
 
 module _ (stamp : ℕ) (before : BookValue) (work : Work) (tid : Tid) (outstanding : Outstanding) (op : Op) (part : Participant) (tx : TransactionValue) (h : HoldsWork stamp before work)
     (known : tm.part_of tid work.node.manager ≡ Some part) (found : find_transaction (book_at stamp before work) tid ≡ Some tx)
@@ -190,14 +155,6 @@ module _ (stamp : ℕ) (before : BookValue) (work : Work) (tid : Tid) (outstandi
       hides : (earlier : Request) → standing_request tx key outstanding.member ≡ Some earlier → (t : Tid) → is_seen new_book home outstanding.member.server.0 t ≡ (is_seen book home outstanding.member.server.0 t && not (is_at (tid_cmp tid) t))
       hides earlier is t = of (same_or_apart tid t)
         where
-          and_false : (b : Bool) → (b && false) ≡ false
-          and_false true = refl
-          and_false false = refl
-
-          and_true : (b : Bool) → (b && true) ≡ b
-          and_true true = refl
-          and_true false = refl
-
           itself : (u : Tid) → is_at (tid_cmp u) u ≡ true
           itself u = rw (tid_itself u) refl
 

@@ -1,33 +1,17 @@
 -- A node keeps that a transaction is aborted of which it knows nothing: the machine has it aborted, and nothing else is held of it.
-use Rattle.std.proofs.Common.{◌≡◌, ◌⊎◌, inl, inr, ℕ, Bool, true, false, Option, Some, None, refl, sym, ap, subst, ◌∙◌}
-use Rattle.std.specs.Prelude.{not, ◌||◌, is_some, if◌then◌else◌}
-use Rattle.qs_base.specs.Order.{tid_cmp}
-use Rattle.qs_base.specs.declared.identifiers.ClientNo.{ClientNo}
-use Rattle.qs_base.specs.declared.identifiers.NodeNo.{NodeNo}
-use Rattle.qs_base.specs.declared.identifiers.Outcome.{Outcome}
+use Rattle.qs_world_lawful.proofs.Words.{◌≡◌, ◌⊎◌, inl, inr, ℕ, Bool, true, false, Option, Some, None, refl, sym, ap, subst, ◌∙◌, not, ◌||◌, is_some, if◌then◌else◌, tid_cmp, ClientNo, NodeNo, Outcome, Tid, tid_itself, lookup_put, BookValue, find_transaction, TransactionValue, is_commit, is_open, is_outcome, Cell, Work, with_manager, Participant, HoldsWork, IsAborted, book_at, face_of, HoldsAt, HoldsTid, IsAsking, IsOwner, some_same}
 use Rattle.qs_base.specs.declared.identifiers.Outcome.TheVariants as outcomes
-use Rattle.qs_base.specs.declared.identifiers.Tid.{Tid}
-use Rattle.qs_book_laws.proofs.Alikes.{tid_itself}
-use Rattle.qs_book_laws.proofs.Maps.{lookup_put}
-use Rattle.qs_book_machine.specs.Book.{BookValue, find_transaction}
-use Rattle.qs_book_machine.specs.Transaction.{TransactionValue, is_abort, is_commit, is_open, is_outcome}
-use Rattle.qs_book_machine.specs.declared.transaction.Cell.{Cell}
+use Rattle.qs_book_machine.specs.Transaction.{is_abort}
 use Rattle.qs_book_machine.specs.declared.transaction.Cell.TheVariants as cells
-use Rattle.qs_node_step.specs.State.{Work, NodeValue, with_manager}
+use Rattle.qs_node_step.specs.State.{NodeValue}
 use Rattle.qs_tm.specs.Manager as tm
 use Rattle.qs_tm.specs.Outcomes.{aborted_participant}
-use Rattle.qs_tm.specs.declared.participant.Participant.{Participant}
-use Rattle.qs_world_lawful.specs.Entering.{HoldsWork, IsAborted, book_at}
-use Rattle.qs_world_lawful.specs.Face.{Face, face_of}
-use Rattle.qs_world_lawful.specs.Holds.{HoldsAt, HoldsTid, IsAsking, IsOwner}
+use Rattle.qs_world_lawful.specs.Face.{Face}
 use Rattle.qs_world_lawful.proofs.Apart.{Apart, same_or_apart}
 use Rattle.qs_world_lawful.proofs.Clauses.{of_tid}
 use Rattle.qs_world_lawful.proofs.Faces.{put_apart}
 use Rattle.qs_world_lawful.proofs.Frames.{asking_on, at_each, clients_with, held_on}
 use Rattle.qs_world_lawful.proofs.Growing.{kept_on}
-
-of_some : {X : Type 0} {x y : X} → Some x ≡ Some y → x ≡ y
-of_some e = cc e
 
 no_commit : (c : Cell) → is_abort c ≡ true → is_commit c ≡ false
 no_commit cells.Abort e = refl
@@ -49,7 +33,7 @@ aborted_tid home here inc tid tx face aborted h = record {
   sized = refl;
   members = λ held server kept. h.members is_held_then server kept;
   asked = h.asked;
-  outcome = λ o is. subst (λ (x : Outcome). is_outcome x tx.cell ≡ true) (of_some is) (as_cell tx.cell aborted);
+  outcome = λ o is. subst (λ (x : Outcome). is_outcome x tx.cell ≡ true) (some_same is) (as_cell tx.cell aborted);
   silent = λ is. refl;
   local = h.local;
   sent = λ held peer far. h.sent is_held_then peer far;
@@ -58,7 +42,7 @@ aborted_tid home here inc tid tx face aborted h = record {
   queued = h.queued;
   made = h.made;
   yielded = h.yielded;
-  home = λ at in_inc. record { runs = λ is. refl; undecided = λ p same none. absurd (clash (ap (λ (q : Participant). q.outcome) (of_some same) ∙ none)); asked = λ p same still. absurd (no_open tx.cell aborted still) };
+  home = λ at in_inc. record { runs = λ is. refl; undecided = λ p same none. absurd (clash (ap (λ (q : Participant). q.outcome) (some_same same) ∙ none)); asked = λ p same still. absurd (no_open tx.cell aborted still) };
 }
   where
     is_held_then : (false || not (is_commit tx.cell)) ≡ true
@@ -99,7 +83,7 @@ module _ (stamp : ℕ) (before : BookValue) (work : Work) (h : HoldsWork stamp b
         by : (tid ≡ t) ⊎ Apart tid t → IsAsking new t c
         by (inl same) =
             let it : Some part ≡ Some p = sym known_now ∙ subst (λ (u : Tid). tm.part_of u new.manager ≡ Some p) (sym same) is in
-            absurd (clash (ap (λ (q : Participant). q.outcome) (of_some it) ∙ none))
+            absurd (clash (ap (λ (q : Participant). q.outcome) (some_same it) ∙ none))
         by (inr far) = asking_on node new (record { commands = refl; labels = refl; outcomes = refl }) t c (h.holds.clients.asking t c p at (sym (put_apart tid t part node.manager far) ∙ is) none asked owns)
 
     by_put_abort : HoldsWork stamp before (with_manager (λ manager. tm.put_part tid part manager) work)

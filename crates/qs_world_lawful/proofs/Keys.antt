@@ -1,16 +1,6 @@
 -- Keys of requests and links: each is found under its own key alone.
-use Rattle.std.proofs.Common.{◌≡◌, ◌⊎◌, inl, inr, ℕ, Bool, true, false, Less, Equal, Greater, refl, sym, ap, subst, ◌∙◌}
-use Rattle.std.specs.BTreeMap.{is_at}
-use Rattle.std.specs.declared.cmp.Ordering.{Ordering}
+use Rattle.qs_world_lawful.proofs.Words.{◌≡◌, ◌⊎◌, inl, inr, ℕ, Bool, true, false, Less, Equal, Greater, refl, sym, ap, subst, ◌∙◌, true≢false, is_at, Ordering, tied_itself, nat_cmp_total, exact_unsigned, exact_pairs, member_cmp, Member, link_cmp, request_cmp, life_cmp, Life, Link, RequestNo}
 use Rattle.std.specs.Ordering.{nat_cmp}
-use Rattle.std.proofs.lemmas.Cmp.{tied_itself, nat_cmp_total}
-use Rattle.std.proofs.lemmas.Map.Lookups.{exact_unsigned, exact_pairs}
-use Rattle.qs_base.specs.Order.{member_cmp}
-use Rattle.qs_base.specs.declared.identifiers.Member.{Member}
-use Rattle.qs_book_machine.specs.Transaction.{link_cmp, request_cmp, life_cmp}
-use Rattle.qs_book_machine.specs.declared.transaction.Life.{Life}
-use Rattle.qs_book_machine.specs.declared.transaction.Link.{Link}
-use Rattle.qs_book_machine.specs.declared.transaction.RequestNo.{RequestNo}
 
 module _ {K : Type 0} (cmp : K → K → Ordering) (exact : (a b : K) → cmp a b ≡ Equal → a ≡ b) (itself : (a : K) → cmp a a ≡ Equal) where
   at_exact : (a b : K) → is_at (cmp a) b ≡ true → a ≡ b
@@ -29,12 +19,9 @@ module _ {K : Type 0} (cmp : K → K → Ordering) (exact : (a b : K) → cmp a 
   pub same_key_or : (a b : K) → (a ≡ b) ⊎ KeyApart a b
   same_key_or a b = by (is_at (cmp b) a) refl
     where
-      clash : true ≡ false → ⊥
-      clash e = cc e
-
       turned : is_at (cmp b) a ≡ false → (k : K) → is_at (cmp b) k ≡ true → (t : Bool) → is_at (cmp a) k ≡ t → t ≡ false
       turned far k at false is = refl
-      turned far k at true is = absurd (clash (sym (subst (λ (x : K). is_at (cmp b) x ≡ true) (sym (at_exact a k is)) at) ∙ far))
+      turned far k at true is = absurd (true≢false (sym (subst (λ (x : K). is_at (cmp b) x ≡ true) (sym (at_exact a k is)) at) ∙ far))
 
       by : (t : Bool) → is_at (cmp b) a ≡ t → (a ≡ b) ⊎ KeyApart a b
       by true is = inl (sym (at_exact b a is))

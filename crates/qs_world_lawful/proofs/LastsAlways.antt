@@ -1,5 +1,5 @@
 -- Each lawful history has what stands at every time, from logs that are coherent and numbered, and so from each opening of a run.
-use Rattle.qs_world.specs.Histories.{opened_from}
+use Rattle.qs_world_lawful.proofs.Words.{opened_from}
 use Rattle.qs_world_lawful.specs.LastingLaws.{EachLasts, EachRunLasts}
 use Rattle.qs_world_lawful.proofs.CoherentOpenings.{opens_soundly}
 use Rattle.qs_world_lawful.proofs.LastsOpening.{lasts_always}

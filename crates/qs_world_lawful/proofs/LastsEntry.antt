@@ -1,32 +1,15 @@
 -- What stands in the machine at every time stands on after each lawful entry.
-use Rattle.std.proofs.Common.{◌≡◌, ◌⊎◌, inl, inr, ℕ, ◌<◌, ◌≤◌, ◌+◌, ◌==◌, ◌&&◌, Bool, true, false, List, [], ◌∷◌, Option, Some, None, refl, sym, ap, subst, ◌∙◌, arith, is_some, nat_lt}
-use Rattle.std.proofs.lemmas.Bool.Decides.{nat_tests}
-use Rattle.std.specs.Prelude.{slice_get}
-use Rattle.std.specs.List.{list_all}
-use Rattle.qs_base.specs.declared.identifiers.ClientNo.{ClientNo}
-use Rattle.qs_base.specs.declared.identifiers.NodeNo.{NodeNo}
-use Rattle.qs_base.specs.declared.identifiers.Tid.{Tid}
-use Rattle.qs_book_journal.specs.declared.entry.Act.{Act}
-use Rattle.qs_book_journal.specs.declared.entry.Entry.{Entry}
+use Rattle.qs_world_lawful.proofs.Words.{◌≡◌, ◌⊎◌, inl, inr, ℕ, ◌<◌, ◌≤◌, ◌+◌, ◌==◌, ◌&&◌, Bool, true, false, List, [], ◌∷◌, Option, Some, None, refl, sym, ap, subst, ◌∙◌, arith, is_some, nat_lt, nat_tests, slice_get, list_all, ClientNo, NodeNo, Tid, Act, Entry, clash, right_of, BookValue, cell_of_transaction, find_transaction, inc_at, ticks_at, broken, broken_node, effect, effect_act, is_open_here, restart, TransactionValue, agrees, all_served, begun, has_note, is_commit, is_empty, is_open}
+use Rattle.qs_world_lawful.proofs.Words.{is_unanimous, sent_in, sent_on, Cell, names_transaction, has_issued, IsBefore, IsOfNow, StandsOnce, IsNamed, ltb_some, le_lt}
 use Rattle.qs_book_laws.specs.Lives.{restarts}
 use Rattle.qs_book_laws.proofs.Committed.{ran_shut}
-use Rattle.qs_book_laws.proofs.Holding.{clash, right_of}
 use Rattle.qs_book_laws.proofs.Lives.{Restarting, inc_of_node, restarting, same_life}
 use Rattle.qs_book_laws.proofs.Serves.{inc_there}
 use Rattle.qs_book_laws.proofs.Steps.{unheld}
 use Rattle.qs_book_laws.proofs.Tidy.{step_tidy}
 use Rattle.qs_book_laws.proofs.Unanimous.{Commits, step_commits}
-use Rattle.qs_book_machine.specs.Book.{BookValue, cell_of_transaction, find_transaction, inc_at, ticks_at}
-use Rattle.qs_book_machine.specs.Lawful.{broken, broken_node, effect, effect_act}
 use Rattle.qs_book_machine.specs.Nodes as machine
-use Rattle.qs_book_machine.specs.Restart.{is_open_here, restart}
-use Rattle.qs_book_machine.specs.Transaction.{TransactionValue, agrees, all_served, begun, has_note, is_commit, is_empty, is_open, is_unanimous, sent_in, sent_on}
-use Rattle.qs_book_machine.specs.declared.transaction.Cell.{Cell}
 use Rattle.qs_book_machine.specs.declared.transaction.Cell.TheVariants as cells
-use Rattle.qs_restart.specs.Recovery.{names_transaction}
-use Rattle.qs_world_lawful.specs.Beside.{has_issued}
-use Rattle.qs_world_lawful.specs.Lasting.{IsBefore, IsOfNow, StandsOnce}
-use Rattle.qs_world_lawful.specs.Logged.{IsNamed}
 use Rattle.qs_world_lawful.proofs.AnyRestart.{restart_shuts}
 use Rattle.qs_world_lawful.proofs.Apart.{Apart, same_or_apart}
 use Rattle.qs_world_lawful.proofs.EntryTurns.{Actor, Begins, Turning, actor, by_entry}
@@ -35,6 +18,7 @@ use Rattle.qs_world_lawful.proofs.LastsWell.{IssuedBefore, LastsWell, lasts_of}
 use Rattle.qs_world_lawful.proofs.PastStops.{act_stopped}
 use Rattle.qs_world_lawful.proofs.TurnedRequests.{fits_on, once_on}
 use Rattle.qs_world_lawful.proofs.Turning.{IsFar, Issues, Leaves, Serves, Turns, some_of, stood}
+use Rattle.qs_base_lemmas.proofs.Tests.{le_one_more}
 
 -- what is unanimous is not crossed
 uncrossed : (tx : TransactionValue) → is_unanimous tx ≡ true → is_empty tx.crossed ≡ true
@@ -150,11 +134,8 @@ module _ (book : BookValue) (entry : Entry) (w : LastsWell book) (h : broken boo
       v : Was book entry w h n state
       v = node_was book entry w h n state is
 
-      lower : (a b c : ℕ) → a ≤ b → b < c → a < c
-      lower a b c p q = omega arith
-
       old_low : v.old.inc < inc
-      old_low = lower v.old.inc state.inc inc v.rises low
+      old_low = le_lt v.old.inc state.inc inc v.rises low
 
       fresh_before : (label : List ℕ) (client : ClientNo) (ticks : ℕ) → IsBefore (begun label client ticks) n inc
       fresh_before label client ticks = record { parts = λ server. refl; sent = λ peer. refl; noted = λ text. refl }
@@ -194,11 +175,8 @@ module _ (book : BookValue) (entry : Entry) (w : LastsWell book) (h : broken boo
       v : Was book entry w h n state
       v = node_was book entry w h n state is
 
-      lower : (a b c : ℕ) → a ≤ b → b < c → a < c
-      lower a b c p q = omega arith
-
       old_low : v.old.inc < inc
-      old_low = lower v.old.inc state.inc inc v.rises low
+      old_low = le_lt v.old.inc state.inc inc v.rises low
 
       of : Stood tid later → has_issued later n inc text ≡ false
       of (inl (b, fresh, same)) = ap (λ (x : TransactionValue). has_issued x n inc text) fresh
@@ -246,9 +224,6 @@ module _ (book : BookValue) (entry : Entry) (w : LastsWell book) (h : broken boo
               now : IsOfNow v.old tid
               now = ((lasts_of book w).nodes n v.old v.there).open_now tid tx was home (open_before tx how)
 
-              low : (a : ℕ) → nat_lt 0 a ≡ true → 1 ≤ a
-              low a p = grind (arith, nat_tests, p)
-
               a : Actor book entry
               a = actor book entry h
 
@@ -257,7 +232,7 @@ module _ (book : BookValue) (entry : Entry) (w : LastsWell book) (h : broken boo
 
               shuts : is_open_here here tid (find_transaction (restart here r.inc r.pend r.done book) tid) ≡ false
               shuts = restart_shuts book here r.inc r.pend r.done a.state a.there (unheld a.state.up 2 _ (subst (λ (x : Act). broken_node book entry.stamp here a.state x ≡ None) r.act a.allowed)) tid
-                  (ap (λ (k : NodeNo). k.0) home ∙ sym r.here) (subst (λ (s : machine.NodeValue). IsOfNow s tid) (sym old_is) now) (low tid.seq (w.named tid (ap is_some was)))
+                  (ap (λ (k : NodeNo). k.0) home ∙ sym r.here) (subst (λ (s : machine.NodeValue). IsOfNow s tid) (sym old_is) now) (ltb_some tid.seq (w.named tid (ap is_some was)))
 
               found_there : find_transaction (restart here r.inc r.pend r.done book) tid ≡ Some later
               found_there = ap (λ (x : Act). find_transaction (effect_act entry.stamp here x book) tid) (sym r.act) ∙ found
@@ -273,7 +248,7 @@ module _ (book : BookValue) (entry : Entry) (w : LastsWell book) (h : broken boo
     inv = inv book entry w h;
     shut = ran_shut (entry ∷ []) book w.inv w.shut (h, tt);
     tidy = step_tidy book entry w.tidy;
-    stopped = λ n node is. more node.stopped book.place (act_stopped book entry.stamp here entry.act w.stopped n node is);
+    stopped = λ n node is. le_one_more node.stopped book.place (act_stopped book entry.stamp here entry.act w.stopped n node is);
     named = named_on;
     past = past_on;
     waits = waits_on;
@@ -281,6 +256,3 @@ module _ (book : BookValue) (entry : Entry) (w : LastsWell book) (h : broken boo
     issued = issued_on;
     now = now_on;
   }
-    where
-      more : (a b : ℕ) → a ≤ b → a ≤ b + 1
-      more a b p = omega arith

@@ -1,22 +1,10 @@
 -- A node before an entry and after it: its incarnations rise, and what is to come of it is nothing that the entry did.
-use Rattle.std.proofs.Common.{◌≡◌, ℕ, ◌<◌, ◌≤◌, ◌==◌, ◌&&◌, Bool, true, false, List, [], ◌∷◌, length, Some, None, zero, suc, refl, sym, ap, ◌∙◌, arith}
-use Rattle.std.proofs.lemmas.Bool.Decides.{nat_tests}
-use Rattle.std.specs.Prelude.{slice_get}
-use Rattle.qs_base.specs.declared.identifiers.NodeNo.{NodeNo}
-use Rattle.qs_base.specs.declared.identifiers.Tid.{Tid}
-use Rattle.qs_book_journal.specs.declared.entry.Act.{Act}
+use Rattle.qs_world_lawful.proofs.Words.{◌≡◌, ℕ, ◌<◌, ◌≤◌, ◌==◌, ◌&&◌, Bool, true, false, List, [], ◌∷◌, length, Some, None, zero, suc, refl, sym, ap, ◌∙◌, arith, nat_tests, slice_get, NodeNo, Tid, Act, Entry, Found, same_number, ran_run, Inv, BookValue, inc_at, broken, effect}
 use Rattle.qs_book_journal.specs.declared.entry.Act.TheVariants as acts
-use Rattle.qs_book_journal.specs.declared.entry.Entry.{Entry}
-use Rattle.qs_book_journal.specs.declared.entry.Found.{Found}
-use Rattle.qs_book_laws.proofs.Holding.{same_number}
-use Rattle.qs_book_laws.proofs.InRun.{ran_run}
 use Rattle.qs_book_laws.proofs.Lives.{Reborn, inc_of_node, reborn}
-use Rattle.qs_book_laws.proofs.Outcomes.{Inv}
 use Rattle.qs_book_laws.proofs.Pasts.{inc_rises}
 use Rattle.qs_book_laws.proofs.Serves.{inc_there}
 use Rattle.qs_book_laws.proofs.Steps.{stepped}
-use Rattle.qs_book_machine.specs.Book.{BookValue, inc_at}
-use Rattle.qs_book_machine.specs.Lawful.{broken, effect}
 use Rattle.qs_book_machine.specs.Nodes as machine
 use Rattle.qs_world_lawful.proofs.EntryTurns.{Turning}
 use Rattle.qs_world_lawful.proofs.LastsWell.{LastsWell}

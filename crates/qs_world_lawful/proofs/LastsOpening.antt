@@ -1,48 +1,21 @@
 -- What stands in the machine at every time stands as a run opens from coherent logs, and so after every lawful history.
-use Rattle.std.proofs.Common.{◌≡◌, ◌⊎◌, inl, inr, ℕ, ◌<◌, ◌≤◌, ◌+◌, ◌==◌, ◌&&◌, Bool, true, false, List, [], ◌∷◌, length, map, fold, Option, Some, None, zero, suc, refl, sym, ap, subst, ◌∙◌, arith, nat_lt, if◌then◌else◌}
-use Rattle.std.proofs.lemmas.Bool.Decides.{nat_tests}
-use Rattle.std.proofs.lemmas.Option.{slice_get-map}
-use Rattle.std.specs.Prelude.{slice_get}
-use Rattle.std.specs.Option.{option_map}
-use Rattle.std.specs.List.{filter, list_any}
-use Rattle.std.specs.BTreeMap.{insert_entry, is_at}
-use Rattle.qs_base.specs.Order.{tid_cmp}
-use Rattle.qs_base.specs.declared.identifiers.Member.{Member}
-use Rattle.qs_base.specs.declared.identifiers.NodeNo.{NodeNo}
-use Rattle.qs_base.specs.declared.identifiers.Tid.{Tid}
-use Rattle.qs_base.proofs.TidOrder.{tid_exact}
-use Rattle.qs_book_journal.specs.declared.entry.Entry.{Entry}
-use Rattle.qs_book_laws.specs.Laws.{IsCoherent}
-use Rattle.qs_book_laws.proofs.Alikes.{tid_itself}
+use Rattle.qs_world_lawful.proofs.Words.{◌≡◌, ◌⊎◌, inl, inr, ℕ, ◌<◌, ◌≤◌, ◌+◌, ◌==◌, ◌&&◌, Bool, true, false, List, [], ◌∷◌, length, map, fold, Option, Some, None, zero, suc, refl, sym, ap, subst, ◌∙◌, arith, nat_lt, if◌then◌else◌, nat_tests, slice_get-map, slice_get, option_map, filter, list_any, insert_entry, is_at, tid_cmp, Member, NodeNo, Tid, tid_exact, Entry, IsCoherent, tid_itself, face, clash, same_number, lookup_put, lookup_put_apart, first_book, opening_holds, opening_names, BookValue}
+use Rattle.qs_world_lawful.proofs.Words.{find_transaction, IsLawful, book_after, effect, has_commit, name_all, name_from, name_pending, name_transaction, opened_transaction, opening, member_at, TransactionValue, found_at, found_part, has_note, is_open, is_standing, no_part, sent_in, sent_on, Opened, Pending, Request, RequestNo, has_issued, Lasts, StandsOnce, IsNamed, AreFor, op_in, zero_le, zero_plus}
 use Rattle.qs_book_laws.proofs.Always.{opening_so}
-use Rattle.qs_book_laws.proofs.Faces.{face}
-use Rattle.qs_book_laws.proofs.Holding.{clash, same_number}
-use Rattle.qs_book_laws.proofs.Maps.{lookup_put, lookup_put_apart}
-use Rattle.qs_book_laws.proofs.Openings.{first_book, opening_holds, opening_names}
 use Rattle.qs_book_laws.proofs.ShutOpenings.{opening_opens, opening_shut}
 use Rattle.qs_book_laws.proofs.Tidy.{opening_tidy}
-use Rattle.qs_book_machine.specs.Book.{BookValue, find_transaction}
-use Rattle.qs_book_machine.specs.Lawful.{IsLawful, book_after, effect}
 use Rattle.qs_book_machine.specs.Nodes as machine
-use Rattle.qs_book_machine.specs.Opening.{has_commit, name_all, name_from, name_pending, name_transaction, opened_node, opened_transaction, opening}
-use Rattle.qs_book_machine.specs.Restart.{member_at}
-use Rattle.qs_book_machine.specs.Transaction.{TransactionValue, found_at, found_part, has_note, is_open, is_standing, no_part, opened_as, part_of, sent_in, sent_on}
+use Rattle.qs_book_machine.specs.Opening.{opened_node}
+use Rattle.qs_book_machine.specs.Transaction.{opened_as, part_of}
 use Rattle.qs_book_machine.specs.Transaction as transaction
-use Rattle.qs_book_machine.specs.declared.opened.Opened.{Opened}
-use Rattle.qs_book_machine.specs.declared.opened.Pending.{Pending}
 use Rattle.qs_book_machine.specs.declared.transaction.Cell.TheVariants as cells
-use Rattle.qs_book_machine.specs.declared.transaction.Request.{Request}
-use Rattle.qs_book_machine.specs.declared.transaction.RequestNo.{RequestNo}
 use Rattle.qs_ops.specs.declared.answer.Cause.TheVariants as causes
-use Rattle.qs_world_lawful.specs.Beside.{has_issued}
-use Rattle.qs_world_lawful.specs.Lasting.{Lasts, StandsOnce}
-use Rattle.qs_world_lawful.specs.Logged.{IsNamed}
-use Rattle.qs_world_lawful.specs.Waits.{AreFor, op_in}
 use Rattle.qs_world_lawful.proofs.Apart.{Apart, same_or_apart}
 use Rattle.qs_world_lawful.proofs.LastsEntry.{lasts_on}
 use Rattle.qs_world_lawful.proofs.LastsWell.{LastsWell, lasts_of}
 use Rattle.qs_world_lawful.proofs.Turning.{IsFar, some_of, stood, turned_by}
 use Rattle.qs_world_lawful.proofs.TurningParts.{part_put}
+use Rattle.qs_base_lemmas.proofs.Tests.{plus_zero}
 
 -- ---- parts as a run opens: of the incarnation of each node
 
@@ -117,20 +90,14 @@ module _ (logs : List Opened) where
   logs_past n [] each book all = all
   logs_past n (one ∷ rest) each book all =
       logs_past (suc n) rest (λ k other is. subst (λ (m : ℕ). Opens m other.inc) (over n k) (each (suc k) other is)) (name_all n one book)
-      (votes_past n one.inc (subst (λ (m : ℕ). Opens m one.inc) (first n) (each 0 one refl)) one.pending (fold name_transaction book one.committed) (names_past one.committed book all))
+      (votes_past n one.inc (subst (λ (m : ℕ). Opens m one.inc) (plus_zero n) (each 0 one refl)) one.pending (fold name_transaction book one.committed) (names_past one.committed book all))
     where
       over : (a b : ℕ) → a + suc b ≡ suc a + b
       over a b = omega arith
 
-      first : (a : ℕ) → a + 0 ≡ a
-      first a = omega arith
-
   opening_past : AllPast (opening logs)
   opening_past = logs_past 0 logs (λ k one is state there. of one is state (sym (slice_get-map opened_node logs k) ∙ (ap (slice_get nodes) (sym (zero_plus k)) ∙ there))) (first_book logs) (λ tid tx found. absurd (cc found))
     where
-      zero_plus : (k : ℕ) → 0 + k ≡ k
-      zero_plus k = omega arith
-
       of : {o : Option Opened} (one : Opened) → o ≡ Some one → (state : machine.NodeValue) → option_map opened_node o ≡ Some state → state.inc ≡ one.inc
       of one is state e = ap (λ (s : machine.NodeValue). s.inc) (some_of (sym e ∙ ap (option_map opened_node) is))
 
@@ -197,10 +164,7 @@ module _ (opened : List Opened) (coherent : IsCoherent opened) (named : IsNamed 
     where
       of : (n : ℕ) (node : machine.NodeValue) (o : Option Opened) → option_map opened_node o ≡ Some node → node.stopped ≤ book.place
       of n node None is = absurd (cc is)
-      of n node (Some one) is = subst (λ (s : machine.NodeValue). s.stopped ≤ book.place) (some_of is) (low book.place)
-        where
-          low : (a : ℕ) → 0 ≤ a
-          low a = omega arith
+      of n node (Some one) is = subst (λ (s : machine.NodeValue). s.stopped ≤ book.place) (some_of is) (zero_le book.place)
 
       in_run : (here : NodeNo) (state : machine.NodeValue) (tid : Tid) → slice_get book.nodes here.0 ≡ Some state → tid.home ≡ here → nat_lt tid.home.0 (length book.nodes) ≡ true
       in_run here state tid there home = subst (λ (k : NodeNo). nat_lt k.0 (length book.nodes) ≡ true) (sym home) (is_in book.nodes here.0 state there)

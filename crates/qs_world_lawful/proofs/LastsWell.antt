@@ -1,25 +1,14 @@
 -- What stands in the machine at every time, with what it takes to show that it stands on: nothing is kept, and no note was issued, in an
 -- incarnation that is to come.
-use Rattle.std.proofs.Common.{◌≡◌, inl, inr, ℕ, ◌<◌, ◌≤◌, true, false, List, Option, Some, None, refl, sym, ap, ◌∙◌, arith}
-use Rattle.std.specs.Prelude.{slice_get}
-use Rattle.std.specs.Option.{option_map}
-use Rattle.qs_base.specs.declared.identifiers.NodeNo.{NodeNo}
-use Rattle.qs_base.specs.declared.identifiers.Tid.{Tid}
-use Rattle.qs_book_laws.proofs.Faces.{age, face}
-use Rattle.qs_book_laws.proofs.Outcomes.{Inv, IsBegun}
+use Rattle.qs_world_lawful.proofs.Words.{◌≡◌, inl, inr, ℕ, ◌<◌, ◌≤◌, true, false, List, Option, Some, None, refl, sym, ap, ◌∙◌, arith, slice_get, option_map, NodeNo, Tid, age, face, Inv, facet, BookValue, cell_of_transaction, find_transaction, is_among, TransactionValue, is_commit, is_open, Cell, has_issued, IsBefore, IsOfNow, Lasts, StandsOnce, HasCommitted, IsNamed}
+use Rattle.qs_book_laws.proofs.Outcomes.{IsBegun}
 use Rattle.qs_book_laws.proofs.Shut.{IsShut, Shut}
-use Rattle.qs_book_laws.proofs.Stills.{asked_of, facet}
+use Rattle.qs_book_laws.proofs.Stills.{asked_of}
 use Rattle.qs_book_laws.proofs.Tidy.{AllTidy}
-use Rattle.qs_book_machine.specs.Book.{BookValue, cell_of_transaction, find_transaction}
 use Rattle.qs_book_machine.specs.Nodes as machine
-use Rattle.qs_book_machine.specs.Restart.{is_among}
-use Rattle.qs_book_machine.specs.Transaction.{TransactionValue, is_commit, is_open}
-use Rattle.qs_book_machine.specs.declared.transaction.Cell.{Cell}
 use Rattle.qs_book_machine.specs.declared.transaction.Cell.TheVariants as cells
-use Rattle.qs_world_lawful.specs.Beside.{has_issued}
-use Rattle.qs_world_lawful.specs.Lasting.{IsBefore, IsOfNow, Lasts, StandsOnce}
-use Rattle.qs_world_lawful.specs.Logged.{HasCommitted, IsNamed}
 use Rattle.qs_world_lawful.proofs.PastStops.{HaveStopped}
+use Rattle.qs_base_lemmas.proofs.Tests.{lt_le, eq_le}
 
 -- files issued no note in an incarnation that is to come
 abbrev pub IssuedBefore : BookValue → Type 0
@@ -57,14 +46,8 @@ lasts_of book w = record {
 }
   where
     low : (tid : Tid) (state : machine.NodeValue) → IsBegun tid (age state) → tid.inc ≤ state.inc
-    low tid state (inl less) = lower tid.inc state.inc less
-      where
-        lower : (a b : ℕ) → a < b → a ≤ b
-        lower a b h = omega arith
-    low tid state (inr at) = equal tid.inc state.inc at.0
-      where
-        equal : (a b : ℕ) → a ≡ b → a ≤ b
-        equal a b h = omega arith
+    low tid state (inl less) = lt_le tid.inc state.inc less
+    low tid state (inr at) = eq_le tid.inc state.inc at.0
 
     of_now : (state : machine.NodeValue) (tid : Tid) → tid.inc ≡ state.inc → IsBegun tid (age state) → IsOfNow state tid
     of_now state tid is (inl less) = absurd (differ tid.inc state.inc is less)

@@ -1,53 +1,24 @@
 -- A server learns how a transaction ends, or is told that it ends: the rules as a whole.
-use Rattle.qs_world_lawful.specs.Tables.{is_seen}
-use Rattle.qs_world_lawful.specs.Waits.{HoldsWaits}
+use Rattle.qs_world_lawful.proofs.Words.{is_seen, HoldsWaits, names_no, windows_no, scratch_no, is_client_no, Cell, is_commit, is_outcome, ◌≡◌, ℕ, ◌==◌, ◌≤◌, Bool, true, false, Option, Some, None, refl, sym, ap, subst, ◌∙◌, arith, length, nat_tests, not, ◌&&◌, ◌||◌, unwrap_or, is_some, if◌then◌else◌, list_any, lookup, is_at, Class, Member, NodeNo, Outcome, ServerNo, Tid, class_of, is_two_phase, learns_outcome, changes_in, after_notice, Notice, TransactionValue, no_part, life, life_cmp}
+use Rattle.qs_world_lawful.proofs.Words.{changed_value, learnt, learnt_part, ended_part, is_start, learnt_abort, Part, BookValue, find_transaction, inc_at, learn_node, doubts_after, end_node, broken, lookup_changed, member_of, MemberPart, Participant, learn_member, end_member, notice_of, with_server, Work, entry_of, face_of, at_server, HoldsMember, HoldsTid, HoldsWork, book_at, eqb-true, eqb-self, and_first}
 use Rattle.qs_world_lawful.proofs.Alike.{learnt_servers}
 use Rattle.qs_world_lawful.proofs.ServedTables.{ended_servers}
 use Rattle.qs_world_lawful.proofs.Files.{noted_share}
 use Rattle.qs_world_lawful.proofs.MemberWaits.{seen_committed, learnt_waits, ended_waits}
 use Rattle.qs_world_lawful.proofs.Steps.{waits_of}
-use Rattle.qs_ops.specs.Servers.{files_no, names_no, timers_no, windows_no, scratch_no, is_client_no}
-use Rattle.qs_book_machine.specs.declared.transaction.Cell.{Cell}
+use Rattle.qs_ops.specs.Servers.{files_no, timers_no}
 use Rattle.qs_book_machine.specs.declared.transaction.Cell.TheVariants as cells
-use Rattle.qs_book_machine.specs.Transaction.{is_commit, is_outcome}
-use Rattle.std.proofs.Common.{◌≡◌, ℕ, ◌==◌, ◌≤◌, Bool, true, false, Option, Some, None, refl, sym, ap, subst, ◌∙◌, arith, length}
-use Rattle.std.proofs.lemmas.Bool.Decides.{nat_tests}
-use Rattle.std.specs.Prelude.{not, ◌&&◌, ◌||◌, unwrap_or, is_some, if◌then◌else◌}
-use Rattle.std.specs.List.{list_any}
-use Rattle.std.specs.Map.{lookup}
-use Rattle.std.specs.BTreeMap.{is_at}
-use Rattle.qs_base.specs.declared.identifiers.Class.{Class}
 use Rattle.qs_base.specs.declared.identifiers.Class.TheVariants as classes
-use Rattle.qs_base.specs.declared.identifiers.Member.{Member}
-use Rattle.qs_base.specs.declared.identifiers.NodeNo.{NodeNo}
-use Rattle.qs_base.specs.declared.identifiers.Outcome.{Outcome}
 use Rattle.qs_base.specs.declared.identifiers.Outcome.TheVariants as outcomes
-use Rattle.qs_base.specs.declared.identifiers.ServerNo.{ServerNo}
-use Rattle.qs_base.specs.declared.identifiers.Tid.{Tid}
-use Rattle.qs_ops.specs.Members.{class_of, is_two_phase, learns_outcome}
-use Rattle.qs_ops.specs.Server.{changes_in, after_notice}
-use Rattle.qs_ops.specs.declared.vote.Notice.{Notice}
 use Rattle.qs_ops.specs.declared.vote.Notice.TheVariants as notices
 use Rattle.qs_book_journal.specs.declared.entry.Act.TheVariants as acts
-use Rattle.qs_book_machine.specs.Transaction.{TransactionValue, part_of, no_part, life, life_cmp, changed_value, learnt, learnt_part, ended, ended_part, is_let_go, is_start, is_abort, learnt_abort}
-use Rattle.qs_book_machine.specs.declared.transaction.Part.{Part}
-use Rattle.qs_book_machine.specs.Book.{BookValue, find_transaction, inc_at, learn_node, doubts_after, end_node}
+use Rattle.qs_book_machine.specs.Transaction.{part_of, ended, is_let_go, is_abort}
 use Rattle.qs_book_machine.specs.Clauses as clauses
-use Rattle.qs_book_machine.specs.Lawful.{broken}
-use Rattle.qs_book_laws.proofs.Maps.{lookup_changed}
 use Rattle.qs_tm.specs.Manager as tm
 use Rattle.qs_tm.specs.Members as rules
 use Rattle.qs_tm.specs.Outcomes as outcome_rules
-use Rattle.qs_tm.specs.Participant.{member_of}
-use Rattle.qs_tm.specs.declared.members.MemberPart.{MemberPart}
-use Rattle.qs_tm.specs.declared.participant.Participant.{Participant}
-use Rattle.qs_node_step.specs.Deciding.{learn_member, end_member, notice_of}
-use Rattle.qs_node_servers.specs.Servers.{with_server}
-use Rattle.qs_node_step.specs.State.{Work, NodeValue}
-use Rattle.qs_world.specs.Posting.{entry_of}
-use Rattle.qs_world_lawful.specs.Face.{face_of, at_server}
-use Rattle.qs_world_lawful.specs.Holds.{HoldsMember, HoldsTid, is_kept}
-use Rattle.qs_world_lawful.specs.Entering.{HoldsWork, book_at}
+use Rattle.qs_node_step.specs.State.{NodeValue}
+use Rattle.qs_world_lawful.specs.Holds.{is_kept}
 use Rattle.qs_world_lawful.proofs.Casting.{told_all, learnt_member}
 use Rattle.qs_world_lawful.proofs.Clauses.{lawful_act, of_tid}
 use Rattle.qs_world_lawful.proofs.Files.{noted_apart}
@@ -121,11 +92,7 @@ module _ (stamp : ℕ) (before : BookValue) (work : Work) (tid : Tid) (server : 
 
   module _ (outcome : Outcome) (knows : part.outcome ≡ Some outcome) (told : learns_outcome (class_of server.0) ≡ true) (due : rules.is_to_learn (class_of server.0) (member_of part server) ≡ true) where
     part_due : (part_of tx member inc).due ≡ true
-    part_due = both (part_of tx member inc).due (not (is_let_go (part_of tx member inc))) ((held.members refl server kept).learns told ∙ due)
-      where
-        both : (a b : Bool) → (a && b) ≡ true → a ≡ true
-        both true b e = refl
-        both false b e = absurd (cc e)
+    part_due = and_first (part_of tx member inc).due (not (is_let_go (part_of tx member inc))) ((held.members refl server kept).learns told ∙ due)
 
     abbrev after : TransactionValue
     after = learnt member inc outcome tx
@@ -222,7 +189,7 @@ module _ (stamp : ℕ) (before : BookValue) (work : Work) (tid : Tid) (server : 
       -- it is asked for commit, or aborted
       pub by_end : (is_some tx.asked || is_abort tx.cell) ≡ true → HoldsWork stamp before (end_member tid work server)
       by_end ends = entered stamp before work (end_member tid work server) (acts.Ending tid member) h refl refl
-          (lawful_act stamp book node h.holds (acts.Ending tid member) (λ state. refl) (rw found (allowed _ _ _ _ (same_immediate (class_of server.0) immediate) (itself here.0) (ap (λ (i : ℕ). (part_of tx member i).due) h.holds.same.inc ∙ due_is) ends)))
+          (lawful_act stamp book node h.holds (acts.Ending tid member) (λ state. refl) (rw found (allowed _ _ _ _ (same_immediate (class_of server.0) immediate) (eqb-self here.0) (ap (λ (i : ℕ). (part_of tx member i).due) h.holds.same.inc ∙ due_is) ends)))
           (by_member stamp book node server tid part tx h.holds known found (acts.Ending tid member) (ended member (inc_at book (record { 0 = here.0 })))
           (end_node tid) (λ value. after_notice value tid notices.Ending) p_now refl
           (λ x. refl) (λ s. record { up = refl; inc = refl; begun = refl; format = refl }) (λ q. refl) (λ t far value. noted_apart tid t notices.Ending value far)
@@ -238,11 +205,8 @@ module _ (stamp : ℕ) (before : BookValue) (work : Work) (tid : Tid) (server : 
           at_timers : (n : ℕ) → rules.is_immediate (class_of n) ≡ true → n ≡ timers_no
           at_timers n = by (n == names_no) (n == timers_no) (n == windows_no) (n == scratch_no) (is_client_no n) refl
             where
-              number_is : (a b : ℕ) → (a == b) ≡ true → a ≡ b
-              number_is a b e = grind (arith, nat_tests, e)
-
               by : (a b c d e : Bool) → (n == timers_no) ≡ b → rules.is_immediate (if a then classes.Volatile else if b then classes.Immediate else if c then classes.Standard else if d then classes.Delayed else if e then classes.Activity else classes.Recoverable) ≡ true → n ≡ timers_no
-              by a true c d e at is = number_is n timers_no at
+              by a true c d e at is = eqb-true n timers_no at
               by true false c d e at is = absurd (cc is)
               by false false true d e at is = absurd (cc is)
               by false false false true e at is = absurd (cc is)
@@ -251,9 +215,6 @@ module _ (stamp : ℕ) (before : BookValue) (work : Work) (tid : Tid) (server : 
 
           no_files : (n : ℕ) → n ≡ timers_no → (n == files_no) ≡ false
           no_files n e = grind (arith, nat_tests, e)
-
-          itself : (n : ℕ) → (n == n) ≡ true
-          itself n = grind (arith, nat_tests)
 
           same_immediate : (c : Class) → rules.is_immediate c ≡ true → clauses.is_immediate c ≡ true
           same_immediate classes.Immediate e = refl

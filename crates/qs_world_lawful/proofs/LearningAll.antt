@@ -1,39 +1,18 @@
 -- The servers of a node learn how a transaction ends, all of them in order of their classes: the rule as a whole.
-use Rattle.std.proofs.Common.{◌≡◌, ◌≢◌, ℕ, ◌==◌, Bool, true, false, List, [], ◌∷◌, Option, Some, None, refl, sym, ap, subst, ◌∙◌, arith, length}
-use Rattle.std.proofs.lemmas.Bool.Decides.{nat_tests}
-use Rattle.std.specs.Prelude.{◌&&◌, ◌||◌, is_some, if◌then◌else◌, ⊤}
-use Rattle.std.specs.List.{list_any}
-use Rattle.qs_base.specs.declared.identifiers.Class.{Class}
+use Rattle.qs_world_lawful.proofs.Words.{◌≡◌, ◌≢◌, ℕ, ◌==◌, Bool, true, false, List, [], ◌∷◌, Option, Some, None, refl, sym, ap, subst, ◌∙◌, length, ◌||◌, is_some, if◌then◌else◌, ⊤, list_any, Class, Member, Outcome, ServerNo, Tid, class_of, learns_outcome, changes_in, after_notice, TransactionValue, learnt, learnt_part, may_learn_still, Part, BookValue, find_transaction, broken, member_of, MemberPart, Participant, with_server, learn_member, notice_of, Work, entry_of, face_of, part_in, part_or_new}
+use Rattle.qs_world_lawful.proofs.Words.{at_server, HoldsFiles, Holds, HoldsAt, HoldsTid, HoldsWork, book_at, and_first, eqb-true, eqb-false}
 use Rattle.qs_base.specs.declared.identifiers.Class.TheVariants as classes
-use Rattle.qs_base.specs.declared.identifiers.Member.{Member}
-use Rattle.qs_base.specs.declared.identifiers.Outcome.{Outcome}
 use Rattle.qs_base.specs.declared.identifiers.Outcome.TheVariants as outcomes
-use Rattle.qs_base.specs.declared.identifiers.ServerNo.{ServerNo}
-use Rattle.qs_base.specs.declared.identifiers.Tid.{Tid}
-use Rattle.qs_ops.specs.Members.{class_of, learns_outcome}
-use Rattle.qs_ops.specs.Server.{changes_in, after_notice}
 use Rattle.qs_ops.specs.Servers as numbers
 use Rattle.qs_book_journal.specs.declared.entry.Act.TheVariants as acts
-use Rattle.qs_book_machine.specs.Transaction.{TransactionValue, part_of, learnt, learnt_part, may_learn_still}
-use Rattle.qs_book_machine.specs.declared.transaction.Part.{Part}
-use Rattle.qs_book_machine.specs.Book.{BookValue, find_transaction}
+use Rattle.qs_book_machine.specs.Transaction.{part_of}
 use Rattle.qs_book_machine.specs.Clauses.{waits_for, earlier_servers}
-use Rattle.qs_book_machine.specs.Lawful.{broken}
 use Rattle.qs_tm.specs.Manager as tm
 use Rattle.qs_tm.specs.Members as rules
 use Rattle.qs_tm.specs.Members.{all_servers}
 use Rattle.qs_tm.specs.Outcomes as outcome_rules
-use Rattle.qs_tm.specs.Participant.{member_of}
-use Rattle.qs_tm.specs.declared.members.MemberPart.{MemberPart}
-use Rattle.qs_tm.specs.declared.participant.Participant.{Participant}
-use Rattle.qs_node_servers.specs.Servers.{with_server}
-use Rattle.qs_node_step.specs.Deciding.{learn_member, notice_of}
-use Rattle.qs_node_step.specs.State.{Work, NodeValue}
-use Rattle.qs_world.specs.Posting.{entry_of}
-use Rattle.qs_world_lawful.specs.Face.{face_of, part_in, part_or_new, at_server}
-use Rattle.qs_world_lawful.specs.Filed.{HoldsFiles}
-use Rattle.qs_world_lawful.specs.Holds.{Holds, HoldsAt, HoldsTid, is_kept}
-use Rattle.qs_world_lawful.specs.Entering.{HoldsWork, book_at}
+use Rattle.qs_node_step.specs.State.{NodeValue}
+use Rattle.qs_world_lawful.specs.Holds.{is_kept}
 use Rattle.qs_world_lawful.proofs.Casting.{told_all, part_learnt}
 use Rattle.qs_world_lawful.proofs.Clauses.{may_learn, of_tid}
 use Rattle.qs_world_lawful.proofs.Faces.{part_changed}
@@ -145,32 +124,22 @@ module _ (stamp : ℕ) (before : BookValue) (tid : Tid) (outcome : Outcome) wher
           (ap (λ (p : Participant). rules.is_to_learn (class_of server.0) (member_of p server)) in_face ∙ due) (waits_alike (earlier_servers (class_of server.0)) (earlier_learn (class_of server.0)) ∙ first)
 
       part_due : (part_of tx member inc).due ≡ true
-      part_due = both (part_of tx member inc).due _ ((of_held.members refl server kept).learns told ∙ due)
-        where
-          both : (a b : Bool) → (a && b) ≡ true → a ≡ true
-          both true b e = refl
-          both false b e = absurd (cc e)
+      part_due = and_first (part_of tx member inc).due _ ((of_held.members refl server kept).learns told ∙ due)
 
       pending : (part_of (learnt member inc outcome tx) (at_server node.setting.node rules.files_no) inc).pending ≡ length (changes_in (with_server server (λ value. after_notice value tid (notice_of outcome)) node.servers).files tid)
       pending = by (server.0 == numbers.files_no) refl
         where
-          number_is : (a b : ℕ) → (a == b) ≡ true → a ≡ b
-          number_is a b e = grind (arith, nat_tests, e)
-
-          differ : (a b : ℕ) → (a == b) ≡ false → a ≢ b
-          differ a b e s = grind (arith, nat_tests, e, s)
-
           none_pending : (o : Outcome) (p : Part) → (learnt_part o p).pending ≡ 0
           none_pending outcomes.Commit p = refl
           none_pending outcomes.Abort p = refl
 
           by : (b : Bool) → (server.0 == numbers.files_no) ≡ b → (part_of (learnt member inc outcome tx) (at_server node.setting.node rules.files_no) inc).pending ≡ length (changes_in (with_server server (λ value. after_notice value tid (notice_of outcome)) node.servers).files tid)
           by true is =
-              let it : server ≡ rules.files_no = ap (λ (n : ℕ). record { 0 = n }) (number_is server.0 numbers.files_no is) in
+              let it : server ≡ rules.files_no = ap (λ (n : ℕ). record { 0 = n }) (eqb-true server.0 numbers.files_no is) in
               subst (λ (s : ServerNo). (part_of (learnt member inc outcome tx) (at_server node.setting.node s) inc).pending ≡ length (changes_in (with_server server (λ value. after_notice value tid (notice_of outcome)) node.servers).files tid)) it
               (ap (λ (p : Part). p.pending) (part_learnt tx member inc outcome (member_of m.part server) (of_held.members refl server kept) told part_due) ∙ (none_pending outcome (part_of tx member inc) ∙ sym (learnt_pending node.servers m.files server tid outcome is)))
           by false is =
-              ap (λ (p : Part). p.pending) (learnt_elsewhere member inc outcome tx (at_server node.setting.node rules.files_no) (lives_apart node.setting.node inc server rules.files_no (differ server.0 numbers.files_no is)))
+              ap (λ (p : Part). p.pending) (learnt_elsewhere member inc outcome tx (at_server node.setting.node rules.files_no) (lives_apart node.setting.node inc server rules.files_no (eqb-false server.0 numbers.files_no is)))
               ∙ (of_held.pending ∙ sym (elsewhere_pending node.servers m.files server tid (λ value. after_notice value tid (notice_of outcome)) is))
 
       learnt_now : Midst stamp before tid outcome (learn_member tid outcome work server)

@@ -1,19 +1,8 @@
 -- All servers of a node that are to learn an outcome learn it, in order of their classes.
-use Rattle.std.proofs.Common.{◌≡◌, ◌≢◌, ℕ, ◌==◌, Bool, true, false, List, [], ◌∷◌, ◌++◌, Option, Some, None, refl, sym, ap, subst, ◌∙◌, fold, arith}
-use Rattle.std.proofs.lemmas.Bool.Decides.{nat_tests}
-use Rattle.std.specs.Prelude.{◌||◌, if◌then◌else◌}
-use Rattle.std.specs.List.{filter}
-use Rattle.qs_base.specs.declared.identifiers.Outcome.{Outcome}
-use Rattle.qs_base.specs.declared.identifiers.Tid.{Tid}
-use Rattle.qs_ops.specs.Members.{class_of}
-use Rattle.qs_book_machine.specs.Book.{BookValue}
+use Rattle.qs_world_lawful.proofs.Words.{◌≡◌, ℕ, Bool, true, false, List, [], ◌∷◌, ◌++◌, Option, Some, None, refl, sym, ap, subst, ◌∙◌, fold, ◌||◌, if◌then◌else◌, filter, Outcome, Tid, class_of, BookValue, member_of, learners, is_due_at, servers_due, Participant, learn_member, learn_members, learners_at, Work, eqb-false}
 use Rattle.qs_tm.specs.Members as rules
 use Rattle.qs_tm.specs.Members.{all_servers}
-use Rattle.qs_tm.specs.Participant.{member_of, learners, is_due_at, servers_due}
 use Rattle.qs_tm.specs.declared.participant.Due.TheVariants as dues
-use Rattle.qs_tm.specs.declared.participant.Participant.{Participant}
-use Rattle.qs_node_step.specs.Deciding.{learn_member, learn_members, learners_at}
-use Rattle.qs_node_step.specs.State.{Work}
 use Rattle.qs_world_lawful.proofs.LearningAll.{Midst, Next, left, learn_if, next, no}
 
 -- ---- folds
@@ -72,9 +61,6 @@ module _ (stamp : ℕ) (before : BookValue) (tid : Tid) (outcome : Outcome) (wor
   none_of_five : (a b c d e : Bool) → a ≡ false → b ≡ false → c ≡ false → d ≡ false → e ≡ false → (a || (b || (c || (d || (e || false))))) ≡ false
   none_of_five a b c d e p q r s t = rw (p, q, r, s, t) refl
 
-  apart : (a b : ℕ) → (a == b) ≡ false → a ≢ b
-  apart a b e s = grind (arith, nat_tests, e, s)
-
   abbrev due_at : ℕ → Bool
   due_at n = left stamp before tid outcome m (no n)
 
@@ -88,29 +74,29 @@ module _ (stamp : ℕ) (before : BookValue) (tid : Tid) (outcome : Outcome) (wor
   w2 = learn_if (due_at 1) tid outcome (no 1) w1
 
   n2 : Next stamp before tid outcome w1 n1.after (no 1) w2
-  n2 = next stamp before tid outcome w1 n1.after (no 1) refl refl refl (due_at 1) (n1.others (no 1) (apart 0 1 refl))
+  n2 = next stamp before tid outcome w1 n1.after (no 1) refl refl refl (due_at 1) (n1.others (no 1) (eqb-false 0 1 refl))
 
   abbrev w3 : Work
   w3 = learn_if (due_at 2) tid outcome (no 2) w2
 
   n3 : Next stamp before tid outcome w2 n2.after (no 2) w3
-  n3 = next stamp before tid outcome w2 n2.after (no 2) refl refl refl (due_at 2) (n2.others (no 2) (apart 1 2 refl) ∙ n1.others (no 2) (apart 0 2 refl))
+  n3 = next stamp before tid outcome w2 n2.after (no 2) refl refl refl (due_at 2) (n2.others (no 2) (eqb-false 1 2 refl) ∙ n1.others (no 2) (eqb-false 0 2 refl))
 
   abbrev w4 : Work
   w4 = learn_if (due_at 6) tid outcome (no 6) w3
 
   n4 : Next stamp before tid outcome w3 n3.after (no 6) w4
-  n4 = next stamp before tid outcome w3 n3.after (no 6) refl refl refl (due_at 6) (n3.others (no 6) (apart 2 6 refl) ∙ (n2.others (no 6) (apart 1 6 refl) ∙ n1.others (no 6) (apart 0 6 refl)))
+  n4 = next stamp before tid outcome w3 n3.after (no 6) refl refl refl (due_at 6) (n3.others (no 6) (eqb-false 2 6 refl) ∙ (n2.others (no 6) (eqb-false 1 6 refl) ∙ n1.others (no 6) (eqb-false 0 6 refl)))
 
   -- the two-phase servers have learnt it
   done_0 : left stamp before tid outcome n4.after (no 0) ≡ false
-  done_0 = n4.others (no 0) (apart 6 0 refl) ∙ (n3.others (no 0) (apart 2 0 refl) ∙ (n2.others (no 0) (apart 1 0 refl) ∙ n1.done))
+  done_0 = n4.others (no 0) (eqb-false 6 0 refl) ∙ (n3.others (no 0) (eqb-false 2 0 refl) ∙ (n2.others (no 0) (eqb-false 1 0 refl) ∙ n1.done))
 
   done_1 : left stamp before tid outcome n4.after (no 1) ≡ false
-  done_1 = n4.others (no 1) (apart 6 1 refl) ∙ (n3.others (no 1) (apart 2 1 refl) ∙ n2.done)
+  done_1 = n4.others (no 1) (eqb-false 6 1 refl) ∙ (n3.others (no 1) (eqb-false 2 1 refl) ∙ n2.done)
 
   done_2 : left stamp before tid outcome n4.after (no 2) ≡ false
-  done_2 = n4.others (no 2) (apart 6 2 refl) ∙ n3.done
+  done_2 = n4.others (no 2) (eqb-false 6 2 refl) ∙ n3.done
 
   done_6 : left stamp before tid outcome n4.after (no 6) ≡ false
   done_6 = n4.done
@@ -120,15 +106,15 @@ module _ (stamp : ℕ) (before : BookValue) (tid : Tid) (outcome : Outcome) (wor
 
   n5 : Next stamp before tid outcome w4 n4.after (no 4) w5
   n5 = next stamp before tid outcome w4 n4.after (no 4) refl refl (none_of _ _ _ _ done_0 done_1 done_2 done_6) (due_at 4)
-      (n4.others (no 4) (apart 6 4 refl) ∙ (n3.others (no 4) (apart 2 4 refl) ∙ (n2.others (no 4) (apart 1 4 refl) ∙ n1.others (no 4) (apart 0 4 refl))))
+      (n4.others (no 4) (eqb-false 6 4 refl) ∙ (n3.others (no 4) (eqb-false 2 4 refl) ∙ (n2.others (no 4) (eqb-false 1 4 refl) ∙ n1.others (no 4) (eqb-false 0 4 refl))))
 
   abbrev w6 : Work
   w6 = learn_if (due_at 5) tid outcome (no 5) w5
 
   n6 : Next stamp before tid outcome w5 n5.after (no 5) w6
   n6 = next stamp before tid outcome w5 n5.after (no 5) refl refl
-      (none_of_five _ _ _ _ _ (n5.others (no 0) (apart 4 0 refl) ∙ done_0) (n5.others (no 1) (apart 4 1 refl) ∙ done_1) (n5.others (no 2) (apart 4 2 refl) ∙ done_2) (n5.others (no 6) (apart 4 6 refl) ∙ done_6) n5.done) (due_at 5)
-      (n5.others (no 5) (apart 4 5 refl) ∙ (n4.others (no 5) (apart 6 5 refl) ∙ (n3.others (no 5) (apart 2 5 refl) ∙ (n2.others (no 5) (apart 1 5 refl) ∙ n1.others (no 5) (apart 0 5 refl)))))
+      (none_of_five _ _ _ _ _ (n5.others (no 0) (eqb-false 4 0 refl) ∙ done_0) (n5.others (no 1) (eqb-false 4 1 refl) ∙ done_1) (n5.others (no 2) (eqb-false 4 2 refl) ∙ done_2) (n5.others (no 6) (eqb-false 4 6 refl) ∙ done_6) n5.done) (due_at 5)
+      (n5.others (no 5) (eqb-false 4 5 refl) ∙ (n4.others (no 5) (eqb-false 6 5 refl) ∙ (n3.others (no 5) (eqb-false 2 5 refl) ∙ (n2.others (no 5) (eqb-false 1 5 refl) ∙ n1.others (no 5) (eqb-false 0 5 refl)))))
 
   learners_is : learners_at tid work ≡ learners m.part
   learners_is = ap (λ (o : Option Participant). elim o [ None ↦ [] | Some p ↦ learners p ]) m.known

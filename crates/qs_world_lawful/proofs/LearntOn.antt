@@ -1,33 +1,10 @@
 -- Each act of a node that runs leaves what members learnt: a transaction stays in the machine, and what learnt commit has learnt it.
-use Rattle.std.proofs.Common.{◌≡◌, ℕ, [], ◌∷◌, Bool, true, false, List, Option, Some, None, refl, ap, subst, sym, inl, inr, ◌∙◌, fold, arith, if◌then◌else◌}
-use Rattle.std.specs.Prelude.{slice_get, nat_lt, ◌||◌, ⊤}
-use Rattle.std.specs.Map.{lookup, set_value}
-use Rattle.std.specs.BTreeMap.{is_at}
-use Rattle.std.specs.List.{list_any}
-use Rattle.std.specs.declared.cmp.Ordering.{Ordering}
-use Rattle.std.specs.declared.cmp.Ordering.TheVariants.{Less, Equal, Greater}
-use Rattle.std.specs.BTreeSet.{insert_key}
-use Rattle.std.proofs.lemmas.Bool.Decides.{nat_tests}
-use Rattle.qs_base.specs.Order.{tid_cmp, member_cmp, same_member}
-use Rattle.qs_base.proofs.Same.{same_member-self}
-use Rattle.qs_base.specs.declared.identifiers.ClientNo.{ClientNo}
-use Rattle.qs_base.specs.declared.identifiers.Member.{Member}
-use Rattle.qs_base.specs.declared.identifiers.Outcome.{Outcome}
+use Rattle.qs_world_lawful.proofs.Words.{◌≡◌, ℕ, [], ◌∷◌, Bool, true, false, List, Option, Some, None, refl, ap, subst, sym, inl, inr, ◌∙◌, fold, arith, if◌then◌else◌, slice_get, nat_lt, ⊤, lookup, set_value, is_at, list_any, Ordering, Less, Equal, Greater, insert_key, nat_tests, tid_cmp, member_cmp, same_member, same_member-self, ClientNo, Member, Outcome, Tid, Act, Op, TransactionValue, has_learnt, with_learnt, learnt, issued, decided_at, Asking, Request, RequestNo, link_to, borrower_at}
+use Rattle.qs_world_lawful.proofs.Words.{effect_act, BookValue, find_transaction, with_transaction, with_owner, with_waiting, with_crossing, crosses, hear, waiting_of, loan_to, give_back_from, inc_at, begin, serve_node, end_node, learn_node, doubts_after, LearntOn, at_exact, Either, changed_either, lookup_put_apart, some_same, or_left, or_right}
 use Rattle.qs_base.specs.declared.identifiers.Outcome.TheVariants as outcomes
-use Rattle.qs_base.specs.declared.identifiers.Tid.{Tid}
-use Rattle.qs_book_journal.specs.declared.entry.Act.{Act}
 use Rattle.qs_book_journal.specs.declared.entry.Act.TheVariants as acts
-use Rattle.qs_ops.specs.declared.operation.Op.{Op}
-use Rattle.qs_book_machine.specs.Transaction.{TransactionValue, has_learnt, with_learnt, learnt, issued, decided_at}
-use Rattle.qs_book_machine.specs.declared.state.Asking.{Asking}
-use Rattle.qs_book_machine.specs.declared.transaction.Request.{Request}
-use Rattle.qs_book_machine.specs.declared.transaction.RequestNo.{RequestNo}
-use Rattle.qs_book_machine.specs.Clauses.{link_to, borrower_at}
-use Rattle.qs_book_machine.specs.Lawful.{effect_act}
-use Rattle.qs_book_machine.specs.Book.{BookValue, find_transaction, with_node, with_transaction, with_owner, with_waiting, with_crossing, crosses, issue, hear, answer, waiting_of, loan_to, give_back_from, inc_at, begin, serve_node, vote_here, end_node, learn_node, doubts_after}
-use Rattle.qs_world_lawful.specs.Logged.{HasLearntMore, LearntOn}
-use Rattle.qs_book_laws.proofs.Alikes.{at_exact}
-use Rattle.qs_book_laws.proofs.Maps.{Either, changed_either, lookup_put_apart}
+use Rattle.qs_book_machine.specs.Book.{with_node, issue, answer, vote_here}
+use Rattle.qs_world_lawful.specs.Logged.{HasLearntMore}
 
 pub learnt_self : (book : BookValue) → LearntOn book book
 learnt_self book tid tx found = (tx, found, λ member is. is)
@@ -38,9 +15,6 @@ learnt_then old mid new a b tid tx found =
     let q : HasLearntMore (find_transaction new tid) p.0 = b tid p.0 p.1 in
     (q.0, q.1, λ member is. q.2 member (p.2 member is))
 
-of_some : {X : Type 0} {x y : X} → Some x ≡ Some y → x ≡ y
-of_some e = cc e
-
 -- a change that keeps what was learnt
 pub transaction_learnt : (tid : Tid) (f : TransactionValue → TransactionValue) → ((tx : TransactionValue) (member : Member) → has_learnt tx member ≡ true → has_learnt (f tx) member ≡ true) → (book : BookValue) → LearntOn book (with_transaction tid f book)
 transaction_learnt tid f keeps book t tx found = by (find_transaction book tid) refl
@@ -48,7 +22,7 @@ transaction_learnt tid f keeps book t tx found = by (find_transaction book tid) 
     at : (v : TransactionValue) → Either (find_transaction book t) (find_transaction (with_transaction tid f book) t) v (f v) → HasLearntMore (find_transaction (with_transaction tid f book) t) tx
     at v (inl same) = (tx, same ∙ found, λ member is. is)
     at v (inr now) =
-        let e : v ≡ tx = of_some (sym now.0 ∙ found) in
+        let e : v ≡ tx = some_same (sym now.0 ∙ found) in
         (f v, now.1, λ member is. keeps v member (ap (λ (x : TransactionValue). has_learnt x member) e ∙ is))
 
     by : (o : Option TransactionValue) → find_transaction book tid ≡ o → HasLearntMore (find_transaction (with_transaction tid f book) t) tx
@@ -66,13 +40,6 @@ either_learnt false old x y p q = q
 
 equal_members : (m n : Member) → member_cmp m n ≡ Equal → same_member m n ≡ true
 equal_members m n is = grind (arith, nat_tests, is)
-
-or_left : (a b : Bool) → a ≡ true → (a || b) ≡ true
-or_left a b p = rw p refl
-
-or_right : (a b : Bool) → b ≡ true → (a || b) ≡ true
-or_right true b p = refl
-or_right false b p = p
 
 put_among : (test : Member → Bool) (member : Member) (ms : List Member) → list_any test ms ≡ true → list_any test (insert_key member_cmp ms member) ≡ true
 put_among test member [] h = absurd (cc h)

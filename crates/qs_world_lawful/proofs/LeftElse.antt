@@ -1,31 +1,12 @@
 -- A home that aborts leaves all other transactions, its clock, and the machine's ticks.
-use Rattle.std.proofs.Common.{◌≡◌, ℕ, ◌==◌, List, [], ◌∷◌, ◌++◌, Option, Some, None, refl, ap, ◌∙◌, fold}
-use Rattle.std.specs.Option.{option_map}
-use Rattle.std.specs.Prelude.{slice_get}
-use Rattle.qs_base.specs.declared.identifiers.NodeNo.{NodeNo}
+use Rattle.qs_world_lawful.proofs.Words.{◌≡◌, ℕ, ◌==◌, List, [], ◌∷◌, ◌++◌, Option, Some, None, refl, ap, ◌∙◌, fold, option_map, slice_get, NodeNo, ServerNo, Tid, Act, either_way, changed_at_alike, BookValue, doubts_after, end_node, learn_node, book_after, effect_act, TableValue, released, Cause, Record, enter, log_if, member_here, due_endings, end_member, end_members, give_notices, keep_outcome, learn_member, learners_at, Work, here, with_manager, Setting, Decision, entries_of, book_at}
 use Rattle.qs_base.specs.declared.identifiers.Outcome.TheVariants as outcomes
-use Rattle.qs_base.specs.declared.identifiers.ServerNo.{ServerNo}
-use Rattle.qs_base.specs.declared.identifiers.Tid.{Tid}
-use Rattle.qs_book_journal.specs.declared.entry.Act.{Act}
 use Rattle.qs_book_journal.specs.declared.entry.Act.TheVariants as acts
-use Rattle.qs_book_laws.proofs.Faces.{either_way}
-use Rattle.qs_book_laws.proofs.Maps.{changed_at_alike}
-use Rattle.qs_book_machine.specs.Book.{BookValue, doubts_after, end_node, learn_node}
-use Rattle.qs_book_machine.specs.Lawful.{book_after, effect_act}
 use Rattle.qs_book_machine.specs.Nodes as machine
-use Rattle.qs_ops.specs.Table.{TableValue, released}
-use Rattle.qs_ops.specs.declared.answer.Cause.{Cause}
 use Rattle.qs_packet.specs.declared.message.Message.TheVariants as messages
-use Rattle.qs_record.specs.declared.record.Record.{Record}
-use Rattle.qs_node_step.specs.Bringing.{enter, log_if, member_here}
-use Rattle.qs_node_step.specs.Deciding.{decide, due_endings, end_member, end_members, give_notices, keep_outcome, learn_member, learners_at}
-use Rattle.qs_node_step.specs.State.{Work, here, with_manager}
-use Rattle.qs_node_step.specs.declared.setting.Setting.{Setting}
+use Rattle.qs_node_step.specs.Deciding.{decide}
 use Rattle.qs_tm.specs.Manager as tm
 use Rattle.qs_tm.specs.Outcomes as outcome_rules
-use Rattle.qs_tm.specs.declared.manager.Decision.{Decision}
-use Rattle.qs_world.specs.Posting.{entries_of}
-use Rattle.qs_world_lawful.specs.Entering.{book_at}
 use Rattle.qs_world_lawful.proofs.Apart.{Apart}
 use Rattle.qs_world_lawful.proofs.Asking.{sent_each_entries, sent_each_node}
 use Rattle.qs_world_lawful.proofs.DecidedOutcomes.{decision_of}

@@ -1,44 +1,23 @@
 -- A loan is made, and one is given back: the rules as a whole, but for the answer.
 use Rattle.qs_tm.specs.Members as rules
-use Rattle.std.proofs.Common.{◌≡◌, ◌≢◌, ℕ, ◌+◌, ◌==◌, ◌≤◌, Bool, true, false, List, [], ◌∷◌, ◌++◌, Option, Some, None, suc, refl, sym, ap, subst, ◌∙◌, arith, length, nat_lt}
-use Rattle.std.proofs.lemmas.Bool.Decides.{nat_tests}
-use Rattle.std.specs.Prelude.{unwrap_or, if◌then◌else◌}
-use Rattle.std.specs.List.{filter}
-use Rattle.std.specs.Map.{lookup}
-use Rattle.std.specs.BTreeMap.{is_at}
-use Rattle.qs_base.specs.declared.identifiers.ClientNo.{ClientNo}
-use Rattle.qs_base.specs.declared.identifiers.Member.{Member}
-use Rattle.qs_base.specs.declared.identifiers.NodeNo.{NodeNo}
-use Rattle.qs_base.specs.declared.identifiers.Tid.{Tid}
-use Rattle.qs_book_journal.specs.declared.entry.Act.{Act}
+use Rattle.qs_world_lawful.proofs.Words.{◌≡◌, ℕ, ◌+◌, ◌==◌, ◌≤◌, Bool, true, false, List, [], ◌∷◌, ◌++◌, Option, Some, None, suc, refl, sym, ap, subst, ◌∙◌, arith, length, nat_lt, nat_tests, unwrap_or, if◌then◌else◌, filter, lookup, is_at, ClientNo, Member, NodeNo, Tid, Act, TransactionValue, no_part, life, life_cmp, changed_value, made_part, yielded_part, is_loan_due, Part, BookValue, find_transaction, inc_at, with_transaction, loan_to, give_back_from, borrower_at, effect, last_taken, enter}
+use Rattle.qs_world_lawful.proofs.Words.{make_loan, Work, with_kept, Lent, entry_of, at_server, face_of, is_loan_in, is_loan_here, is_given_back, Holds, HoldsTid, HoldsClients, HoldsWork, book_at, HoldsWaits, eqb-true, eqb-false, and_parts}
 use Rattle.qs_book_journal.specs.declared.entry.Act.TheVariants as acts
-use Rattle.qs_book_machine.specs.Transaction.{TransactionValue, part_of, no_part, life, life_cmp, borrower, changed_value, made_part, yielded_part, is_loan_due, has_loan}
-use Rattle.qs_book_machine.specs.declared.transaction.Part.{Part}
-use Rattle.qs_book_machine.specs.Book.{BookValue, find_transaction, inc_at, with_transaction, loan_to, give_back_from}
-use Rattle.qs_book_machine.specs.Clauses.{borrower_at}
-use Rattle.qs_book_machine.specs.Lawful.{effect}
+use Rattle.qs_book_machine.specs.Transaction.{part_of, borrower, has_loan}
 use Rattle.qs_book_machine.specs.Nodes as machine
-use Rattle.qs_node_kept.specs.Loans.{last_taken, give_back}
-use Rattle.qs_node_step.specs.Bringing.{enter}
-use Rattle.qs_node_step.specs.Serving.{make_loan}
-use Rattle.qs_node_step.specs.State.{Work, NodeValue, with_kept}
+use Rattle.qs_node_kept.specs.Loans.{give_back}
+use Rattle.qs_node_step.specs.State.{NodeValue}
 use Rattle.qs_node_kept.specs.Keeping.{with_now}
-use Rattle.qs_node_kept.specs.declared.kept.Lent.{Lent}
-use Rattle.qs_world.specs.Posting.{entry_of}
-use Rattle.qs_world_lawful.specs.Face.{at_server, face_of, is_loan_in, is_loan_here, is_given_back}
-use Rattle.qs_world_lawful.specs.Holds.{Holds, HoldsTid, HoldsClients}
-use Rattle.qs_world_lawful.specs.Entering.{HoldsWork, book_at}
 use Rattle.qs_world_lawful.proofs.Apart.{Apart}
 use Rattle.qs_world_lawful.proofs.Clauses.{lawful_act, of_tid}
 use Rattle.qs_world_lawful.proofs.Frames.{KeepsSeen, clients_on}
 use Rattle.qs_world_lawful.proofs.Growing.{entered}
 use Rattle.qs_world_lawful.proofs.Issuing.{most}
 use Rattle.qs_world_lawful.proofs.LentTid.{changed, loan_tid, other_client, own_client}
-use Rattle.qs_world_lawful.proofs.Loans.{new_loan, made_more, made_other, made_back, made_in, made_apart, back_more, back_same, back_other, back_apart, both}
+use Rattle.qs_world_lawful.proofs.Loans.{new_loan, made_more, made_other, made_back, made_in, made_apart, back_more, back_same, back_other, back_apart}
 use Rattle.qs_world_lawful.proofs.States.{state_itself}
 use Rattle.qs_world_lawful.proofs.LentTid.{borrower_apart}
 use Rattle.qs_world_lawful.proofs.Parts.{changed_part_apart}
-use Rattle.qs_world_lawful.specs.Waits.{HoldsWaits}
 use Rattle.qs_world_lawful.proofs.Steps.{one_changed, servers_still, tx_seen, same_owners, waits_of}
 
 -- where one of a client's counts is not 0, the machine has its part
@@ -131,14 +110,8 @@ module _ (stamp : ℕ) (before : BookValue) (work : Work) (tid : Tid) (client : 
   held : HoldsTid here inc tid tx (face_of node tid)
   held = of_tid stamp book node h.holds tid tx found
 
-  same_is : (m n : ℕ) → (m == n) ≡ true → m ≡ n
-  same_is m n e = grind (arith, nat_tests, e)
-
-  differs : (m n : ℕ) → (m == n) ≡ false → m ≢ n
-  differs m n e s = grind (arith, nat_tests, e, s)
-
   client_is : (c : ClientNo) → (client.0 == c.0) ≡ true → client ≡ c
-  client_is c e = ap (λ (n : ℕ). record { 0 = n }) (same_is client.0 c.0 e)
+  client_is c e = ap (λ (n : ℕ). record { 0 = n }) (eqb-true client.0 c.0 e)
 
   abbrev lent_tx : TransactionValue
   lent_tx = changed here inc client made_part (λ p. refl) tid tx (face_of node tid) []
@@ -157,7 +130,7 @@ module _ (stamp : ℕ) (before : BookValue) (work : Work) (tid : Tid) (client : 
       allowed b e = rw e refl
 
       there : lookup (is_at (life_cmp (life its inc))) tx.parts ≡ Some (part_of tx its inc)
-      there = some_part (λ p. p.unmade) refl tx its inc (both ((part_of tx its inc).step == stamp) (nat_lt 0 (part_of tx its inc).unmade) due).1
+      there = some_part (λ p. p.unmade) refl tx its inc (and_parts ((part_of tx its inc).step == stamp) (nat_lt 0 (part_of tx its inc).unmade) due).1
 
       one_more : (a b : ℕ) → a ≡ b → a + 1 ≡ suc b
       one_more a b e = grind (arith, e)
@@ -169,8 +142,8 @@ module _ (stamp : ℕ) (before : BookValue) (work : Work) (tid : Tid) (client : 
           by true is = subst (λ (k : ClientNo). (part_of lent_tx (borrower k here) inc).made ≡ length (filter (is_loan_here k inc) (filter (is_loan_in tid) node.kept.now.loans ++ new_loan tid client inc ∷ []))) (client_is c is)
               (ap (λ (p : Part). p.made) (own_client here inc client made_part (λ p. refl) tid tx (face_of node tid) [] there)
               ∙ (one_more _ _ (held.made client small) ∙ sym (made_more tid client inc (filter (is_loan_in tid) node.kept.now.loans))))
-          by false is = other_client here inc client made_part (λ p. refl) tid tx (face_of node tid) [] (λ p. p.made) c (differs client.0 c.0 is)
-              ∙ (held.made c fits ∙ sym (made_other tid client c inc (filter (is_loan_in tid) node.kept.now.loans) (differs client.0 c.0 is)))
+          by false is = other_client here inc client made_part (λ p. refl) tid tx (face_of node tid) [] (λ p. p.made) c (eqb-false client.0 c.0 is)
+              ∙ (held.made c fits ∙ sym (made_other tid client c inc (filter (is_loan_in tid) node.kept.now.loans) (eqb-false client.0 c.0 is)))
 
       yielded : (c : ClientNo) → nat_lt c.0 224 ≡ true → (part_of lent_tx (borrower c here) inc).yielded ≡ length (filter (is_given_back c inc) (filter (is_loan_in tid) (node.kept.now.loans ++ new_loan tid client inc ∷ [])))
       yielded c fits = rw (made_in tid client inc node.kept.now.loans) (by (client.0 == c.0) refl ∙ (held.yielded c fits ∙ sym (made_back tid client c inc (filter (is_loan_in tid) node.kept.now.loans))))
@@ -178,7 +151,7 @@ module _ (stamp : ℕ) (before : BookValue) (work : Work) (tid : Tid) (client : 
           by : (b : Bool) → (client.0 == c.0) ≡ b → (part_of lent_tx (borrower c here) inc).yielded ≡ (part_of tx (borrower c here) inc).yielded
           by true is = subst (λ (k : ClientNo). (part_of lent_tx (borrower k here) inc).yielded ≡ (part_of tx (borrower k here) inc).yielded) (client_is c is)
               (ap (λ (p : Part). p.yielded) (own_client here inc client made_part (λ p. refl) tid tx (face_of node tid) [] there))
-          by false is = other_client here inc client made_part (λ p. refl) tid tx (face_of node tid) [] (λ p. p.yielded) c (differs client.0 c.0 is)
+          by false is = other_client here inc client made_part (λ p. refl) tid tx (face_of node tid) [] (λ p. p.yielded) c (eqb-false client.0 c.0 is)
 
   -- ---- a loan is given back: the last one that was taken, made in this incarnation
 
@@ -226,7 +199,7 @@ module _ (stamp : ℕ) (before : BookValue) (work : Work) (tid : Tid) (client : 
           by : (b : Bool) → (client.0 == c.0) ≡ b → (part_of back_tx (borrower c here) inc).made ≡ (part_of tx (borrower c here) inc).made
           by true is = subst (λ (k : ClientNo). (part_of back_tx (borrower k here) inc).made ≡ (part_of tx (borrower k here) inc).made) (client_is c is)
               (ap (λ (p : Part). p.made) (own_client here inc client yielded_part (λ p. refl) tid tx (face_of node tid) [] there))
-          by false is = other_client here inc client yielded_part (λ p. refl) tid tx (face_of node tid) [] (λ p. p.made) c (differs client.0 c.0 is)
+          by false is = other_client here inc client yielded_part (λ p. refl) tid tx (face_of node tid) [] (λ p. p.made) c (eqb-false client.0 c.0 is)
 
       yielded : (c : ClientNo) → nat_lt c.0 224 ≡ true → (part_of back_tx (borrower c here) inc).yielded ≡ length (filter (is_given_back c inc) (filter (is_loan_in tid) back_loans))
       yielded c fits = by (client.0 == c.0) refl
@@ -235,5 +208,5 @@ module _ (stamp : ℕ) (before : BookValue) (work : Work) (tid : Tid) (client : 
           by true so = subst (λ (k : ClientNo). (part_of back_tx (borrower k here) inc).yielded ≡ length (filter (is_given_back k inc) (filter (is_loan_in tid) back_loans))) (client_is c so)
               (ap (λ (p : Part). p.yielded) (own_client here inc client yielded_part (λ p. refl) tid tx (face_of node tid) [] there)
               ∙ (one_more _ _ (held.yielded client small) ∙ sym (back_more client tid inc node.kept.now.loans last is stands in_inc)))
-          by false so = other_client here inc client yielded_part (λ p. refl) tid tx (face_of node tid) [] (λ p. p.yielded) c (differs client.0 c.0 so)
-              ∙ (held.yielded c fits ∙ sym (back_other client tid inc c (differs client.0 c.0 so) tid node.kept.now.loans))
+          by false so = other_client here inc client yielded_part (λ p. refl) tid tx (face_of node tid) [] (λ p. p.yielded) c (eqb-false client.0 c.0 so)
+              ∙ (held.yielded c fits ∙ sym (back_other client tid inc c (eqb-false client.0 c.0 so) tid node.kept.now.loans))

@@ -1,22 +1,9 @@
 -- A loan that is made or given back leaves what is held of its transaction.
-use Rattle.std.proofs.Common.{◌≡◌, ◌≢◌, ◌⊎◌, inl, inr, ℕ, ◌+◌, true, List, Option, Some, None, refl, sym, ap, subst, ◌∙◌, arith, length, nat_lt}
-use Rattle.std.proofs.lemmas.Bool.Decides.{nat_tests}
-use Rattle.std.specs.Prelude.{unwrap_or}
-use Rattle.std.specs.List.{filter}
-use Rattle.std.specs.Map.{lookup}
-use Rattle.std.specs.BTreeMap.{is_at}
-use Rattle.qs_base.specs.declared.identifiers.ClientNo.{ClientNo}
-use Rattle.qs_base.specs.declared.identifiers.Member.{Member}
-use Rattle.qs_base.specs.declared.identifiers.NodeNo.{NodeNo}
-use Rattle.qs_base.specs.declared.identifiers.ServerNo.{ServerNo}
-use Rattle.qs_base.specs.declared.identifiers.Tid.{Tid}
-use Rattle.qs_book_laws.proofs.Maps.{lookup_changed, changed_none}
-use Rattle.qs_book_machine.specs.Transaction.{TransactionValue, part_of, no_part, life, life_cmp, changed_value, borrower}
-use Rattle.qs_book_machine.specs.declared.transaction.Part.{Part}
+use Rattle.qs_world_lawful.proofs.Words.{◌≡◌, ◌≢◌, ◌⊎◌, inl, inr, ℕ, ◌+◌, true, List, Option, Some, None, refl, sym, ap, subst, ◌∙◌, arith, length, nat_lt, nat_tests, unwrap_or, filter, lookup, is_at, ClientNo, Member, NodeNo, ServerNo, Tid, lookup_changed, changed_none, TransactionValue, no_part, life, life_cmp, changed_value, Part, Lent, at_server, is_loan_here, is_given_back, HoldsTid}
+use Rattle.qs_book_machine.specs.Transaction.{part_of, borrower}
 use Rattle.qs_tm.specs.Members as rules
-use Rattle.qs_node_kept.specs.declared.kept.Lent.{Lent}
-use Rattle.qs_world_lawful.specs.Face.{Face, at_server, is_loan_here, is_given_back}
-use Rattle.qs_world_lawful.specs.Holds.{HoldsTid, is_kept}
+use Rattle.qs_world_lawful.specs.Face.{Face}
+use Rattle.qs_world_lawful.specs.Holds.{is_kept}
 use Rattle.qs_world_lawful.proofs.Parts.{LivesApart, member_like, changed_part_apart, same_life_or, aborts_alike}
 
 -- a borrower is none of the servers

@@ -1,3 +1,4 @@
+pub mod Words
 pub mod Served
 pub mod Turning
 pub mod TurningParts

@@ -1,15 +1,7 @@
 -- A client that served a request to take a loan in this step is due one.
-use Rattle.std.proofs.Common.{◌≡◌, ℕ, ◌+◌, ◌==◌, Bool, true, false, refl, sym, ap, subst, ◌∙◌, arith, nat_lt}
-use Rattle.std.proofs.lemmas.Bool.Decides.{nat_tests}
-use Rattle.std.specs.Prelude.{◌&&◌, if◌then◌else◌}
-use Rattle.qs_base.specs.declared.identifiers.Class.{Class}
+use Rattle.qs_world_lawful.proofs.Words.{◌≡◌, ℕ, ◌+◌, ◌==◌, Bool, true, false, refl, sym, ap, subst, ◌∙◌, arith, nat_lt, nat_tests, ◌&&◌, if◌then◌else◌, Class, ClientNo, NodeNo, class_of, TransactionValue, served_in, serving_part, is_loan_due, Part, RequestNo, eqb-self}
 use Rattle.qs_base.specs.declared.identifiers.Class.TheVariants as classes
-use Rattle.qs_base.specs.declared.identifiers.ClientNo.{ClientNo}
-use Rattle.qs_base.specs.declared.identifiers.NodeNo.{NodeNo}
-use Rattle.qs_ops.specs.Members.{class_of}
-use Rattle.qs_book_machine.specs.Transaction.{TransactionValue, part_of, served_in, serving_part, borrower, is_loan_due}
-use Rattle.qs_book_machine.specs.declared.transaction.Part.{Part}
-use Rattle.qs_book_machine.specs.declared.transaction.RequestNo.{RequestNo}
+use Rattle.qs_book_machine.specs.Transaction.{part_of, borrower}
 use Rattle.qs_world_lawful.proofs.Served.{part_served}
 
 -- a client that was asked to take a loan in this step is due one
@@ -34,15 +26,12 @@ client_class k = rw (two k, three k, four k, five k, above k) refl
 lent_due : (c : Class) (stamp : ℕ) (done : Bool) (part : Part) → c ≡ classes.Activity → (((serving_part c stamp done part).step == stamp) && nat_lt 0 (serving_part c stamp done part).unmade) ≡ true
 lent_due c stamp done part is = subst (λ (d : Class). (((serving_part d stamp done part).step == stamp) && nat_lt 0 (serving_part d stamp done part).unmade) ≡ true) (sym is) (by (part.step == stamp))
   where
-    itself : (n : ℕ) → (n == n) ≡ true
-    itself n = grind (arith, nat_tests)
-
     some : (n : ℕ) → nat_lt 0 (n + 1) ≡ true
     some n = grind (arith, nat_tests)
 
     by : (b : Bool) → ((stamp == stamp) && nat_lt 0 (if b then part.unmade + 1 else 1)) ≡ true
-    by true = rw (itself stamp, some part.unmade) refl
-    by false = rw (itself stamp) refl
+    by true = rw (eqb-self stamp, some part.unmade) refl
+    by false = rw (eqb-self stamp) refl
 
 pub serve_due : (at : RequestNo) (client : ClientNo) (here : NodeNo) (inc stamp : ℕ) (done : Bool) (tx : TransactionValue) → is_loan_due (served_in at (borrower client here) inc stamp done tx) (borrower client here) inc stamp ≡ true
 serve_due at client here inc stamp done tx =

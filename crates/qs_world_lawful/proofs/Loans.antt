@@ -1,21 +1,8 @@
 -- Loans are counted by client and incarnation: one more that is made, one more that is given back.
-use Rattle.std.proofs.Common.{◌≡◌, ◌≢◌, ℕ, ◌==◌, Bool, true, false, List, [], ◌∷◌, ◌++◌, Option, Some, None, suc, refl, sym, ap, subst, ◌∙◌, arith, length}
-use Rattle.std.proofs.lemmas.Bool.Decides.{nat_tests}
-use Rattle.std.specs.Prelude.{not, ◌&&◌, is_some, if◌then◌else◌}
-use Rattle.std.specs.List.{filter}
-use Rattle.qs_base.specs.Order.{same_tid}
-use Rattle.qs_base.specs.declared.identifiers.ClientNo.{ClientNo}
-use Rattle.qs_base.specs.declared.identifiers.Tid.{Tid}
-use Rattle.qs_base.proofs.Same.{same_tid-true, same_tid-self}
-use Rattle.qs_node_kept.specs.Loans.{is_loan_of, is_taken, last_taken, give_back}
-use Rattle.qs_node_kept.specs.declared.kept.Lent.{Lent}
-use Rattle.qs_world_lawful.specs.Face.{is_loan_in, is_loan_here, is_given_back}
+use Rattle.qs_world_lawful.proofs.Words.{◌≡◌, ◌≢◌, ℕ, ◌==◌, Bool, true, false, List, [], ◌∷◌, ◌++◌, Option, Some, None, suc, refl, sym, ap, subst, ◌∙◌, length, not, ◌&&◌, is_some, if◌then◌else◌, filter, same_tid, ClientNo, Tid, same_tid-true, same_tid-self, last_taken, Lent, is_loan_in, is_loan_here, is_given_back, not-true, eqb-true, and_parts, and_false, eqb-self, some_same}
+use Rattle.qs_node_kept.specs.Loans.{is_loan_of, is_taken, give_back}
 use Rattle.qs_world_lawful.proofs.Faces.{filter_last, filter_more}
-
-pub both : (a b : Bool) → (a && b) ≡ true → (a ≡ true) × (b ≡ true)
-both true true e = (refl, refl)
-both true false e = absurd (cc e)
-both false b e = absurd (cc e)
+use Rattle.std.proofs.lemmas.Bool.{ne_eqb}
 
 length_more : {A : Type 0} (xs : List A) (x : A) → length (xs ++ x ∷ []) ≡ suc (length xs)
 length_more [] x = refl
@@ -26,31 +13,14 @@ length_more (y ∷ ys) x = ap suc (length_more ys x)
 abbrev pub new_loan : Tid → ClientNo → ℕ → Lent
 new_loan tid client inc = record { tid = tid; client = client; inc = inc; taken = false; yielded = false }
 
-itself : (n : ℕ) → (n == n) ≡ true
-itself n = grind (arith, nat_tests)
-
 pub made_more : (tid : Tid) (client : ClientNo) (inc : ℕ) (loans : List Lent) → length (filter (is_loan_here client inc) (loans ++ new_loan tid client inc ∷ [])) ≡ suc (length (filter (is_loan_here client inc) loans))
-made_more tid client inc loans = ap length (filter_last (is_loan_here client inc) loans (new_loan tid client inc) (rw (itself client.0, itself inc) refl)) ∙ length_more _ (new_loan tid client inc)
+made_more tid client inc loans = ap length (filter_last (is_loan_here client inc) loans (new_loan tid client inc) (rw (eqb-self client.0, eqb-self inc) refl)) ∙ length_more _ (new_loan tid client inc)
 
 pub made_other : (tid : Tid) (client c : ClientNo) (inc : ℕ) (loans : List Lent) → client.0 ≢ c.0 → length (filter (is_loan_here c inc) (loans ++ new_loan tid client inc ∷ [])) ≡ length (filter (is_loan_here c inc) loans)
-made_other tid client c inc loans far = ap length (filter_more (is_loan_here c inc) loans (new_loan tid client inc) (rw (differ client.0 c.0 far) refl))
-  where
-    differ : (a b : ℕ) → a ≢ b → (a == b) ≡ false
-    differ a b e = by (a == b) refl
-      where
-        same : (m n : ℕ) → (m == n) ≡ true → m ≡ n
-        same m n is = grind (arith, nat_tests, is)
-
-        by : (t : Bool) → (a == b) ≡ t → t ≡ false
-        by false is = refl
-        by true is = absurd (e (same a b is))
+made_other tid client c inc loans far = ap length (filter_more (is_loan_here c inc) loans (new_loan tid client inc) (rw (ne_eqb client.0 c.0 far) refl))
 
 pub made_back : (tid : Tid) (client c : ClientNo) (inc : ℕ) (loans : List Lent) → length (filter (is_given_back c inc) (loans ++ new_loan tid client inc ∷ [])) ≡ length (filter (is_given_back c inc) loans)
 made_back tid client c inc loans = ap length (filter_more (is_given_back c inc) loans (new_loan tid client inc) (and_false (is_loan_here c inc (new_loan tid client inc))))
-  where
-    and_false : (b : Bool) → (b && false) ≡ false
-    and_false true = refl
-    and_false false = refl
 
 pub made_in : (tid : Tid) (client : ClientNo) (inc : ℕ) (loans : List Lent) → filter (is_loan_in tid) (loans ++ new_loan tid client inc ∷ []) ≡ filter (is_loan_in tid) loans ++ new_loan tid client inc ∷ []
 made_in tid client inc loans = filter_last (is_loan_in tid) loans (new_loan tid client inc) (same_tid-self tid)
@@ -62,12 +32,9 @@ made_apart tid t client inc loans far = filter_more (is_loan_in t) loans (new_lo
 
 pub taken_of : (client : ClientNo) (tid : Tid) (loan : Lent) → is_taken client tid loan ≡ true → ((loan.client.0 == client.0) ≡ true) × (loan.tid ≡ tid)
 taken_of client tid loan is =
-    let of : is_loan_of client tid loan ≡ true = (both (is_loan_of client tid loan) loan.taken is).0 in
-    let parts = both (loan.client.0 == client.0) (same_tid loan.tid tid) of in
+    let of : is_loan_of client tid loan ≡ true = (and_parts (is_loan_of client tid loan) loan.taken is).0 in
+    let parts = and_parts (loan.client.0 == client.0) (same_tid loan.tid tid) of in
     (parts.0, same_tid-true loan.tid tid parts.1)
-
-some_same : {X : Type 0} {x y : X} → Some x ≡ Some y → x ≡ y
-some_same e = cc e
 
 -- the last one that was taken is the first loan, where no later one was
 pub last_is : (client : ClientNo) (tid : Tid) (loan last : Lent) (loans : List Lent) → is_taken client tid loan ≡ true → is_some (last_taken client tid loans) ≡ false → last_taken client tid (loan ∷ loans) ≡ Some last → loan ≡ last
@@ -100,14 +67,10 @@ module _ (client : ClientNo) (tid : Tid) (inc : ℕ) where
           → (last_taken client tid loans ≡ Some last → last.yielded ≡ false → (last.inc == inc) ≡ true → length (filter (is_given_back client inc) (filter (is_loan_in tid) (give_back client tid loans))) ≡ suc (length (filter (is_given_back client inc) (filter (is_loan_in tid) loans))))
           → length (filter (is_given_back client inc) (filter (is_loan_in tid) (give_back client tid (loan ∷ loans)))) ≡ suc (length (filter (is_given_back client inc) (filter (is_loan_in tid) (loan ∷ loans))))
       by true this more =
-          let parts = both (is_taken client tid loan) (not (is_some (last_taken client tid loans))) this in
-          let it : loan ≡ last = last_is client tid loan last loans parts.0 (turned _ parts.1) is in
+          let parts = and_parts (is_taken client tid loan) (not (is_some (last_taken client tid loans))) this in
+          let it : loan ≡ last = last_is client tid loan last loans parts.0 (not-true _ parts.1) is in
           let of = taken_of client tid loan parts.0 in
           rw this (own (subst (λ (t : Tid). same_tid tid t ≡ true) (sym of.1) (same_tid-self tid)) of.0 (subst (λ (l : Lent). (l.inc == inc) ≡ true) (sym it) in_inc) (ap (λ (l : Lent). l.yielded) it ∙ stands))
-        where
-          turned : (b : Bool) → not b ≡ true → b ≡ false
-          turned true e = absurd (cc e)
-          turned false e = refl
       by false this more =
           let rest = more (later_is client tid loan last loans this is) stands in_inc in
           rw this (past (is_loan_in tid loan) refl (is_given_back client inc loan) refl rest)
@@ -149,12 +112,9 @@ module _ (client : ClientNo) (tid : Tid) (inc : ℕ) where
   back_other c far t [] = refl
   back_other c far t (loan ∷ loans) = by (is_taken client tid loan && not (is_some (last_taken client tid loans))) refl (back_other c far t loans)
     where
-      same : (m n : ℕ) → (m == n) ≡ true → m ≡ n
-      same m n is = grind (arith, nat_tests, is)
-
       not_its : (loan.client.0 == client.0) ≡ true → (b : Bool) → (loan.client.0 == c.0) ≡ b → b ≡ false
       not_its of false is = refl
-      not_its of true is = absurd (far (sym (same loan.client.0 client.0 of) ∙ same loan.client.0 c.0 is))
+      not_its of true is = absurd (far (sym (eqb-true loan.client.0 client.0 of) ∙ eqb-true loan.client.0 c.0 is))
 
       own : (loan.client.0 == c.0) ≡ false → (a : Bool) → is_loan_in t loan ≡ a → length (filter (is_given_back c inc) (filter (is_loan_in t) (record loan { yielded = true } ∷ loans))) ≡ length (filter (is_given_back c inc) (filter (is_loan_in t) (loan ∷ loans)))
       own none true q = rw q (rw none refl)
@@ -169,7 +129,7 @@ module _ (client : ClientNo) (tid : Tid) (inc : ℕ) where
       by : (b : Bool) → (is_taken client tid loan && not (is_some (last_taken client tid loans))) ≡ b → length (filter (is_given_back c inc) (filter (is_loan_in t) (give_back client tid loans))) ≡ length (filter (is_given_back c inc) (filter (is_loan_in t) loans))
           → length (filter (is_given_back c inc) (filter (is_loan_in t) (give_back client tid (loan ∷ loans)))) ≡ length (filter (is_given_back c inc) (filter (is_loan_in t) (loan ∷ loans)))
       by true this rest =
-          let of = taken_of client tid loan (both (is_taken client tid loan) (not (is_some (last_taken client tid loans))) this).0 in
+          let of = taken_of client tid loan (and_parts (is_taken client tid loan) (not (is_some (last_taken client tid loans))) this).0 in
           rw this (own (not_its of.0 (loan.client.0 == c.0) refl) (is_loan_in t loan) refl)
       by false this rest = rw this (past (is_loan_in t loan) refl (is_given_back c inc loan) refl rest)
 
@@ -181,7 +141,7 @@ module _ (client : ClientNo) (tid : Tid) (inc : ℕ) where
       by : (b : Bool) → (is_taken client tid loan && not (is_some (last_taken client tid loans))) ≡ b → filter (is_loan_in t) (give_back client tid loans) ≡ filter (is_loan_in t) loans
           → filter (is_loan_in t) (give_back client tid (loan ∷ loans)) ≡ filter (is_loan_in t) (loan ∷ loans)
       by true this rest =
-          let of = taken_of client tid loan (both (is_taken client tid loan) (not (is_some (last_taken client tid loans))) this).0 in
+          let of = taken_of client tid loan (and_parts (is_taken client tid loan) (not (is_some (last_taken client tid loans))) this).0 in
           let out : is_loan_in t loan ≡ false = ap (same_tid t) of.1 ∙ far in
           rw this (rw out refl)
       by false this rest = rw this (past (is_loan_in t loan))

@@ -1,21 +1,7 @@
 -- A node learns or decides abort: the log has Aborted where it has a Prepare, and the node knows that it is ended.
-use Rattle.std.proofs.Common.{◌≡◌, inl, ℕ, Bool, true, false, List, [], ◌∷◌, ◌++◌, refl, sym, ap, ◌∙◌}
-use Rattle.std.specs.Prelude.{◌||◌}
-use Rattle.qs_base.specs.declared.identifiers.Tid.{Tid}
-use Rattle.qs_book_journal.specs.declared.entry.Act.{Act}
-use Rattle.qs_book_machine.specs.Book.{BookValue}
-use Rattle.qs_book_machine.specs.Lawful.{IsLawful, book_after}
-use Rattle.qs_book_laws.proofs.Outcomes.{Inv}
-use Rattle.qs_record.specs.declared.record.Record.{Record}
+use Rattle.qs_world_lawful.proofs.Words.{◌≡◌, inl, ℕ, Bool, true, false, List, [], ◌∷◌, ◌++◌, refl, sym, ap, ◌∙◌, ◌||◌, Tid, Act, BookValue, IsLawful, book_after, Inv, Record, Recovery, recovery, Participant, InLog, Work, here, entries_of, entries_so_far, book_at, Every, HasAborted, IsKnown, KeepsRecords, HoldsLogs, IsPlain}
 use Rattle.qs_record.specs.declared.record.Record.TheVariants as records
-use Rattle.qs_restart.specs.Recovery.{Recovery, recovery, ended}
-use Rattle.qs_tm.specs.declared.participant.Participant.{Participant}
-use Rattle.qs_tm.specs.declared.participant.InLog.{InLog}
-use Rattle.qs_node_step.specs.State.{Work, here}
-use Rattle.qs_world.specs.Posting.{entries_of}
-use Rattle.qs_world_lawful.specs.Entering.{entries_so_far, book_at}
-use Rattle.qs_world_lawful.specs.Logs.{Every}
-use Rattle.qs_world_lawful.specs.Logged.{HasAborted, IsKnown, KeepsRecords, HoldsLogs, IsPlain}
+use Rattle.qs_restart.specs.Recovery.{ended}
 use Rattle.qs_world_lawful.proofs.LogFrames.{every_on}
 use Rattle.qs_world_lawful.proofs.LogKeeps.{RanOn, run_plain, lawful_before, lawful_since, inv_at}
 use Rattle.qs_world_lawful.proofs.LogMarks.{ChangesPart, known_ended, known_unprepared, knows_changed}

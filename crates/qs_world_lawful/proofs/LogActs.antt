@@ -1,41 +1,17 @@
 -- The acts of a node that runs leave what its log says of the machine: all but a vote that goes on record, whose Prepare goes with
 -- it; and where a member learns commit, the log has the Commit of what is on record of it.
-use Rattle.std.proofs.Common.{◌≡◌, inl, inr, ℕ, Bool, true, false, List, Option, Some, None, refl, sym, ap, subst, ◌∙◌}
-use Rattle.std.specs.Prelude.{slice_get, is_some, ◌==◌}
-use Rattle.std.specs.Option.{option_map}
-use Rattle.std.specs.Map.{lookup, remove_entry}
-use Rattle.std.specs.BTreeMap.{is_at}
-use Rattle.qs_base.specs.Order.{tid_cmp}
-use Rattle.qs_base.specs.declared.identifiers.ClientNo.{ClientNo}
-use Rattle.qs_base.specs.declared.identifiers.Member.{Member}
-use Rattle.qs_base.specs.declared.identifiers.ServerNo.{ServerNo}
+use Rattle.qs_world_lawful.proofs.Words.{◌≡◌, inl, inr, ℕ, Bool, true, false, List, Option, Some, None, refl, sym, ap, subst, ◌∙◌, slice_get, is_some, ◌==◌, option_map, lookup, remove_entry, is_at, tid_cmp, ClientNo, Member, ServerNo, Tid, Act, Found, TableValue, committed, TransactionValue, has_learnt, learnt, BookValue, find_transaction, inc_at, learn_node, doubts_after, broken, broken_at, broken_node, effect, effect_act, is_among, is_on_record, member_at, OnRecord, Voter, voter_exact, face}
+use Rattle.qs_world_lawful.proofs.Words.{either_way, changed_at_alike, changed_at_here, lookup_changed, removed_none, removed_apart, Inv, begin_may, held, Facet, facet, Prepared, Recovery, entry_of, found_of, IsApplied, IsVoteLogged, Later, IsRecordSafe, HoldsLogged, is_plain}
 use Rattle.qs_base.specs.declared.identifiers.Outcome.TheVariants as outcomes
-use Rattle.qs_base.specs.declared.identifiers.Tid.{Tid}
-use Rattle.qs_book_journal.specs.declared.entry.Act.{Act}
 use Rattle.qs_book_journal.specs.declared.entry.Act.TheVariants as acts
-use Rattle.qs_book_journal.specs.declared.entry.Found.{Found}
-use Rattle.qs_ops.specs.Table.{TableValue, committed}
 use Rattle.qs_ops.specs.declared.vote.Vote.TheVariants as votes
-use Rattle.qs_book_machine.specs.Transaction.{TransactionValue, has_learnt, learnt}
-use Rattle.qs_book_machine.specs.Book.{BookValue, find_transaction, inc_at, learn_node, doubts_after}
 use Rattle.qs_book_machine.specs.Clauses.{is_next_tid, broken_learn}
-use Rattle.qs_book_machine.specs.Lawful.{broken, broken_at, broken_node, effect, effect_act, is_in_order}
+use Rattle.qs_book_machine.specs.Lawful.{is_in_order}
 use Rattle.qs_book_machine.specs.Nodes as machine
-use Rattle.qs_book_machine.specs.Restart.{is_among, is_on_record, member_at}
-use Rattle.qs_book_machine.specs.declared.state.OnRecord.{OnRecord}
-use Rattle.qs_book_machine.specs.declared.state.Voter.{Voter}
-use Rattle.qs_book_laws.proofs.Alikes.{voter_exact}
-use Rattle.qs_book_laws.proofs.Faces.{face, either_way}
-use Rattle.qs_book_laws.proofs.Maps.{changed_at_alike, changed_at_here, lookup_changed, removed_none}
-use Rattle.qs_book_laws.proofs.Shares.{removed_apart}
-use Rattle.qs_book_laws.proofs.Outcomes.{Inv, is_new}
-use Rattle.qs_book_laws.proofs.Steps.{stepped, begin_may, held}
+use Rattle.qs_book_laws.proofs.Outcomes.{is_new}
+use Rattle.qs_book_laws.proofs.Steps.{stepped}
 use Rattle.qs_book_laws.proofs.StillActs as still
-use Rattle.qs_book_laws.proofs.Stills.{Facet, facet, facet_at}
-use Rattle.qs_restart.specs.Recovery.{Prepared, Recovery}
-use Rattle.qs_world.specs.Posting.{entry_of}
-use Rattle.qs_world_lawful.specs.Logs.{found_of, IsApplied, IsVoteLogged}
-use Rattle.qs_world_lawful.specs.Logged.{Later, IsRecordSafe, HoldsLogged, is_plain}
+use Rattle.qs_book_laws.proofs.Stills.{facet_at}
 use Rattle.qs_world_lawful.proofs.LearntOn.{IsNewBegin, acted_learnt, has_learnt_now}
 use Rattle.qs_world_lawful.proofs.LogFrames.{later, logged_on, logged_by}
 

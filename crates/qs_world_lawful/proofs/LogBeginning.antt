@@ -1,34 +1,8 @@
 -- A transaction begins: the log says nothing of it.
-use Rattle.std.proofs.Common.{◌≡◌, ℕ, Bool, true, false, List, [], ◌∷◌, Some, None, refl, sym, ap, subst, ◌∙◌}
-use Rattle.std.specs.Prelude.{is_some}
-use Rattle.std.specs.Map.{lookup}
-use Rattle.std.specs.BTreeMap.{is_at}
-use Rattle.qs_base.specs.Order.{tid_cmp}
-use Rattle.qs_base.proofs.TidOrder.{tid_total}
-use Rattle.qs_base.specs.declared.identifiers.Tid.{Tid}
-use Rattle.qs_book_journal.specs.declared.entry.Act.{Act}
+use Rattle.qs_world_lawful.proofs.Words.{◌≡◌, ℕ, Bool, true, false, List, [], ◌∷◌, Some, None, refl, sym, ap, subst, ◌∙◌, is_some, lookup, is_at, tid_cmp, tid_total, Tid, Act, ScriptLine, at_exact, Inv, IsRising, put_rises, BookValue, find_transaction, effect, Record, Prepared, Recovery, recovery, begun_participant, Manager, Participant, enter, begin_as, put_label, Work, here, with_manager, entry_of, book_at, Every, Later, IsPrepared, IsKnown, StandsIn, KeepsRecords, KnowsLog, KeepsLogs, some_same}
 use Rattle.qs_book_journal.specs.declared.entry.Act.TheVariants as acts
-use Rattle.qs_book_journal.specs.declared.script_line.ScriptLine.{ScriptLine}
-use Rattle.qs_book_laws.proofs.Alikes.{at_exact}
-use Rattle.qs_book_laws.proofs.Outcomes.{Inv}
-use Rattle.qs_book_laws.proofs.Rising.{IsRising, put_rises}
-use Rattle.qs_book_machine.specs.Book.{BookValue, find_transaction}
-use Rattle.qs_book_machine.specs.Lawful.{effect}
 use Rattle.qs_ops.specs.declared.answer.Answer.TheVariants as answers
-use Rattle.qs_record.specs.declared.record.Record.{Record}
-use Rattle.qs_restart.specs.Recovery.{Prepared, Recovery, recovery}
 use Rattle.qs_tm.specs.Manager as tm
-use Rattle.qs_tm.specs.Participant.{begun_participant}
-use Rattle.qs_tm.specs.declared.manager.Manager.{Manager}
-use Rattle.qs_tm.specs.declared.participant.Participant.{Participant}
-use Rattle.qs_node_step.specs.Bringing.{enter}
-use Rattle.qs_node_step.specs.Commands.{begin_as}
-use Rattle.qs_node_step.specs.Serving.{put_label}
-use Rattle.qs_node_step.specs.State.{Work, here, with_manager}
-use Rattle.qs_world.specs.Posting.{entry_of}
-use Rattle.qs_world_lawful.specs.Entering.{book_at}
-use Rattle.qs_world_lawful.specs.Logs.{Every}
-use Rattle.qs_world_lawful.specs.Logged.{Later, IsPrepared, IsKnown, StandsIn, KeepsRecords, KnowsLog, KeepsLogs}
 use Rattle.qs_world_lawful.proofs.LogActs.{fresh}
 use Rattle.qs_world_lawful.proofs.LogKeeps.{run_plain, keeps_then, by_quiet, lawful_before, lawful_since, inv_at}
 use Rattle.qs_world_lawful.proofs.LogRules.{log_of, held_without}
@@ -62,13 +36,10 @@ module _ (book later : BookValue) (on : Later book later) (log : Recovery) (mana
     parts = λ t q is. by t q (is_at (tid_cmp t) tid) refl (sym (there t) ∙ is);
   }
     where
-      of_some : {x y : Participant} → Some x ≡ Some y → x ≡ y
-      of_some e = cc e
-
       by : (t : Tid) (q : Participant) (b : Bool) → is_at (tid_cmp t) tid ≡ b → tm.part_of t (tm.put_part tid part manager) ≡ Some q → KeepsRecords later log t q
       by t q true same is =
           let e : t ≡ tid = at_exact t tid same in
-          let own : part ≡ q = of_some (sym (put_there tid part manager) ∙ subst (λ (x : Tid). tm.part_of x (tm.put_part tid part manager) ≡ Some q) e is) in
+          let own : part ≡ q = some_same (sym (put_there tid part manager) ∙ subst (λ (x : Tid). tm.part_of x (tm.put_part tid part manager) ≡ Some q) e is) in
           keeps_marks book later log on t q None (record { prepared = ap (λ p. p.log.prepared) (sym own) ∙ unprepared; listed = ap (λ p. p.log.listed) (sym own) ∙ unlisted }) (λ was e. absurd (cc e))
       by t q false far is =
           keeps_marks book later log on t q (Some q) (record { log = refl; outcome = refl; involved = λ x. x }) (λ was e. h.parts t was (sym (put_apart tid t part manager far) ∙ (is ∙ e)))

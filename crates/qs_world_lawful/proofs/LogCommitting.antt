@@ -1,29 +1,9 @@
 -- A node decides or learns commit: its members learn it, and the log has the Commit where it has a Prepare or a node is to be told.
-use Rattle.std.proofs.Common.{◌≡◌, inl, inr, ℕ, Bool, true, false, List, [], ◌∷◌, ◌++◌, Option, Some, None, refl, sym, ap, subst, ◌∙◌}
-use Rattle.std.specs.Prelude.{is_some, ◌||◌}
-use Rattle.qs_base.specs.declared.identifiers.NodeNo.{NodeNo}
+use Rattle.qs_world_lawful.proofs.Words.{◌≡◌, inl, inr, ℕ, Bool, true, false, List, [], ◌∷◌, ◌++◌, Option, Some, None, refl, sym, ap, subst, ◌∙◌, is_some, ◌||◌, NodeNo, ServerNo, Tid, Act, Entry, TransactionValue, BookValue, find_transaction, cell_of_transaction, IsLawful, book_after, is_among, Inv, after_both, lawful_front, lawful_rest, Record, Recovery, recovery, names_transaction, found_commit, InLog, Participant, Work, here, entries_of, entries_so_far, book_at, Every, HasCommitted, IsPrepared}
+use Rattle.qs_world_lawful.proofs.Words.{IsKnown, HoldsLogs, IsPlain, or-true}
 use Rattle.qs_base.specs.declared.identifiers.Outcome.TheVariants as outcomes
-use Rattle.qs_base.specs.declared.identifiers.ServerNo.{ServerNo}
-use Rattle.qs_base.specs.declared.identifiers.Tid.{Tid}
-use Rattle.qs_book_journal.specs.declared.entry.Act.{Act}
-use Rattle.qs_book_journal.specs.declared.entry.Entry.{Entry}
-use Rattle.qs_book_machine.specs.Transaction.{TransactionValue}
-use Rattle.qs_book_machine.specs.Book.{BookValue, find_transaction, cell_of_transaction}
-use Rattle.qs_book_machine.specs.Lawful.{IsLawful, book_after}
-use Rattle.qs_book_machine.specs.Restart.{is_among}
 use Rattle.qs_book_machine.specs.declared.transaction.Cell.TheVariants as cells
-use Rattle.qs_book_laws.proofs.Outcomes.{Inv}
-use Rattle.qs_book_laws.proofs.Steps.{after_both, lawful_front, lawful_rest}
-use Rattle.qs_record.specs.declared.record.Record.{Record}
 use Rattle.qs_record.specs.declared.record.Record.TheVariants as records
-use Rattle.qs_restart.specs.Recovery.{Recovery, recovery, names_transaction, found_commit}
-use Rattle.qs_tm.specs.declared.participant.InLog.{InLog}
-use Rattle.qs_tm.specs.declared.participant.Participant.{Participant}
-use Rattle.qs_node_step.specs.State.{Work, here}
-use Rattle.qs_world.specs.Posting.{entries_of}
-use Rattle.qs_world_lawful.specs.Entering.{entries_so_far, book_at}
-use Rattle.qs_world_lawful.specs.Logs.{Every}
-use Rattle.qs_world_lawful.specs.Logged.{HasCommitted, IsPrepared, IsKnown, HoldsLogs, IsPlain}
 use Rattle.qs_world_lawful.proofs.LogFrames.{every_on}
 use Rattle.qs_world_lawful.proofs.LogKeeps.{RanOn, run_plain, later_then, map_both, lawful_before, lawful_since, inv_at}
 use Rattle.qs_world_lawful.proofs.LogLearning.{IsClear, LearntAll, learn_acts, all_learn, clear}
@@ -122,12 +102,8 @@ module _ (stamp : ℕ) (before : BookValue) (i : Inv before) (disk waiting : Lis
             alike = λ unforced. is_forced unforced;
           }))
         where
-          or_true : (b : Bool) → (b || true) ≡ true
-          or_true true = refl
-          or_true false = refl
-
           is_forced : {X : Type 0} → new.out.force ≡ false → X
-          is_forced unforced = absurd (cc (sym (forced ∙ or_true work.out.force) ∙ unforced))
+          is_forced unforced = absurd (cc (sym (forced ∙ or-true work.out.force) ∙ unforced))
 
     -- the log has no Prepare of it, and nobody is to be told
     pub held_unwritten : new.out.records ≡ work.out.records → new.out.force ≡ work.out.force → was.log.prepared ≡ false → now.log ≡ was.log → HoldsLogs stamp before disk waiting new

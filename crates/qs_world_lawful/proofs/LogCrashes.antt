@@ -1,37 +1,11 @@
 -- A node stops, in place of a step or in a step whose batch is lost: a restart will find the log that is on the disk.
-use Rattle.std.proofs.Common.{◌≡◌, ◌⊎◌, inl, inr, ℕ, Bool, true, false, List, [], ◌∷◌, ◌++◌, Option, Some, None, refl, sym, subst, ◌∙◌}
-use Rattle.std.specs.Prelude.{nat_lt, slice_get}
-use Rattle.std.specs.Map.{lookup}
-use Rattle.std.specs.BTreeMap.{is_at}
-use Rattle.qs_base.specs.declared.identifiers.Tid.{Tid}
+use Rattle.qs_world_lawful.proofs.Words.{◌≡◌, ◌⊎◌, inl, inr, ℕ, Bool, true, false, List, [], ◌∷◌, ◌++◌, Option, Some, None, refl, sym, subst, ◌∙◌, nat_lt, slice_get, lookup, is_at, Tid, CrashCause, Entry, IsCoherent, voter_exact, voter_itself, Inv, IsBelow, IsRising, TransactionValue, Cell, BookValue, find_transaction, cell_of_transaction, book_after, effect, broken, opening, may_be_lost, is_committed, broken_restart, Opened, OnRecord, Voter, Record, Prepared, Recovery, recovery, Manager, entry_of}
+use Rattle.qs_world_lawful.proofs.Words.{is_crash, Holds, found_votes, Every, IsVoteLogged, IsCutVote, IsRecordKept, IsCommitLogged, HoldsStopped, IsRecordSafe, IsCommitMade, HoldsLogged, HoldsHost, some_same}
 use Rattle.qs_book_journal.specs.declared.entry.Act.TheVariants as acts
-use Rattle.qs_book_journal.specs.declared.entry.CrashCause.{CrashCause}
-use Rattle.qs_book_journal.specs.declared.entry.Entry.{Entry}
-use Rattle.qs_book_laws.specs.Laws.{IsCoherent}
-use Rattle.qs_book_laws.proofs.Alikes.{voter_exact, voter_itself}
-use Rattle.qs_book_laws.proofs.Outcomes.{Inv}
-use Rattle.qs_book_laws.proofs.Rising.{IsBelow, IsRising}
 use Rattle.qs_book_laws.proofs.Tidy.{AllTidy, step_tidy, opening_tidy}
-use Rattle.qs_book_machine.specs.Transaction.{TransactionValue}
-use Rattle.qs_book_machine.specs.declared.transaction.Cell.{Cell}
 use Rattle.qs_book_machine.specs.declared.transaction.Cell.TheVariants as cells
-use Rattle.qs_book_machine.specs.Book.{BookValue, find_transaction, cell_of_transaction}
-use Rattle.qs_book_machine.specs.Lawful.{book_after, effect, broken}
 use Rattle.qs_book_machine.specs.Nodes as machine
-use Rattle.qs_book_machine.specs.Opening.{opening}
-use Rattle.qs_book_machine.specs.Restart.{may_be_lost, is_committed, broken_restart}
-use Rattle.qs_book_machine.specs.declared.opened.Opened.{Opened}
-use Rattle.qs_book_machine.specs.declared.state.OnRecord.{OnRecord}
-use Rattle.qs_book_machine.specs.declared.state.Voter.{Voter}
-use Rattle.qs_record.specs.declared.record.Record.{Record}
-use Rattle.qs_restart.specs.Recovery.{Prepared, Recovery, recovery}
-use Rattle.qs_tm.specs.declared.manager.Manager.{Manager}
-use Rattle.qs_world.specs.Posting.{entry_of}
-use Rattle.qs_book_machine.specs.Clauses.{is_crash}
 use Rattle.qs_node_step.specs.State as state
-use Rattle.qs_world_lawful.specs.Holds.{Holds}
-use Rattle.qs_world_lawful.specs.Logs.{found_votes, Every, IsVoteLogged, IsCutVote, IsRecordKept, IsCommitLogged, HoldsStopped}
-use Rattle.qs_world_lawful.specs.Logged.{IsRecordSafe, IsCommitMade, HoldsLogged, HoldsHost}
 use Rattle.qs_world_lawful.proofs.LogActs.{LoggedAfter, by_plain, acted_later}
 use Rattle.qs_world_lawful.proofs.Marks.{knows_on, knows_self}
 use Rattle.qs_world_lawful.proofs.NamedActs.{named_after}
@@ -62,21 +36,15 @@ every_found P (e ∷ es) rising gives = (gives e.0 e.1 (rw (voter_itself e.0) re
 
 lost : (here : ℕ) (tid : Tid) (o : Option TransactionValue) → cell_of_transaction o ≡ Some cells.Abort → may_be_lost here tid o ≡ true
 lost here tid None e = absurd (cc e)
-lost here tid (Some tx) e = by tx.cell refl (of_some e)
+lost here tid (Some tx) e = by tx.cell refl (some_same e)
   where
-    of_some : {x y : Cell} → Some x ≡ Some y → x ≡ y
-    of_some p = cc p
-
     by : (c : Cell) → tx.cell ≡ c → tx.cell ≡ cells.Abort → may_be_lost here tid (Some tx) ≡ true
     by c is aborted = rw aborted refl
 
 made : (here : ℕ) (tid : Tid) (o : Option TransactionValue) → cell_of_transaction o ≡ Some cells.Commit → is_committed here tid o ≡ true
 made here tid None e = absurd (cc e)
-made here tid (Some tx) e = committed (of_some e)
+made here tid (Some tx) e = committed (some_same e)
   where
-    of_some : {x y : Cell} → Some x ≡ Some y → x ≡ y
-    of_some p = cc p
-
     committed : tx.cell ≡ cells.Commit → is_committed here tid (Some tx) ≡ true
     committed is = rw is refl
 
@@ -127,10 +95,7 @@ module _ (opened : List Opened) (history : List Entry) (coherent : IsCoherent op
     may_find = stopped n book h.state (recovery disk) (ran_tidy history (opening opened) (opening_tidy opened coherent) n h.state h.there).records h.on_disk
 
     pub may_rise : (state : machine.NodeValue) → slice_get book.nodes n ≡ Some state → (inc : ℕ) → nat_lt state.inc inc ≡ true → broken_restart n book state inc (found_votes (recovery disk)) (recovery disk).committed ≡ None
-    may_rise state there inc rises = may_restart n book state disk inc rises (subst (λ (v : machine.NodeValue). HoldsStopped n book v (recovery disk)) (of_some (sym h.there ∙ there)) may_find)
-      where
-        of_some : {x y : machine.NodeValue} → Some x ≡ Some y → x ≡ y
-        of_some e = cc e
+    may_rise state there inc rises = may_restart n book state disk inc rises (subst (λ (v : machine.NodeValue). HoldsStopped n book v (recovery disk)) (some_same (sym h.there ∙ there)) may_find)
 
 -- a crash is lawful, where the machine holds what the node has
 pub may_crash : (stamp : ℕ) (book : BookValue) (node : state.NodeValue) → Holds stamp book node → (cause : CrashCause) → is_crash cause ≡ true → broken book (entry_of node.setting.node.0 stamp (acts.Crash cause)) ≡ None

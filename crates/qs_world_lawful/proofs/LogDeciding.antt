@@ -1,37 +1,15 @@
 -- The home decides commit, or anything of what it does not know.
-use Rattle.std.proofs.Common.{◌≡◌, ℕ, Bool, true, false, List, [], ◌∷◌, ◌++◌, Option, Some, None, refl, ap, ◌∙◌, fold, append_assoc, if◌then◌else◌}
-use Rattle.std.specs.Prelude.{◌||◌, slice_get}
-use Rattle.std.specs.BTreeMap.{is_at}
-use Rattle.qs_base.specs.Order.{tid_cmp}
-use Rattle.qs_base.specs.declared.identifiers.NodeNo.{NodeNo}
-use Rattle.qs_base.specs.declared.identifiers.Outcome.{Outcome}
+use Rattle.qs_world_lawful.proofs.Words.{◌≡◌, ℕ, Bool, true, false, List, [], ◌∷◌, ◌++◌, Option, Some, None, refl, ap, ◌∙◌, fold, append_assoc, if◌then◌else◌, ◌||◌, slice_get, is_at, tid_cmp, NodeNo, Outcome, Tid, listed, Act, Cause, changed_none, lookup_changed, Inv, held, TransactionValue, is_open, decided_at, BookValue, find_transaction, cell_of_transaction, broken, effect, Record, learners, InLog, Participant, enter, send_each, log, learn_member, learners_at, give_notices, keep_outcome}
+use Rattle.qs_world_lawful.proofs.Words.{decide_as, Work, here, with_manager, entry_of, book_at, HasOutcome, KeepsLogs}
 use Rattle.qs_base.specs.declared.identifiers.Outcome.TheVariants as outcomes
-use Rattle.qs_base.specs.declared.identifiers.Tid.{Tid}
-use Rattle.qs_engage.specs.Nodes.{listed}
-use Rattle.qs_book_journal.specs.declared.entry.Act.{Act}
 use Rattle.qs_book_journal.specs.declared.entry.Act.TheVariants as acts
-use Rattle.qs_ops.specs.declared.answer.Cause.{Cause}
 use Rattle.qs_packet.specs.declared.message.Message.TheVariants as messages
-use Rattle.qs_book_laws.proofs.Maps.{changed_none, lookup_changed}
-use Rattle.qs_book_laws.proofs.Outcomes.{Inv}
-use Rattle.qs_book_laws.proofs.Steps.{decide_may, held}
-use Rattle.qs_book_machine.specs.Transaction.{TransactionValue, is_open, decided_at}
-use Rattle.qs_book_machine.specs.Book.{BookValue, find_transaction, cell_of_transaction}
-use Rattle.qs_book_machine.specs.Lawful.{broken, effect}
+use Rattle.qs_book_laws.proofs.Steps.{decide_may}
 use Rattle.qs_book_machine.specs.Nodes as machine
-use Rattle.qs_record.specs.declared.record.Record.{Record}
 use Rattle.qs_record.specs.declared.record.Record.TheVariants as records
 use Rattle.qs_tm.specs.Manager as tm
 use Rattle.qs_tm.specs.Outcomes as outcome_rules
-use Rattle.qs_tm.specs.Participant.{learners}
-use Rattle.qs_tm.specs.declared.participant.InLog.{InLog}
-use Rattle.qs_tm.specs.declared.participant.Participant.{Participant}
-use Rattle.qs_node_step.specs.Bringing.{enter, send_each, log}
-use Rattle.qs_node_step.specs.Deciding.{learn_member, learners_at, give_notices, keep_outcome, decide_as}
-use Rattle.qs_node_step.specs.State.{Work, here, part_of, with_manager}
-use Rattle.qs_world.specs.Posting.{entry_of}
-use Rattle.qs_world_lawful.specs.Entering.{book_at}
-use Rattle.qs_world_lawful.specs.Logged.{HasOutcome, KeepsLogs}
+use Rattle.qs_node_step.specs.State.{part_of}
 use Rattle.qs_world_lawful.proofs.LogActs.{acting}
 use Rattle.qs_world_lawful.proofs.LogCommitting.{held_committed, held_unwritten}
 use Rattle.qs_world_lawful.proofs.LogEndings.{quiet_notices}

@@ -1,32 +1,14 @@
 -- The home decides: the rule as a whole, commit or abort.
-use Rattle.std.proofs.Common.{◌≡◌, ℕ, Bool, true, false, List, [], ◌∷◌, ◌++◌, Option, Some, None, refl, sym, ap, ◌∙◌, append_assoc, if◌then◌else◌}
-use Rattle.qs_base.specs.declared.identifiers.NodeNo.{NodeNo}
-use Rattle.qs_base.specs.declared.identifiers.Outcome.{Outcome}
+use Rattle.qs_world_lawful.proofs.Words.{◌≡◌, ℕ, Bool, true, false, List, [], ◌∷◌, ◌++◌, Option, Some, None, refl, sym, ap, ◌∙◌, append_assoc, if◌then◌else◌, NodeNo, Outcome, Tid, listed, Act, Cause, Inv, is_open, Cell, BookValue, cell_of_transaction, IsLawful, book_after, Record, Participant, send_each, log, give_notices, decide_as, decide_commit, Work, here, entries_of, entries_so_far, book_at, Every, HasAborted, HoldsLogs, IsPlain, KeepsLogs}
 use Rattle.qs_base.specs.declared.identifiers.Outcome.TheVariants as outcomes
-use Rattle.qs_base.specs.declared.identifiers.Tid.{Tid}
-use Rattle.qs_engage.specs.Nodes.{listed}
-use Rattle.qs_book_journal.specs.declared.entry.Act.{Act}
-use Rattle.qs_ops.specs.declared.answer.Cause.{Cause}
 use Rattle.qs_ops.specs.declared.answer.Cause.TheVariants as causes
 use Rattle.qs_packet.specs.declared.message.Message.TheVariants as messages
-use Rattle.qs_book_laws.proofs.Outcomes.{Inv}
-use Rattle.qs_book_machine.specs.Transaction.{is_open}
-use Rattle.qs_book_machine.specs.declared.transaction.Cell.{Cell}
 use Rattle.qs_book_machine.specs.declared.transaction.Cell.TheVariants as cells
-use Rattle.qs_book_machine.specs.Book.{BookValue, cell_of_transaction}
-use Rattle.qs_book_machine.specs.Lawful.{IsLawful, book_after}
-use Rattle.qs_record.specs.declared.record.Record.{Record}
 use Rattle.qs_record.specs.declared.record.Record.TheVariants as records
 use Rattle.qs_tm.specs.Manager as tm
 use Rattle.qs_tm.specs.Outcomes as outcome_rules
-use Rattle.qs_tm.specs.declared.participant.Participant.{Participant}
-use Rattle.qs_node_step.specs.Bringing.{send_each, log}
-use Rattle.qs_node_step.specs.Deciding.{give_notices, decide_as, decide, decide_commit}
-use Rattle.qs_node_step.specs.State.{Work, here, part_of}
-use Rattle.qs_world.specs.Posting.{entries_of}
-use Rattle.qs_world_lawful.specs.Entering.{entries_so_far, book_at}
-use Rattle.qs_world_lawful.specs.Logs.{Every}
-use Rattle.qs_world_lawful.specs.Logged.{HasAborted, HoldsLogs, IsPlain, KeepsLogs}
+use Rattle.qs_node_step.specs.Deciding.{decide}
+use Rattle.qs_node_step.specs.State.{part_of}
 use Rattle.qs_world_lawful.proofs.LogAborting.{held_aborted, held_unrecorded}
 use Rattle.qs_world_lawful.proofs.LogDeciding.{act, decided, entered, decides, decided_now, quiet_unknown, decided_part, by_commit}
 use Rattle.qs_world_lawful.proofs.LogEndings.{quiet_notices}

@@ -1,27 +1,14 @@
 -- A node learns abort, or commit, or finds as it begins that what it had in doubt is aborted: the rules as wholes.
-use Rattle.std.proofs.Common.{◌≡◌, ℕ, Bool, true, false, List, [], ◌∷◌, ◌++◌, Some, None, refl, sym, ap, ◌∙◌, if◌then◌else◌}
-use Rattle.std.specs.Prelude.{◌||◌}
-use Rattle.qs_base.specs.declared.identifiers.Outcome.{Outcome}
+use Rattle.qs_world_lawful.proofs.Words.{◌≡◌, ℕ, Bool, true, false, List, [], ◌∷◌, ◌++◌, Some, None, refl, sym, ap, ◌∙◌, if◌then◌else◌, ◌||◌, Outcome, ServerNo, Tid, Inv, BookValue, after_notice, Notice, Record, Participant, log, log_if, member_here, end_member, due_endings, end_members, learn_member, learners_at, learn_members, give_notices, Work, with_manager, change_server, end_record, record_learnt, book_at, HasAborted, HasOutcome, HoldsLogs, KeepsLogs}
 use Rattle.qs_base.specs.declared.identifiers.Outcome.TheVariants as outcomes
-use Rattle.qs_base.specs.declared.identifiers.ServerNo.{ServerNo}
-use Rattle.qs_base.specs.declared.identifiers.Tid.{Tid}
 use Rattle.qs_book_journal.specs.declared.entry.Act.TheVariants as acts
-use Rattle.qs_book_laws.proofs.Outcomes.{Inv}
-use Rattle.qs_book_machine.specs.Book.{BookValue}
-use Rattle.qs_ops.specs.Server.{after_notice}
-use Rattle.qs_ops.specs.declared.vote.Notice.{Notice}
 use Rattle.qs_ops.specs.declared.vote.Notice.TheVariants as notices
-use Rattle.qs_record.specs.declared.record.Record.{Record}
 use Rattle.qs_record.specs.declared.record.Record.TheVariants as records
 use Rattle.qs_tm.specs.Manager as tm
 use Rattle.qs_tm.specs.Outcomes as outcome_rules
-use Rattle.qs_tm.specs.declared.participant.Participant.{Participant}
-use Rattle.qs_node_step.specs.Bringing.{log, log_if, member_here}
-use Rattle.qs_node_step.specs.Deciding.{notify, end_member, due_endings, end_members, learn_member, learners_at, learn_members, give_notices}
-use Rattle.qs_node_step.specs.State.{Work, part_of, with_manager, change_server}
-use Rattle.qs_node_step.specs.Telling.{end_record, record_learnt, learn}
-use Rattle.qs_world_lawful.specs.Entering.{book_at}
-use Rattle.qs_world_lawful.specs.Logged.{HasAborted, HasOutcome, HoldsLogs, KeepsLogs}
+use Rattle.qs_node_step.specs.Deciding.{notify}
+use Rattle.qs_node_step.specs.State.{part_of}
+use Rattle.qs_node_step.specs.Telling.{learn}
 use Rattle.qs_world_lawful.proofs.LogAborting.{ran_on, held_aborted, held_unrecorded}
 use Rattle.qs_world_lawful.proofs.LogCommitting.{held_committed, held_unwritten}
 use Rattle.qs_world_lawful.proofs.LogLearning.{Learns, learns}

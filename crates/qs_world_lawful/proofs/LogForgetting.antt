@@ -1,28 +1,10 @@
 -- What is ended is forgotten, and so is what was only read; and a transaction begins.
-use Rattle.std.proofs.Common.{◌≡◌, inr, ℕ, Bool, true, false, List, [], Option, Some, None, refl, sym, subst, ◌∙◌}
-use Rattle.std.proofs.lemmas.List.{append-nil}
-use Rattle.std.specs.Prelude.{◌||◌}
-use Rattle.std.specs.BTreeMap.{is_at}
-use Rattle.qs_base.specs.Order.{tid_cmp, same_tid}
-use Rattle.qs_base.proofs.Same.{same_tid-true}
-use Rattle.qs_base.specs.declared.identifiers.Tid.{Tid}
-use Rattle.qs_book_laws.proofs.Alikes.{at_exact}
-use Rattle.qs_book_laws.proofs.Outcomes.{Inv}
-use Rattle.qs_book_laws.proofs.Rising.{remove_rises, removed}
-use Rattle.qs_book_laws.proofs.Shares.{removed_apart}
-use Rattle.qs_book_machine.specs.Book.{BookValue}
-use Rattle.qs_record.specs.declared.record.Record.{Record}
+use Rattle.qs_world_lawful.proofs.Words.{◌≡◌, inr, ℕ, Bool, true, false, List, [], Option, Some, None, refl, sym, subst, ◌∙◌, append-nil, ◌||◌, is_at, tid_cmp, same_tid, same_tid-true, Tid, at_exact, Inv, remove_rises, removed, removed_apart, BookValue, Record, Prepared, Recovery, Manager, Participant, log, Work, here, forget, book_at, IsPrepared, IsKnown, KeepsRecords, KnowsLog, HoldsLogs, KeepsLogs}
 use Rattle.qs_record.specs.declared.record.Record.TheVariants as records
-use Rattle.qs_restart.specs.Recovery.{Prepared, Recovery, ended}
+use Rattle.qs_restart.specs.Recovery.{ended}
 use Rattle.qs_tm.specs.Manager as tm
 use Rattle.qs_tm.specs.Outcomes as outcome_rules
-use Rattle.qs_tm.specs.declared.manager.Manager.{Manager}
-use Rattle.qs_tm.specs.declared.participant.Participant.{Participant}
-use Rattle.qs_node_step.specs.Bringing.{log}
-use Rattle.qs_node_step.specs.State.{Work, here, part_of}
-use Rattle.qs_node_step.specs.Telling.{forget}
-use Rattle.qs_world_lawful.specs.Entering.{book_at}
-use Rattle.qs_world_lawful.specs.Logged.{IsPrepared, IsKnown, KeepsRecords, KnowsLog, HoldsLogs, KeepsLogs}
+use Rattle.qs_node_step.specs.State.{part_of}
 use Rattle.qs_world_lawful.proofs.LogFrames.{every_on}
 use Rattle.qs_world_lawful.proofs.LogKeeps.{later_self}
 use Rattle.qs_world_lawful.proofs.LogMarks.{ChangesPart, turned, changes_part, known_ended, knows_changed, apart_is}

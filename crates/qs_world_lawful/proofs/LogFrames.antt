@@ -1,23 +1,11 @@
 -- What the log says of the machine stands while the machine goes on: decided cells stay, what was learnt stays learnt, and what is
 -- on record is so, or was applied.
-use Rattle.std.proofs.Common.{◌≡◌, ◌⊎◌, inl, inr, ℕ, Bool, true, false, List, [], ◌∷◌, Option, Some, None, refl, sym, ap, ◌∙◌}
-use Rattle.std.specs.Prelude.{◌==◌, is_some}
-use Rattle.std.specs.Map.{lookup}
-use Rattle.std.specs.BTreeMap.{is_at}
-use Rattle.qs_base.specs.declared.identifiers.Tid.{Tid}
-use Rattle.qs_book_journal.specs.declared.entry.Found.{Found}
-use Rattle.qs_book_machine.specs.Transaction.{TransactionValue, has_learnt}
-use Rattle.qs_book_machine.specs.Book.{BookValue, find_transaction}
+use Rattle.qs_world_lawful.proofs.Words.{◌≡◌, ◌⊎◌, inl, inr, ℕ, Bool, true, false, List, [], ◌∷◌, Option, Some, None, refl, sym, ap, ◌∙◌, ◌==◌, is_some, lookup, is_at, Tid, Found, TransactionValue, has_learnt, BookValue, find_transaction, is_among, is_on_record, member_at, OnRecord, Voter, Prepared, Recovery, found_of, Every, IsApplied, IsVoteLogged, LearntOn, Later, IsRecordSafe, IsCommitMade, StandsIn, HoldsLogged}
 use Rattle.qs_book_machine.specs.Nodes as machine
-use Rattle.qs_book_machine.specs.Restart.{is_among, is_on_record, member_at}
-use Rattle.qs_book_machine.specs.declared.state.OnRecord.{OnRecord}
-use Rattle.qs_book_machine.specs.declared.state.Voter.{Voter}
 use Rattle.qs_book_machine.specs.declared.transaction.Cell.TheVariants as cells
 use Rattle.qs_book_laws.proofs.Histories.{stays}
 use Rattle.qs_book_laws.proofs.Outcomes.{Kept}
-use Rattle.qs_restart.specs.Recovery.{Prepared, Recovery}
-use Rattle.qs_world_lawful.specs.Logs.{found_of, Every, IsApplied, IsVoteLogged}
-use Rattle.qs_world_lawful.specs.Logged.{HasLearntMore, LearntOn, Later, IsRecordSafe, IsCommitMade, StandsIn, HoldsLogged}
+use Rattle.qs_world_lawful.specs.Logged.{HasLearntMore}
 
 pub every_on : {A : Type 0} (P Q : A → Type 0) → ((x : A) → P x → Q x) → (xs : List A) → Every P xs → Every Q xs
 every_on P Q gives [] h = tt

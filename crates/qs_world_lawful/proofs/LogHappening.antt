@@ -1,50 +1,26 @@
 -- What comes in a step keeps what is held of the log: commands, messages, restarts of other nodes and time.
-use Rattle.std.proofs.Common.{◌≡◌, ℕ, Bool, true, false, List, [], Option, Some, None, refl, sym, ap, ◌∙◌, if◌then◌else◌}
-use Rattle.std.specs.Prelude.{not, ◌&&◌, is_none}
-use Rattle.qs_base.specs.declared.identifiers.ClientNo.{ClientNo}
-use Rattle.qs_base.specs.declared.identifiers.NodeNo.{NodeNo}
-use Rattle.qs_base.specs.declared.identifiers.Outcome.{Outcome}
+use Rattle.qs_world_lawful.proofs.Words.{◌≡◌, ℕ, Bool, true, false, List, [], Option, Some, None, refl, sym, ap, ◌∙◌, if◌then◌else◌, not, ◌&&◌, ClientNo, NodeNo, Outcome, Tid, listed, same_node, Command, ScriptLine, Begun, Decided, Inv, BookValue, ticked, Message, Record, is_told_again, named_by, is_undecided, is_owed_by, BeginFault, Participant, kept_outcome, borrower_command, enter, send, log, begin_or_refuse, ask, open_command, owner_command, decided_answer, find_gone, is_orphaned_by, inquire}
+use Rattle.qs_world_lawful.proofs.Words.{notice_decided, notice_part, notice_tid, peer_restarted, label_at, Work, here, with_manager, with_queues, change_server, is_owner, labelled, obey, with_command, command_came, message_came, abort_old, age_rule, tick, happen, forget, end_told, take_told, take_names, told_unknown, told_known, told_at_home, told_came, take_outcome, learn_unknown, names_at, tell_came, Event, HasOutcome, IsTrueEvent, KeepsLogs, none_is, and_first, some_same, false≢true}
 use Rattle.qs_base.specs.declared.identifiers.Outcome.TheVariants as outcomes
-use Rattle.qs_base.specs.declared.identifiers.Tid.{Tid}
-use Rattle.qs_engage.specs.Nodes.{listed, same_node}
 use Rattle.qs_ipc.specs.Ipc as ipc
 use Rattle.qs_book_journal.specs.declared.entry.Act.TheVariants as acts
-use Rattle.qs_book_journal.specs.declared.script_line.Command.{Command}
 use Rattle.qs_book_journal.specs.declared.script_line.Command.TheVariants as commands
-use Rattle.qs_book_journal.specs.declared.script_line.ScriptLine.{ScriptLine}
-use Rattle.qs_node_kept.specs.declared.kept.KeptLabel.{KeptLabel}
-use Rattle.qs_node_kept.specs.declared.kept.Decided.{Decided}
-use Rattle.qs_book_laws.proofs.Outcomes.{Inv}
-use Rattle.qs_book_machine.specs.Book.{BookValue}
-use Rattle.qs_ops.specs.Timers.{ticked}
 use Rattle.qs_ops.specs.declared.answer.Answer.TheVariants as answers
 use Rattle.qs_ops.specs.declared.answer.Cause.TheVariants as causes
-use Rattle.qs_packet.specs.declared.message.Message.{Message}
 use Rattle.qs_packet.specs.declared.message.Message.TheVariants as messages
-use Rattle.qs_record.specs.declared.record.Record.{Record}
 use Rattle.qs_record.specs.declared.record.Record.TheVariants as records
 use Rattle.qs_node_servers.specs.Servers.{timers_no}
 use Rattle.qs_tm.specs.Manager as tm
 use Rattle.qs_tm.specs.Outcomes as outcome_rules
-use Rattle.qs_tm.specs.Outcomes.{is_abort, is_told_again, named_by}
+use Rattle.qs_tm.specs.Outcomes.{is_abort}
 use Rattle.qs_tm.specs.Participant as participant
-use Rattle.qs_tm.specs.Participant.{is_undecided, is_owed_by}
-use Rattle.qs_tm.specs.declared.manager.BeginFault.{BeginFault}
 use Rattle.qs_tm.specs.declared.manager.BeginFault.TheVariants as faults
-use Rattle.qs_tm.specs.declared.participant.Participant.{Participant}
-use Rattle.qs_node_step.specs.Answering.{kept_outcome}
-use Rattle.qs_node_step.specs.Borrowing.{borrower_command}
-use Rattle.qs_node_step.specs.Bringing.{enter, send, answer, log}
-use Rattle.qs_node_step.specs.Commands.{begin_or_refuse, ask, open_command, owner_command, decided_answer}
+use Rattle.qs_node_step.specs.Bringing.{answer}
 use Rattle.qs_node_step.specs.Deciding.{decide}
-use Rattle.qs_node_step.specs.Restarts.{find_gone, is_orphaned_by, inquire, notice_decided, notice_part, notice_tid, peer_restarted}
-use Rattle.qs_node_step.specs.Serving.{label_at}
-use Rattle.qs_node_step.specs.State.{Work, here, part_of, with_manager, with_queues, change_server}
-use Rattle.qs_node_step.specs.Step.{is_owner, labelled, obey, with_command, command_came, message_came, abort_old, age_rule, tick, happen}
-use Rattle.qs_node_step.specs.Telling.{forget, end_told, take_told, take_names, told_unknown, told_known, told_at_home, told_came, take_outcome, learn, learn_unknown, names_at, tell_came}
-use Rattle.qs_node_step.specs.declared.event.Event.{Event}
+use Rattle.qs_node_step.specs.State.{part_of}
+use Rattle.qs_node_step.specs.Telling.{learn}
 use Rattle.qs_node_step.specs.declared.event.Event.TheVariants as events
-use Rattle.qs_world_lawful.specs.Logged.{HasOutcome, IsTrue, IsTrueEvent, KeepsLogs}
+use Rattle.qs_world_lawful.specs.Logged.{IsTrue}
 use Rattle.qs_world_lawful.proofs.LogBeginning.{by_begin_as}
 use Rattle.qs_world_lawful.proofs.LogDecisions.{by_decide}
 use Rattle.qs_world_lawful.proofs.LogEndings.{by_learn_rule}
@@ -114,7 +90,7 @@ module _ (stamp : ℕ) (before : BookValue) (i : Inv before) (disk waiting : Lis
       by None = by_open client tid command work
       by (Some decided) = by_quiet stamp before i disk waiting work (answer client (decided_answer decided command) work) (quiet_answer client (decided_answer decided command) work)
 
-  by_labelled : (client : ClientNo) (begun : KeptLabel) (command : Command) (work : Work) → Keeps work (labelled client begun command work)
+  by_labelled : (client : ClientNo) (begun : Begun) (command : Command) (work : Work) → Keeps work (labelled client begun command work)
   by_labelled client begun command work = keeps_if stamp before i disk waiting (is_owner client begun.owner) work _ _ (by_owner client begun.tid command work) (by begun.tid)
     where
       by : (o : Option Tid) → Keeps work (elim o [ None ↦ work | Some tid ↦ borrower_command client tid command work ])
@@ -124,7 +100,7 @@ module _ (stamp : ℕ) (before : BookValue) (i : Inv before) (disk waiting : Lis
   by_met : (line : ScriptLine) (command : Command) (work : Work) → Keeps work (elim (label_at line.label work.node) [ None ↦ work | Some begun ↦ labelled line.client begun command work ])
   by_met line command work = by (label_at line.label work.node)
     where
-      by : (o : Option KeptLabel) → Keeps work (elim o [ None ↦ work | Some begun ↦ labelled line.client begun command work ])
+      by : (o : Option Begun) → Keeps work (elim o [ None ↦ work | Some begun ↦ labelled line.client begun command work ])
       by None = keeps_self stamp before i disk waiting work
       by (Some begun) = by_labelled line.client begun command work
 
@@ -146,11 +122,7 @@ module _ (stamp : ℕ) (before : BookValue) (i : Inv before) (disk waiting : Lis
   by_take_outcome tid outcome work told = by (part_of tid work) refl
     where
       undecided : (part : Participant) → is_undecided part ≡ true → part.outcome ≡ None
-      undecided part is = at part.outcome is
-        where
-          at : (o : Option Outcome) → is_none o ≡ true → o ≡ None
-          at None e = refl
-          at (Some x) e = absurd (cc e)
+      undecided part is = none_is part.outcome is
 
       of : (part : Participant) → part_of tid work ≡ Some part → (b : Bool) → is_undecided part ≡ b → Keeps work (if b then learn tid outcome part work else work)
       of part known true is = by_learn_rule stamp before i disk waiting tid work part known (undecided part is) outcome told
@@ -177,19 +149,9 @@ module _ (stamp : ℕ) (before : BookValue) (i : Inv before) (disk waiting : Lis
       quiet_acked : Quiet work (with_manager (tm.acknowledged tid peer) work)
       quiet_acked = quiet_part tid (outcome_rules.acknowledged peer) work (λ p. record { log = refl; outcome = refl; involved = λ is. is })
 
-      and_left : (a b : Bool) → (a && b) ≡ true → a ≡ true
-      and_left true b e = refl
-      and_left false b e = absurd (cc e)
-
       told_is : (o : Option Participant) → (elim o [ None ↦ false | Some part ↦ outcome_rules.is_all_told (outcome_rules.acknowledged peer part) ]) ≡ true → (part : Participant) × (o ≡ Some part) × (part.log.listed ≡ true)
       told_is None e = absurd (cc e)
-      told_is (Some part) e = (part, refl, and_left part.log.listed _ e)
-
-      of_some : {x y : Participant} → Some x ≡ Some y → x ≡ y
-      of_some e = cc e
-
-      never : false ≡ true → ⊥
-      never e = cc e
+      told_is (Some part) e = (part, refl, and_first part.log.listed _ e)
 
       by : (o : Option Participant) → part_of tid work ≡ o → (b : Bool) → tm.all_acknowledged tid peer work.node.manager ≡ b → Keeps (with_manager (tm.acknowledged tid peer) work) (end_told b tid (with_manager (tm.acknowledged tid peer) work))
       by o at false is = keeps_self stamp before i disk waiting (with_manager (tm.acknowledged tid peer) work)
@@ -200,7 +162,7 @@ module _ (stamp : ℕ) (before : BookValue) (i : Inv before) (disk waiting : Lis
           let ended : Work = log (records.End tid) w in
           keeps_then stamp before i disk waiting w ended (forget tid ended) (by_end_record stamp before i disk waiting tid w (outcome_rules.acknowledged peer t.0) known t.2)
           (by_forget stamp before i disk waiting tid ended (λ h q there prepared.
-          never (ap (λ (p : Participant). p.log.prepared) (of_some (sym (changed stamp before i disk waiting tid w (outcome_rules.acknowledged peer t.0) known t.2).now ∙ there)) ∙ prepared)))
+          false≢true (ap (λ (p : Participant). p.log.prepared) (some_same (sym (changed stamp before i disk waiting tid w (outcome_rules.acknowledged peer t.0) known t.2).now ∙ there)) ∙ prepared)))
 
   by_told : (peer : NodeNo) (tid : Tid) (further : List NodeNo) (work : Work) → Keeps work (told_came peer tid further work)
   by_told peer tid further work = keeps_if stamp before i disk waiting (same_node tid.home (here work)) work (told_at_home peer tid further work) work (by (part_of tid work)) (keeps_self stamp before i disk waiting work)

@@ -1,22 +1,8 @@
 -- A rule keeps what is held of the log: where its entries are lawful, what held before it holds after it.
-use Rattle.std.proofs.Common.{◌≡◌, ℕ, Bool, List, [], ◌∷◌, ◌++◌, Some, refl, sym, ap, subst, ◌∙◌, append_assoc}
-use Rattle.std.proofs.lemmas.List.{append-nil}
-use Rattle.std.specs.Prelude.{slice_get}
-use Rattle.qs_book_journal.specs.declared.entry.Act.{Act}
-use Rattle.qs_book_journal.specs.declared.entry.Entry.{Entry}
-use Rattle.qs_book_machine.specs.Book.{BookValue}
-use Rattle.qs_book_machine.specs.Lawful.{IsLawful, book_after, effect}
+use Rattle.qs_world_lawful.proofs.Words.{◌≡◌, ℕ, Bool, List, [], ◌∷◌, ◌++◌, Some, refl, sym, ap, subst, ◌∙◌, append_assoc, append-nil, slice_get, Act, Entry, BookValue, IsLawful, book_after, effect, Inv, ran, after_both, lawful_front, lawful_rest, Record, Recovery, recovery, Manager, Work, here, entry_of, entries_of, entries_so_far, book_at, Every, Later, IsNamed, HoldsLogged, HoldsLogs, IsPlain, KeepsLogs}
 use Rattle.qs_book_machine.specs.Nodes as machine
-use Rattle.qs_book_laws.proofs.Outcomes.{Inv}
-use Rattle.qs_book_laws.proofs.Steps.{ran, stepped, after_both, lawful_front, lawful_rest}
-use Rattle.qs_record.specs.declared.record.Record.{Record}
-use Rattle.qs_restart.specs.Recovery.{Recovery, recovery}
-use Rattle.qs_tm.specs.declared.manager.Manager.{Manager}
-use Rattle.qs_node_step.specs.State.{Work, here}
-use Rattle.qs_world.specs.Posting.{entry_of, entries_of}
-use Rattle.qs_world_lawful.specs.Entering.{entries_so_far, book_at}
-use Rattle.qs_world_lawful.specs.Logs.{Every}
-use Rattle.qs_world_lawful.specs.Logged.{Later, IsNamed, HoldsLogged, HoldsAmid, HoldsLogs, IsPlain, KeepsLogs}
+use Rattle.qs_book_laws.proofs.Steps.{stepped}
+use Rattle.qs_world_lawful.specs.Logged.{HoldsAmid}
 use Rattle.qs_world_lawful.proofs.LearntOn.{learnt_self, learnt_then}
 use Rattle.qs_world_lawful.proofs.LogActs.{by_plain, acted_later, plain_begun}
 use Rattle.qs_world_lawful.proofs.Marks.{KnowsOn, knows_on}

@@ -1,28 +1,7 @@
 -- What the rules of a step keep of the log, after a lawful history.
-use Rattle.std.proofs.Common.{◌≡◌, ◌==◌, false, ℕ, List, Some, None}
-use Rattle.qs_book_journal.specs.declared.entry.Act.{Act}
-use Rattle.qs_base.specs.declared.identifiers.ServerNo.{ServerNo}
-use Rattle.qs_base.specs.declared.identifiers.Tid.{Tid}
-use Rattle.qs_book_journal.specs.declared.entry.Entry.{Entry}
-use Rattle.qs_book_laws.specs.Laws.{IsCoherent}
-use Rattle.qs_book_laws.proofs.Openings.{opening_holds}
-use Rattle.qs_book_laws.proofs.Outcomes.{Inv}
-use Rattle.qs_book_laws.proofs.Steps.{ran}
-use Rattle.qs_book_machine.specs.Lawful.{IsLawful, book_after, broken, effect}
-use Rattle.qs_book_machine.specs.Opening.{opening}
-use Rattle.qs_book_machine.specs.declared.opened.Opened.{Opened}
-use Rattle.qs_ops.specs.declared.vote.Vote.{Vote}
-use Rattle.qs_record.specs.declared.record.Record.{Record}
-use Rattle.qs_node_step.specs.State.{Work, part_of}
-use Rattle.qs_node_step.specs.Step.{after_step, effects_of}
-use Rattle.qs_node_step.specs.Voting.{vote_with}
-use Rattle.qs_node_step.specs.declared.event.Event.{Event}
-use Rattle.qs_tm.specs.declared.manager.Manager.{Manager}
+use Rattle.qs_world_lawful.proofs.Words.{◌≡◌, ◌==◌, false, ℕ, List, Some, None, Act, ServerNo, Tid, Entry, IsCoherent, opening_holds, Inv, ran, IsLawful, book_after, broken, effect, opening, Opened, Vote, Record, Work, after_step, effects_of, vote_with, Event, Manager, entry_of, entries_of, Host, Participant, HoldsHost, IsTrueEvent, KeepsLogs}
+use Rattle.qs_node_step.specs.State.{part_of}
 use Rattle.qs_world.specs.Moves.{log_after, waiting_after}
-use Rattle.qs_world.specs.Posting.{entry_of, entries_of}
-use Rattle.qs_world.specs.World.{Host}
-use Rattle.qs_tm.specs.declared.participant.Participant.{Participant}
-use Rattle.qs_world_lawful.specs.Logged.{HoldsHost, IsTrueEvent, KeepsLogs}
 use Rattle.qs_world_lawful.proofs.LogKeeps.{by_quiet}
 use Rattle.qs_world_lawful.proofs.LogOthers.{by_other}
 use Rattle.qs_world_lawful.proofs.LogSteps.{host_kept}

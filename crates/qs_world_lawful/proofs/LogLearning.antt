@@ -1,40 +1,18 @@
 -- Members learn commit: the log has the Commit of what is on record of it, or nothing is on record of it.
-use Rattle.std.proofs.Common.{◌≡◌, ◌⊎◌, inl, inr, ℕ, Bool, true, false, List, [], ◌∷◌, ◌++◌, Option, Some, None, refl, sym, ap, subst, ◌∙◌, map, fold, append_assoc}
-use Rattle.std.proofs.lemmas.List.{append-nil}
-use Rattle.std.specs.Prelude.{slice_get, is_some, ◌&&◌}
-use Rattle.std.specs.List.{list_any}
-use Rattle.std.specs.Map.{lookup}
-use Rattle.std.specs.BTreeMap.{is_at}
-use Rattle.qs_base.specs.declared.identifiers.NodeNo.{NodeNo}
+use Rattle.qs_world_lawful.proofs.Words.{◌≡◌, ◌⊎◌, inl, inr, ℕ, Bool, true, false, List, [], ◌∷◌, ◌++◌, Option, Some, None, refl, sym, ap, subst, ◌∙◌, map, fold, append_assoc, append-nil, slice_get, is_some, list_any, lookup, is_at, NodeNo, ServerNo, Tid, Act, BookValue, IsLawful, book_after, effect, is_among, OnRecord, Voter, removed_none, Inv, Prepared, Recovery, names_transaction, Manager, Participant, learn_member, Work, here, entry_of, entries_of, Every, Later, HasAborted, HasCommitted}
+use Rattle.qs_world_lawful.proofs.Words.{IsPrepared, IsKnown, IsMarked, IsRecordSafe, IsNamed, HoldsLogged, KnowsLog, and_first}
 use Rattle.qs_base.specs.declared.identifiers.Outcome.TheVariants as outcomes
-use Rattle.qs_base.specs.declared.identifiers.ServerNo.{ServerNo}
-use Rattle.qs_base.specs.declared.identifiers.Tid.{Tid}
-use Rattle.qs_book_journal.specs.declared.entry.Act.{Act}
 use Rattle.qs_book_journal.specs.declared.entry.Act.TheVariants as acts
-use Rattle.qs_book_machine.specs.Book.{BookValue}
-use Rattle.qs_book_machine.specs.Lawful.{IsLawful, book_after, effect}
 use Rattle.qs_book_machine.specs.Nodes as machine
-use Rattle.qs_book_machine.specs.Restart.{is_among}
-use Rattle.qs_book_machine.specs.declared.state.OnRecord.{OnRecord}
-use Rattle.qs_book_machine.specs.declared.state.Voter.{Voter}
-use Rattle.qs_book_laws.proofs.Maps.{removed_none}
-use Rattle.qs_book_laws.proofs.Outcomes.{Inv}
 use Rattle.qs_book_laws.proofs.Steps.{stepped}
-use Rattle.qs_restart.specs.Recovery.{Prepared, Recovery, names_transaction}
 use Rattle.qs_tm.specs.Manager as tm
 use Rattle.qs_tm.specs.Outcomes as outcome_rules
-use Rattle.qs_tm.specs.declared.manager.Manager.{Manager}
-use Rattle.qs_tm.specs.declared.participant.Participant.{Participant}
-use Rattle.qs_node_step.specs.Deciding.{learn_member}
-use Rattle.qs_node_step.specs.State.{Work, here}
-use Rattle.qs_world.specs.Posting.{entry_of, entries_of}
-use Rattle.qs_world_lawful.specs.Logs.{Every}
-use Rattle.qs_world_lawful.specs.Logged.{Later, HasAborted, HasCommitted, IsPrepared, IsKnown, IsMarked, IsRecordSafe, IsNamed, HoldsLogged, KnowsLog}
 use Rattle.qs_world_lawful.proofs.LogActs.{acted_later, by_learn, next, next_there, records_are}
 use Rattle.qs_world_lawful.proofs.LogKeeps.{later_self, later_then}
 use Rattle.qs_world_lawful.proofs.LogRecords.{is_found, found_is, to_votes}
 use Rattle.qs_world_lawful.proofs.Marks.{SameMarks, KnowsOn, knows_self, knows_then, part_on}
 use Rattle.qs_world_lawful.proofs.NamedActs.{named_after}
+use Rattle.qs_base_lemmas.proofs.Tests.{none_some}
 
 -- ---- the machine
 
@@ -51,10 +29,6 @@ pub record LearntAll (here : ℕ) (tid : Tid) (old new : BookValue) (state : mac
 
 abbrev pub learn_acts : NodeNo → Tid → List ServerNo → List Act
 learn_acts node tid servers = map (λ (server : ServerNo). acts.Learn tid (record { node = node; server = server }) outcomes.Commit) servers
-
-no_some : {X : Type 0} (o : Option X) → o ≡ None → is_some o ≡ true → ⊥
-no_some None e h = cc h
-no_some (Some x) e h = cc e
 
 pub all_learn : (stamp here : ℕ) (tid : Tid) (servers : List ServerNo) (book : BookValue) (state : machine.NodeValue) → Inv book → IsNamed book → slice_get book.nodes here ≡ Some state
     → IsLawful book (entries_of here stamp (learn_acts (record { 0 = here }) tid servers)) → LearntAll here tid book (book_after book (entries_of here stamp (learn_acts (record { 0 = here }) tid servers))) state
@@ -75,7 +49,7 @@ all_learn stamp here tid (server ∷ servers) book state i named there lawful =
   where
     done : (log : Recovery) → IsClear tid state log → is_some (machine.record_of state tid server.0) ≡ true → is_among log.committed tid ≡ true
     done log (inl is) some = is
-    done log (inr none) some = absurd (no_some (machine.record_of state tid server.0) (none server.0) some)
+    done log (inr none) some = absurd (none_some (machine.record_of state tid server.0) (none server.0) some)
 
     still : (log : Recovery) → IsClear tid state log → IsClear tid (next book stamp here state i there tid server) log
     still log (inl is) = inl is
@@ -112,16 +86,12 @@ clear here book state manager log tid done h k unprepared = by (is_among log.com
         found : (x : Prepared) → is_found (machine.voter tid s) rec.covers x ≡ true → IsKnown manager x → IsMarked log x → ⊥
         found x at known marked = on (x.committed) refl
           where
-            and_left : (a b : Bool) → (a && b) ≡ true → a ≡ true
-            and_left true b e = refl
-            and_left false b e = absurd (cc e)
-
             same : x.tid ≡ tid
             same = (found_is (machine.voter tid s) rec.covers x at).0
 
             on : (b : Bool) → x.committed ≡ b → ⊥
             on true is_marked = clash (subst (λ (t : Tid). is_among log.committed t ≡ true) same (marked is_marked))
-            on false is_open = unprepared (subst (λ (t : Tid). IsPrepared (tm.part_of t manager)) same (known (and_left (names_transaction x.tid) _ at) is_open))
+            on false is_open = unprepared (subst (λ (t : Tid). IsPrepared (tm.part_of t manager)) same (known (and_first (names_transaction x.tid) _ at) is_open))
 
         safe : IsRecordSafe book log (machine.voter tid s) rec.covers → ⊥
         safe (inl gone) = open_cell gone

@@ -1,24 +1,8 @@
 -- What a node knows of its log where a rule changes what is kept of one transaction, and makes a record of it.
-use Rattle.std.proofs.Common.{◌≡◌, Bool, true, false, List, [], ◌∷◌, ◌++◌, Option, Some, None, refl, sym, ap, subst, ◌∙◌, map, append_assoc}
-use Rattle.std.proofs.lemmas.List.Sums.{fold-append}
-use Rattle.std.specs.Prelude.{not, if◌then◌else◌}
-use Rattle.std.specs.BTreeMap.{is_at}
-use Rattle.std.specs.List.{filter}
-use Rattle.qs_base.specs.Order.{tid_cmp, same_tid}
-use Rattle.qs_base.specs.declared.identifiers.Tid.{Tid}
-use Rattle.qs_base.proofs.Same.{same_tid-true, same_tid-self}
-use Rattle.qs_book_laws.proofs.Alikes.{at_exact, tid_itself}
-use Rattle.qs_book_laws.proofs.Maps.{changed_apart, lookup_changed}
-use Rattle.qs_book_laws.proofs.Rising.{IsRising}
-use Rattle.qs_book_machine.specs.Book.{BookValue}
-use Rattle.qs_book_machine.specs.Restart.{is_among}
-use Rattle.qs_record.specs.declared.record.Record.{Record}
-use Rattle.qs_restart.specs.Recovery.{Prepared, Recovery, recovery, nothing_said, found_record, is_of, mark_committed}
+use Rattle.qs_world_lawful.proofs.Words.{◌≡◌, Bool, true, false, List, [], ◌∷◌, ◌++◌, Option, Some, None, refl, sym, ap, subst, ◌∙◌, map, append_assoc, true≢false, fold-append, not, if◌then◌else◌, is_at, filter, tid_cmp, same_tid, Tid, same_tid-true, same_tid-self, at_exact, tid_itself, changed_apart, lookup_changed, IsRising, BookValue, is_among, Record, Prepared, Recovery, recovery, nothing_said, found_record, mark_committed, Manager, Participant, Every, Later, IsPrepared, IsKnown, KeepsRecords}
+use Rattle.qs_world_lawful.proofs.Words.{KnowsLog, not-true, both_ways, some_same}
+use Rattle.qs_restart.specs.Recovery.{is_of}
 use Rattle.qs_tm.specs.Manager as tm
-use Rattle.qs_tm.specs.declared.manager.Manager.{Manager}
-use Rattle.qs_tm.specs.declared.participant.Participant.{Participant}
-use Rattle.qs_world_lawful.specs.Logs.{Every}
-use Rattle.qs_world_lawful.specs.Logged.{Later, IsPrepared, IsKnown, KeepsRecords, KnowsLog}
 use Rattle.qs_world_lawful.proofs.Marks.{SameMarks, MarksOn, KnowsOn, marks_equal, marks_then, known_marks, keeps_marks, changed_rises}
 
 -- one more record
@@ -109,11 +93,8 @@ module _ (tid : Tid) (old new : Manager) (was now : Participant) (c : ChangesPar
   pub known_unprepared : was.log.prepared ≡ false → (vote : Prepared) → IsKnown old vote → IsKnown new vote
   known_unprepared unmarked vote is = by (same_tid vote.tid tid) refl
     where
-      clash : (b : Bool) → b ≡ false → b ≡ true → ⊥
-      clash b e f = cc (sym e ∙ f)
-
       by : (b : Bool) → same_tid vote.tid tid ≡ b → IsKnown new vote
-      by true same = λ named undone. absurd (clash was.log.prepared unmarked (subst IsPrepared c.before (subst (λ (t : Tid). IsPrepared (tm.part_of t old)) (same_tid-true vote.tid tid same) (is named undone))))
+      by true same = λ named undone. absurd (both_ways was.log.prepared unmarked (subst IsPrepared c.before (subst (λ (t : Tid). IsPrepared (tm.part_of t old)) (same_tid-true vote.tid tid same) (is named undone))))
       by false far = known_apart vote far is
 
   pub own_known : now.log.prepared ≡ true → (vote : Prepared) → vote.tid ≡ tid → IsKnown new vote
@@ -124,22 +105,15 @@ module _ (tid : Tid) (old new : Manager) (was now : Participant) (c : ChangesPar
   known_ended votes all = every_passing (IsKnown old) (IsKnown new) (λ vote. not (is_of tid vote)) (λ vote passes is. known_apart vote (not_same vote passes) is) votes all
     where
       not_same : (vote : Prepared) → not (is_of tid vote) ≡ true → same_tid vote.tid tid ≡ false
-      not_same vote passes = by (same_tid vote.tid tid) passes
-        where
-          by : (b : Bool) → not b ≡ true → b ≡ false
-          by true h = absurd (cc h)
-          by false h = refl
+      not_same vote passes = not-true (same_tid vote.tid tid) passes
 
   -- and where a Commit with a list marks them
   pub known_marked : (votes : List Prepared) → Every (IsKnown old) votes → Every (IsKnown new) (map (mark_committed tid) votes)
   known_marked [] all = tt
   known_marked (vote ∷ votes) all = (by (is_of tid vote) refl, known_marked votes all.1)
     where
-      never : true ≡ false → ⊥
-      never e = cc e
-
       by : (b : Bool) → is_of tid vote ≡ b → IsKnown new (if b then record vote { committed = true } else vote)
-      by true same = λ named undone. absurd (never undone)
+      by true same = λ named undone. absurd (true≢false undone)
       by false far = known_apart vote far all.0
 
   module _ (book later : BookValue) (on : Later book later) (log longer : Recovery) where
@@ -153,12 +127,9 @@ module _ (tid : Tid) (old new : Manager) (was now : Participant) (c : ChangesPar
         more : (t : Tid) (part : Participant) → KeepsRecords later log t part → KeepsRecords later longer t part
         more t part k = record { involved = k.involved; undone = k.undone; aborted = k.aborted; listed = k.listed; committed = k.committed; has_commit = λ is. grows t (k.has_commit is) }
 
-        of_some : {x y : Participant} → Some x ≡ Some y → x ≡ y
-        of_some e = cc e
-
         by : (t : Tid) (part : Participant) → tm.part_of t new ≡ Some part → (b : Bool) → is_at (tid_cmp t) tid ≡ b → KeepsRecords later longer t part
         by t part is true same =
             let e : t ≡ tid = at_exact t tid same in
-            let own_is : now ≡ part = of_some (sym c.now ∙ subst (λ (x : Tid). tm.part_of x new ≡ Some part) e is) in
+            let own_is : now ≡ part = some_same (sym c.now ∙ subst (λ (x : Tid). tm.part_of x new ≡ Some part) e is) in
             subst (λ (x : Tid). KeepsRecords later longer x part) (sym e) (subst (λ (p : Participant). KeepsRecords later longer tid p) own_is own)
         by t part is false far = more t part (keeps_marks book later log on t part (tm.part_of t old) (subst (λ (o : Option Participant). MarksOn (tm.part_of t old) o) is (c.others t far)) (h.parts t))

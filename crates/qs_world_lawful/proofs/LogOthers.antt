@@ -1,35 +1,15 @@
 -- What another node does leaves what is held of the log of a node.
-use Rattle.std.proofs.Common.{◌≡◌, ℕ, ◌==◌, Bool, true, false, List, [], ◌∷◌, ◌++◌, Option, Some, None, refl, sym, ap, ◌∙◌, fold, if◌then◌else◌}
-use Rattle.std.specs.Prelude.{slice_get, is_some}
-use Rattle.std.specs.Option.{option_map}
-use Rattle.std.specs.BTreeMap.{is_at}
-use Rattle.qs_base.specs.Order.{tid_cmp}
-use Rattle.qs_base.specs.declared.identifiers.Member.{Member}
+use Rattle.qs_world_lawful.proofs.Words.{◌≡◌, ℕ, ◌==◌, Bool, true, false, List, [], ◌∷◌, ◌++◌, Option, Some, None, refl, sym, ap, ◌∙◌, fold, if◌then◌else◌, slice_get, is_some, option_map, is_at, tid_cmp, Member, Tid, Act, Found, vote_by, restart_nodes, elsewhere, changed_alike, Inv, held, Facet, facet, TransactionValue, has_learnt, with_learnt, found_at, decided_at, BookValue, find_transaction, with_transaction, changed_at, learn_node, doubts_after, inc_at, broken, broken_at, effect, effect_act}
+use Rattle.qs_world_lawful.proofs.Words.{is_among, member_at, record_at, is_open_here, learn_found, commit_found, vote_found, count_of, begun_tid, abort_begun, up_to, begun_at, put_new_votes, restart, restarted_node, reopened, with_votes, new_votes, Cause, Record, recovery, Manager, entry_of, Later, LearntOn, IsNamed, HoldsHost}
 use Rattle.qs_base.specs.declared.identifiers.Outcome.TheVariants as outcomes
-use Rattle.qs_base.specs.declared.identifiers.Tid.{Tid}
-use Rattle.qs_book_journal.specs.declared.entry.Act.{Act}
 use Rattle.qs_book_journal.specs.declared.entry.Act.TheVariants as acts
-use Rattle.qs_book_journal.specs.declared.entry.Found.{Found}
-use Rattle.qs_book_laws.proofs.Faces.{vote_by}
-use Rattle.qs_book_laws.proofs.Holding.{restart_nodes}
-use Rattle.qs_book_laws.proofs.Holds.{elsewhere}
-use Rattle.qs_book_laws.proofs.Maps.{changed_alike}
-use Rattle.qs_book_laws.proofs.Outcomes.{Inv}
-use Rattle.qs_book_laws.proofs.Steps.{stepped, held}
-use Rattle.qs_book_laws.proofs.Stills.{Facet, facet, facet_at}
-use Rattle.qs_book_machine.specs.Transaction.{TransactionValue, has_learnt, with_learnt, found_at, decided_at}
-use Rattle.qs_book_machine.specs.Book.{BookValue, find_transaction, with_transaction, decide, changed_at, learn_node, doubts_after, inc_at}
-use Rattle.qs_book_machine.specs.Lawful.{broken, broken_at, effect, effect_act, is_in_order}
+use Rattle.qs_book_laws.proofs.Steps.{stepped}
+use Rattle.qs_book_laws.proofs.Stills.{facet_at}
+use Rattle.qs_book_machine.specs.Book.{decide}
+use Rattle.qs_book_machine.specs.Lawful.{is_in_order}
 use Rattle.qs_book_machine.specs.Nodes as machine
-use Rattle.qs_book_machine.specs.Restart.{is_among, member_at, record_at, is_open_here, learn_found, commit_found, vote_found, count_of, begun_tid, abort_begun, up_to, begun_at, put_new_votes, restart, restarted_node, reopened, with_votes, new_votes}
-use Rattle.qs_ops.specs.declared.answer.Cause.{Cause}
 use Rattle.qs_ops.specs.declared.answer.Cause.TheVariants as causes
 use Rattle.qs_ops.specs.declared.vote.Vote.TheVariants as votes
-use Rattle.qs_record.specs.declared.record.Record.{Record}
-use Rattle.qs_restart.specs.Recovery.{recovery}
-use Rattle.qs_tm.specs.declared.manager.Manager.{Manager}
-use Rattle.qs_world.specs.Posting.{entry_of}
-use Rattle.qs_world_lawful.specs.Logged.{Later, LearntOn, IsNamed, HoldsHost}
 use Rattle.qs_world_lawful.proofs.LearntOn.{learnt_self, learnt_then, transaction_learnt, more_learnt}
 use Rattle.qs_world_lawful.proofs.LogActs.{is_begun, plain_facets, acted_later, with_facet}
 use Rattle.qs_world_lawful.proofs.LogFrames.{later, logged_on}

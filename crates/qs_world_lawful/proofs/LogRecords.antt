@@ -1,19 +1,9 @@
 -- What the log says with one more record: a transaction that is ended, which is aborted or whose Commit the log has, and a Commit.
-use Rattle.std.proofs.Common.{◌≡◌, ◌⊎◌, inl, inr, ℕ, ◌==◌, Bool, true, false, List, [], ◌∷◌, ◌++◌, refl, sym, ap, subst, ◌∙◌, map}
-use Rattle.std.specs.Prelude.{not, ◌&&◌, ◌||◌, if◌then◌else◌}
-use Rattle.std.specs.List.{filter, list_any}
-use Rattle.qs_base.specs.Order.{same_tid}
-use Rattle.qs_base.specs.declared.identifiers.NodeNo.{NodeNo}
-use Rattle.qs_base.specs.declared.identifiers.Tid.{Tid}
-use Rattle.qs_base.proofs.Same.{same_tid-true, same_tid-self}
-use Rattle.qs_book_machine.specs.Book.{BookValue}
+use Rattle.qs_world_lawful.proofs.Words.{◌≡◌, ◌⊎◌, inl, inr, ℕ, ◌==◌, Bool, true, false, List, [], ◌∷◌, ◌++◌, refl, sym, ap, subst, ◌∙◌, map, not, ◌&&◌, ◌||◌, if◌then◌else◌, filter, list_any, same_tid, NodeNo, Tid, same_tid-true, same_tid-self, BookValue, is_among, is_found_as, Voter, Prepared, Recovery, names_transaction, open_vote, mark_committed, found_commit, found_of, found_votes, Every, IsVoteLogged, HasAborted, HasCommitted, IsRecordSafe, IsCommitMade, IsMarked, StandsIn, HoldsLogged}
+use Rattle.qs_world_lawful.proofs.Words.{and_first, and_last}
 use Rattle.qs_book_machine.specs.Nodes as machine
-use Rattle.qs_book_machine.specs.Restart.{is_among, is_found_as}
-use Rattle.qs_book_machine.specs.declared.state.Voter.{Voter}
-use Rattle.qs_restart.specs.Recovery.{Prepared, Recovery, names_transaction, open_vote, is_of, ended, mark_committed, found_commit, changes_at, files_no, audit_no, extra_no}
+use Rattle.qs_restart.specs.Recovery.{is_of, ended, changes_at, files_no, audit_no, extra_no}
 use Rattle.qs_world.specs.Moves as moves
-use Rattle.qs_world_lawful.specs.Logs.{found_of, found_votes, Every, IsVoteLogged}
-use Rattle.qs_world_lawful.specs.Logged.{HasAborted, HasCommitted, IsRecordSafe, IsCommitMade, IsMarked, StandsIn, HoldsLogged}
 use Rattle.qs_world_lawful.proofs.LogFrames.{every_on}
 
 -- ---- all of a list
@@ -57,19 +47,11 @@ to_votes at covers log is = sym (found_are at covers log.prepared) ∙ is
 pub of_votes : (at : Voter) (covers : ℕ) (log : Recovery) → is_found_in at covers log.prepared ≡ true → list_any (is_found_as at covers) (found_votes log) ≡ true
 of_votes at covers log is = found_are at covers log.prepared ∙ is
 
-and_left : (a b : Bool) → (a && b) ≡ true → a ≡ true
-and_left true b h = refl
-and_left false b h = absurd (cc h)
-
-and_right : (a b : Bool) → (a && b) ≡ true → b ≡ true
-and_right true b h = h
-and_right false b h = absurd (cc h)
-
 -- what is found is of that voter
 pub found_is : (at : Voter) (covers : ℕ) (vote : Prepared) → is_found at covers vote ≡ true → (vote.tid ≡ at.tid) × ((vote.server.0 == at.server.0) ≡ true)
 found_is at covers vote is =
-    let f : is_found_as at covers (found_of vote) ≡ true = and_right (names_transaction vote.tid) _ is in
-    (same_tid-true vote.tid at.tid (and_left (same_tid vote.tid at.tid) _ f), and_left (vote.server.0 == at.server.0) _ (and_right (same_tid vote.tid at.tid) _ f))
+    let f : is_found_as at covers (found_of vote) ≡ true = and_last (names_transaction vote.tid) _ is in
+    (same_tid-true vote.tid at.tid (and_first (same_tid vote.tid at.tid) _ f), and_first (vote.server.0 == at.server.0) _ (and_last (same_tid vote.tid at.tid) _ f))
 
 pub any_filter : (test p : Prepared → Bool) → ((vote : Prepared) → test vote ≡ true → p vote ≡ true) → (votes : List Prepared) → list_any test votes ≡ true → list_any test (filter p votes) ≡ true
 any_filter test p passes [] h = h

@@ -1,18 +1,6 @@
 -- The rules that make records: what is held of the log with them.
-use Rattle.std.proofs.Common.{◌≡◌, ℕ, Bool, false, List, [], ◌∷◌, ◌++◌, Some, refl, sym, ap, subst}
-use Rattle.std.specs.Prelude.{slice_get}
-use Rattle.qs_book_journal.specs.declared.entry.Act.{Act}
-use Rattle.qs_book_machine.specs.Book.{BookValue}
-use Rattle.qs_book_machine.specs.Lawful.{book_after}
+use Rattle.qs_world_lawful.proofs.Words.{◌≡◌, ℕ, Bool, false, List, [], ◌∷◌, ◌++◌, Some, refl, sym, ap, subst, slice_get, Act, BookValue, book_after, Inv, Record, Recovery, recovery, found_record, Manager, Work, here, entries_of, book_at, Later, IsNamed, HoldsLogged, KnowsLog, HoldsLogs}
 use Rattle.qs_book_machine.specs.Nodes as machine
-use Rattle.qs_book_laws.proofs.Outcomes.{Inv}
-use Rattle.qs_record.specs.declared.record.Record.{Record}
-use Rattle.qs_restart.specs.Recovery.{Recovery, recovery, found_record}
-use Rattle.qs_tm.specs.declared.manager.Manager.{Manager}
-use Rattle.qs_node_step.specs.State.{Work, here}
-use Rattle.qs_world.specs.Posting.{entries_of}
-use Rattle.qs_world_lawful.specs.Entering.{book_at}
-use Rattle.qs_world_lawful.specs.Logged.{Later, IsNamed, HoldsLogged, KnowsLog, HoldsLogs}
 use Rattle.qs_world_lawful.proofs.LogKeeps.{later_then, amid_on, book_is}
 use Rattle.qs_world_lawful.proofs.LogMarks.{one_more}
 

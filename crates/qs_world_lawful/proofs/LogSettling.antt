@@ -1,37 +1,16 @@
 -- What a node does of itself at the end of a step keeps what is held of its log.
-use Rattle.std.proofs.Common.{◌≡◌, ℕ, Bool, true, false, List, [], ◌∷◌, Option, Some, None, refl, sym, ap, subst, ◌∙◌, fold, if◌then◌else◌}
-use Rattle.std.specs.Prelude.{not, ◌&&◌, is_none}
-use Rattle.qs_base.specs.declared.identifiers.NodeNo.{NodeNo}
-use Rattle.qs_base.specs.declared.identifiers.Outcome.{Outcome}
+use Rattle.qs_world_lawful.proofs.Words.{◌≡◌, ℕ, Bool, true, false, List, [], ◌∷◌, Option, Some, None, refl, sym, ap, subst, ◌∙◌, fold, if◌then◌else◌, not, ◌&&◌, is_none, NodeNo, Outcome, ServerNo, Tid, release_of, is_no_node, listed, Inv, BookValue, vote_of, Cause, Vote, Record, server_at, Note, told_with_own, is_undecided, is_forgotten, only_read, Manager, Participant, where_undecided, end_members, decide_commit, is_pass_due, pass_rule, may_answer, is_quiet, say_yes, answer_superior, ready}
+use Rattle.qs_world_lawful.proofs.Words.{ready_rule, refusal_goes_to, send_refusal, refuse_elsewhere, refuse_home, refuse_rule, forget_rule, try, settle_tid, due_tids, settle, Work, here, with_manager, doings_of, forget, change_count, owes_note, issue_note, vote_frame, vote_next, due_votes, vote_pass, vote_with, KeepsLogs, none_is, some_same, both_ways}
 use Rattle.qs_base.specs.declared.identifiers.Outcome.TheVariants as outcomes
-use Rattle.qs_base.specs.declared.identifiers.ServerNo.{ServerNo}
-use Rattle.qs_base.specs.declared.identifiers.Tid.{Tid}
-use Rattle.qs_engage.specs.Engage.{release_of}
-use Rattle.qs_engage.specs.Nodes.{is_no_node, listed}
-use Rattle.qs_book_laws.proofs.Outcomes.{Inv}
-use Rattle.qs_book_machine.specs.Book.{BookValue}
-use Rattle.qs_ops.specs.Server.{vote_of}
-use Rattle.qs_ops.specs.declared.answer.Cause.{Cause}
-use Rattle.qs_ops.specs.declared.vote.Vote.{Vote}
 use Rattle.qs_ops.specs.declared.vote.Vote.TheVariants as votes
 use Rattle.qs_packet.specs.declared.message.Message.TheVariants as messages
-use Rattle.qs_record.specs.declared.record.Record.{Record}
-use Rattle.qs_node_servers.specs.Servers.{server_at, audit_no}
-use Rattle.qs_ops.specs.declared.operation.Op.TheVariants.{Note}
+use Rattle.qs_node_servers.specs.Servers.{audit_no}
 use Rattle.qs_tm.specs.Manager as tm
 use Rattle.qs_tm.specs.Members.{files_no}
-use Rattle.qs_tm.specs.Outcomes.{told_with_own}
 use Rattle.qs_tm.specs.Participant as participant
-use Rattle.qs_tm.specs.Participant.{is_undecided, is_forgotten, only_read}
-use Rattle.qs_tm.specs.declared.manager.Manager.{Manager}
-use Rattle.qs_tm.specs.declared.participant.Participant.{Participant}
-use Rattle.qs_node_step.specs.Asking.{where_undecided}
-use Rattle.qs_node_step.specs.Deciding.{end_members, decide, decide_commit}
-use Rattle.qs_node_step.specs.Settling.{is_pass_due, pass_rule, may_answer, is_quiet, say_yes, answer_superior, ready, ready_rule, refusal_goes_to, send_refusal, refuse_elsewhere, refuse_home, refuse_rule, forget_rule, try, settle_tid, due_tids, settle}
-use Rattle.qs_node_step.specs.State.{Work, here, part_of, with_manager, doings_of}
-use Rattle.qs_node_step.specs.Telling.{forget}
-use Rattle.qs_node_step.specs.Voting.{change_count, note_text, owes_note, issue_note, vote_frame, vote_next, due_votes, vote_pass, vote_with}
-use Rattle.qs_world_lawful.specs.Logged.{KeepsLogs}
+use Rattle.qs_node_step.specs.Deciding.{decide}
+use Rattle.qs_node_step.specs.State.{part_of}
+use Rattle.qs_node_step.specs.Voting.{note_text}
 use Rattle.qs_world_lawful.proofs.LogDecisions.{by_decide, by_decide_commit}
 use Rattle.qs_world_lawful.proofs.LogEndings.{quiet_ends}
 use Rattle.qs_world_lawful.proofs.LogForgetting.{by_forget}
@@ -72,11 +51,7 @@ module _ (stamp : ℕ) (before : BookValue) (i : Inv before) (disk waiting : Lis
   keeps_where tid rule work each = by (part_of tid work) refl
     where
       undecided : (part : Participant) → is_undecided part ≡ true → part.outcome ≡ None
-      undecided part is = at part.outcome is
-        where
-          at : (o : Option Outcome) → is_none o ≡ true → o ≡ None
-          at None e = refl
-          at (Some outcome) e = absurd (cc e)
+      undecided part is = none_is part.outcome is
 
       of : (part : Participant) → part_of tid work ≡ Some part → (b : Bool) → is_undecided part ≡ b → Keeps work (if b then rule part work else work)
       of part known true is = each part known (undecided part is)
@@ -176,18 +151,12 @@ module _ (stamp : ℕ) (before : BookValue) (i : Inv before) (disk waiting : Lis
           at true true c d true h = absurd (cc h)
           at false b c d true h = absurd (cc h)
 
-      of_some : {x y : Participant} → Some x ≡ Some y → x ≡ y
-      of_some e = cc e
-
       by : (b : Bool) → is_forgotten part ≡ b → Keeps work (if b then forget tid work else work)
       by false is = keeps_self stamp before i disk waiting work
       by true is = by_forget stamp before i disk waiting tid work (λ h q at prepared.
-          let same : q ≡ part = of_some (sym at ∙ known) in
+          let same : q ≡ part = some_same (sym at ∙ known) in
           let involved : part.involved ≡ true = (h.knows.parts tid part known).involved (ap (λ (p : Participant). p.log.prepared) (sym same) ∙ prepared) in
-          clash part.involved (uninvolved (is_undecided part) part.engage.home (is_none part.engage.superior) (is_no_node part.told && only_read part) is) involved)
-        where
-          clash : (b : Bool) → b ≡ false → b ≡ true → ⊥
-          clash b e f = cc (sym e ∙ f)
+          both_ways part.involved (uninvolved (is_undecided part) part.engage.home (is_none part.engage.superior) (is_no_node part.told && only_read part) is) involved)
 
   -- ---- all of it
 

@@ -1,40 +1,13 @@
 -- A whole step keeps what is held of the log, on the disk and with what waits for the next force.
-use Rattle.std.proofs.Common.{◌≡◌, ℕ, Bool, true, false, List, [], ◌++◌, Option, Some, None, refl, sym, ap, subst, ◌∙◌, fold, if◌then◌else◌}
-use Rattle.std.proofs.lemmas.List.{append-nil}
-use Rattle.std.specs.Map.{lookup}
-use Rattle.std.specs.BTreeMap.{is_at}
-use Rattle.qs_base.specs.declared.identifiers.ClientNo.{ClientNo}
-use Rattle.qs_base.specs.declared.identifiers.Outcome.{Outcome}
+use Rattle.qs_world_lawful.proofs.Words.{◌≡◌, ℕ, Bool, true, false, List, [], ◌++◌, Option, Some, None, refl, sym, ap, subst, ◌∙◌, fold, if◌then◌else◌, append-nil, lookup, is_at, ClientNo, Outcome, Tid, listed, Command, Begun, Decided, Inv, BookValue, IsLawful, book_after, Record, recovery, Manager, Participant, kept_outcome, is_aborted, send, send_each, decided_answer, resume_home, resume_part, resume_tid, known_tids, begin_incarnation, label_at, settle, Work, here, work_on, client_cmp, is_owner}
+use Rattle.qs_world_lawful.proofs.Words.{happen, owner_waits, borrower_waits, waits_at, wait_command, wait_on, waiting_clients, answer_waiting, step_work, Event, Issued, OpenCommand, entries_of, entries_so_far, book_at, IsTrueEvent, HoldsLogged, KnowsLog, HoldsHost, HoldsLogs, KeepsLogs}
 use Rattle.qs_base.specs.declared.identifiers.Outcome.TheVariants as outcomes
-use Rattle.qs_base.specs.declared.identifiers.Tid.{Tid}
-use Rattle.qs_engage.specs.Nodes.{listed}
-use Rattle.qs_book_journal.specs.declared.script_line.Command.{Command}
-use Rattle.qs_node_kept.specs.declared.kept.KeptLabel.{KeptLabel}
-use Rattle.qs_node_kept.specs.declared.kept.Decided.{Decided}
-use Rattle.qs_book_laws.proofs.Outcomes.{Inv}
-use Rattle.qs_book_machine.specs.Book.{BookValue}
-use Rattle.qs_book_machine.specs.Lawful.{IsLawful, book_after}
 use Rattle.qs_ops.specs.declared.answer.Answer.TheVariants as answers
 use Rattle.qs_packet.specs.declared.message.Message.TheVariants as messages
-use Rattle.qs_record.specs.declared.record.Record.{Record}
-use Rattle.qs_restart.specs.Recovery.{recovery}
-use Rattle.qs_tm.specs.declared.manager.Manager.{Manager}
-use Rattle.qs_tm.specs.declared.participant.Participant.{Participant}
-use Rattle.qs_node_step.specs.Answering.{kept_outcome}
-use Rattle.qs_node_step.specs.Borrowing.{is_aborted}
-use Rattle.qs_node_step.specs.Bringing.{send, send_each, answer}
-use Rattle.qs_node_step.specs.Commands.{decided_answer}
-use Rattle.qs_node_step.specs.Restarts.{resume_home, resume_part, resume_tid, known_tids, begin_incarnation}
-use Rattle.qs_node_step.specs.Serving.{label_at}
-use Rattle.qs_node_step.specs.Settling.{settle}
-use Rattle.qs_node_step.specs.State.{NodeValue, Work, here, part_of, work_on, with_node, client_cmp}
-use Rattle.qs_node_step.specs.Step.{is_owner, happen, request_waits, owner_waits, borrower_waits, waits_at, wait_command, wait_on, waiting_clients, answer_waiting, step_work}
-use Rattle.qs_node_step.specs.declared.event.Event.{Event}
-use Rattle.qs_node_step.specs.declared.state.Issued.{Issued}
-use Rattle.qs_node_step.specs.declared.state.OpenCommand.{OpenCommand}
-use Rattle.qs_world.specs.Posting.{entries_of}
-use Rattle.qs_world_lawful.specs.Entering.{entries_so_far, book_at}
-use Rattle.qs_world_lawful.specs.Logged.{IsTrueEvent, HoldsLogged, KnowsLog, HoldsHost, HoldsAmid, HoldsLogs, KeepsLogs}
+use Rattle.qs_node_step.specs.Bringing.{answer}
+use Rattle.qs_node_step.specs.State.{NodeValue, part_of, with_node}
+use Rattle.qs_node_step.specs.Step.{request_waits}
+use Rattle.qs_world_lawful.specs.Logged.{HoldsAmid}
 use Rattle.qs_world_lawful.proofs.LogEndings.{by_resumed}
 use Rattle.qs_world_lawful.proofs.LogHappening.{by_happen}
 use Rattle.qs_world_lawful.proofs.LogKeeps.{keeps_self, keeps_then, by_quiet, later_self, amid_on}
@@ -61,14 +34,14 @@ quiet_lent client (Some issued) t command work = quiet_issued client issued work
 quiet_lent client None None command work = quiet_self work
 quiet_lent client None (Some tid) command work = quiet_borrower client tid command work
 
-quiet_waits : (client : ClientNo) (command : OpenCommand) (begun : KeptLabel) (work : Work) → Quiet work (waits_at client command begun work)
+quiet_waits : (client : ClientNo) (command : OpenCommand) (begun : Begun) (work : Work) → Quiet work (waits_at client command begun work)
 quiet_waits client command begun work = quiet_if (is_owner client begun.owner) work (owner_waits client begun.tid command.line.command work) (borrower_waits client command.issued begun.tid command.line.command work)
     (quiet_owner client begun.tid command.line.command work) (quiet_lent client command.issued begun.tid command.line.command work)
 
 quiet_command : (client : ClientNo) (command : OpenCommand) (work : Work) → Quiet work (wait_command client command work)
 quiet_command client command work = by (label_at command.line.label work.node)
   where
-    by : (o : Option KeptLabel) → Quiet work (elim o [ None ↦ work | Some begun ↦ waits_at client command begun work ])
+    by : (o : Option Begun) → Quiet work (elim o [ None ↦ work | Some begun ↦ waits_at client command begun work ])
     by None = quiet_self work
     by (Some begun) = quiet_waits client command begun work
 

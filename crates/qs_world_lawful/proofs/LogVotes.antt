@@ -1,34 +1,13 @@
 -- A vote that goes on record, with its Prepare in the log.
-use Rattle.std.proofs.Common.{◌≡◌, inl, inr, ℕ, ◌==◌, Bool, true, false, List, [], ◌∷◌, Option, Some, None, refl, sym, ap, subst, ◌∙◌, arith}
-use Rattle.std.proofs.lemmas.Bool.Decides.{nat_tests}
-use Rattle.std.specs.Prelude.{not, ◌&&◌, ◌||◌, is_some, slice_get, nat_le, if◌then◌else◌}
-use Rattle.std.specs.List.{filter}
-use Rattle.std.specs.BTreeMap.{is_at}
-use Rattle.qs_base.specs.Order.{same_tid}
-use Rattle.qs_base.proofs.Same.{same_tid-true, same_tid-self}
-use Rattle.qs_base.specs.declared.identifiers.Member.{Member}
-use Rattle.qs_base.specs.declared.identifiers.ServerNo.{ServerNo}
-use Rattle.qs_base.specs.declared.identifiers.Tid.{Tid}
-use Rattle.qs_book_journal.specs.declared.entry.Act.{Act}
+use Rattle.qs_world_lawful.proofs.Words.{◌≡◌, inl, inr, ℕ, ◌==◌, Bool, true, false, List, [], ◌∷◌, Option, Some, None, refl, sym, ap, subst, ◌∙◌, arith, nat_tests, not, ◌&&◌, ◌||◌, is_some, slice_get, nat_le, if◌then◌else◌, filter, is_at, same_tid, same_tid-true, same_tid-self, Member, ServerNo, Tid, Act, Op, TransactionValue, is_crossed, is_covering, BookValue, find_transaction, is_vote, broken, effect, OnRecord, Voter, voter_equal, voter_exact, voter_itself, vote_by, changed_at_here, lookup_put}
+use Rattle.qs_world_lawful.proofs.Words.{lookup_put_apart, Inv, held, passed, Prepared, Recovery, names_transaction, found_prepare, is_vote_of, entry_of, Every, IsVoteLogged, Later, IsRecordSafe, IsCommitMade, IsMarked, StandsIn, HoldsLogged, eqb-true, eq-eqb, false≢true, and_first, and_last}
 use Rattle.qs_book_journal.specs.declared.entry.Act.TheVariants as acts
-use Rattle.qs_ops.specs.declared.operation.Op.{Op}
 use Rattle.qs_ops.specs.declared.vote.Vote.TheVariants as votes
-use Rattle.qs_book_machine.specs.Transaction.{TransactionValue, is_crossed, is_covering, part_of}
-use Rattle.qs_book_machine.specs.Book.{BookValue, find_transaction}
-use Rattle.qs_book_machine.specs.Clauses.{broken_vote, is_vote, is_vote_due, is_server_vote}
-use Rattle.qs_book_machine.specs.Lawful.{broken, effect}
+use Rattle.qs_book_machine.specs.Transaction.{part_of}
+use Rattle.qs_book_machine.specs.Clauses.{broken_vote, is_vote_due, is_server_vote}
 use Rattle.qs_book_machine.specs.Nodes as machine
-use Rattle.qs_book_machine.specs.declared.state.OnRecord.{OnRecord}
-use Rattle.qs_book_machine.specs.declared.state.Voter.{Voter}
-use Rattle.qs_book_laws.proofs.Alikes.{voter_equal, voter_exact, voter_itself}
-use Rattle.qs_book_laws.proofs.Faces.{vote_by, recorded_by}
-use Rattle.qs_book_laws.proofs.Maps.{changed_at_here, lookup_put, lookup_put_apart}
-use Rattle.qs_book_laws.proofs.Outcomes.{Inv}
-use Rattle.qs_book_laws.proofs.Steps.{held, passed, past}
-use Rattle.qs_restart.specs.Recovery.{Prepared, Recovery, names_transaction, found_prepare, is_vote_of}
-use Rattle.qs_world.specs.Posting.{entry_of}
-use Rattle.qs_world_lawful.specs.Logs.{Every, IsVoteLogged}
-use Rattle.qs_world_lawful.specs.Logged.{Later, IsRecordSafe, IsCommitMade, IsMarked, StandsIn, HoldsLogged}
+use Rattle.qs_book_laws.proofs.Faces.{recorded_by}
+use Rattle.qs_book_laws.proofs.Steps.{past}
 use Rattle.qs_world_lawful.proofs.LogActs.{acting, acted_later}
 use Rattle.qs_world_lawful.proofs.LogFrames.{every_on, applied_on, safe_on, made_on, stands_on}
 use Rattle.qs_world_lawful.proofs.LogRecords.{every_filter, every_append, any_filter, any_append, found_is, is_found, to_votes, of_votes}
@@ -107,11 +86,8 @@ module _ (book : BookValue) (stamp here : ℕ) (state : machine.NodeValue) (i : 
       by false is = refl
       by true is =
           let e : machine.voter x.tid x.server.0 ≡ own = voter_exact (machine.voter x.tid x.server.0) own is in
-          absurd (clash (x.server.0 == server.0) (same (x.server.0) server.0 (ap (λ (v : Voter). v.server.0) e)) (subst (λ (t : Tid). same_tid t tid ≡ true) (ap (λ (v : Voter). v.tid) (sym e)) (same_tid-self tid)) far)
+          absurd (clash (x.server.0 == server.0) (eq-eqb (x.server.0) server.0 (ap (λ (v : Voter). v.server.0) e)) (subst (λ (t : Tid). same_tid t tid ≡ true) (ap (λ (v : Voter). v.tid) (sym e)) (same_tid-self tid)) far)
         where
-          same : (a b : ℕ) → a ≡ b → (a == b) ≡ true
-          same a b is_b = grind (arith, nat_tests)
-
           clash : (b : Bool) → b ≡ true → same_tid x.tid tid ≡ true → not (same_tid x.tid tid && b) ≡ true → ⊥
           clash b p q r = cc (rw (q, p) at r)
 
@@ -161,17 +137,6 @@ module _ (book : BookValue) (stamp here : ℕ) (state : machine.NodeValue) (i : 
             at : (x.tid ≡ t) × ((x.server.0 == s) ≡ true)
             at = found_is (machine.voter t s) r.covers x found
 
-            same : (a b : ℕ) → (a == b) ≡ true → a ≡ b
-            same a b e = grind (arith, nat_tests, e)
-
-            left : (a b : Bool) → (a && b) ≡ true → a ≡ true
-            left true b e = refl
-            left false b e = absurd (cc e)
-
-            right : (a b : Bool) → (a && b) ≡ true → b ≡ true
-            right true b e = e
-            right false b e = absurd (cc e)
-
             differ : machine.voter t s ≡ own → ⊥
             differ e = cc (sym (ap (λ (v : Voter). is_at (machine.voter_cmp v) own) e ∙ itself) ∙ far)
               where
@@ -180,7 +145,7 @@ module _ (book : BookValue) (stamp here : ℕ) (state : machine.NodeValue) (i : 
 
             by : (b : Bool) → is_vote_of tid server x ≡ b → not b ≡ true
             by false is_not = refl
-            by true own_too = absurd (differ (join (sym at.0 ∙ same_tid-true x.tid tid (left _ _ own_too)) (sym (same x.server.0 s at.1) ∙ same x.server.0 server.0 (right (same_tid x.tid tid) _ own_too))))
+            by true own_too = absurd (differ (join (sym at.0 ∙ same_tid-true x.tid tid (and_first _ _ own_too)) (sym (eqb-true x.server.0 s at.1) ∙ eqb-true x.server.0 server.0 (and_last (same_tid x.tid tid) _ own_too))))
               where
                 join : t ≡ tid → s ≡ server.0 → machine.voter t s ≡ own
                 join e f = rw (e, f) refl
@@ -204,10 +169,7 @@ module _ (book : BookValue) (stamp here : ℕ) (state : machine.NodeValue) (i : 
       kinds = every_append _ (filter other log.prepared) (vote ∷ []) (every_filter _ other log.prepared h.kinds) (recoverable state tid may.0 member may.2, tt);
       stands = every_append (StandsIn new) (filter other log.prepared) (vote ∷ []) (every_filter (StandsIn new) other log.prepared (every_on (StandsIn book) (StandsIn new) (stands_on book new on.learnt) log.prepared h.stands)) (stands_on book new on.learnt vote (ap is_some may.1), tt);
       votes = every_append (IsVoteLogged here new next longer) (filter other log.prepared) (vote ∷ []) (old_votes log.prepared h.votes) (own_vote, tt);
-      marked = every_append (IsMarked longer) (filter other log.prepared) (vote ∷ []) (every_filter (IsMarked longer) other log.prepared h.marked) ((λ is. absurd (never is)), tt);
+      marked = every_append (IsMarked longer) (filter other log.prepared) (vote ∷ []) (every_filter (IsMarked longer) other log.prepared h.marked) ((λ is. absurd (false≢true is)), tt);
       kept = safe;
       commits = every_on (IsCommitMade book state) (IsCommitMade new next) (made_on book new state next on refl) log.committed h.commits;
     }
-      where
-        never : false ≡ true → ⊥
-        never e = cc e

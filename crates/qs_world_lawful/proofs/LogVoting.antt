@@ -1,36 +1,16 @@
 -- A server votes: a recoverable vote stands in the log with its Prepare, of every other vote the log says nothing.
-use Rattle.std.proofs.Common.{◌≡◌, ℕ, Bool, true, false, List, [], ◌∷◌, Option, Some, None, zero, suc, refl, sym, ap, subst, ◌∙◌}
-use Rattle.std.specs.Prelude.{slice_set, slice_index_or, is_some, ◌||◌}
-use Rattle.qs_base.specs.declared.identifiers.Member.{Member}
+use Rattle.qs_world_lawful.proofs.Words.{◌≡◌, ℕ, Bool, true, false, List, [], ◌∷◌, Option, Some, None, zero, suc, refl, sym, ap, subst, ◌∙◌, slice_set, slice_index_or, is_some, ◌||◌, Member, ServerNo, Tid, Act, after_vote, changes_in, Op, Vote, BookValue, IsLawful, broken, effect, Inv, Record, Prepared, names_transaction, found_prepare, found_record, server_at, no_member, member_of, MemberPart, Participant, member_here, Work, here, with_manager, with_doings, change_server, served_count, enter_vote}
+use Rattle.qs_world_lawful.proofs.Words.{vote_with, entry_of, entries_so_far, book_at, IsKnown, KeepsRecords, HoldsLogs, is_plain, KeepsLogs, or-true}
 use Rattle.qs_base.specs.declared.identifiers.Outcome.TheVariants as outcomes
-use Rattle.qs_base.specs.declared.identifiers.ServerNo.{ServerNo}
-use Rattle.qs_base.specs.declared.identifiers.Tid.{Tid}
-use Rattle.qs_book_journal.specs.declared.entry.Act.{Act}
 use Rattle.qs_book_journal.specs.declared.entry.Act.TheVariants as acts
-use Rattle.qs_ops.specs.Server.{after_vote, changes_in}
-use Rattle.qs_ops.specs.declared.operation.Op.{Op}
-use Rattle.qs_ops.specs.declared.vote.Vote.{Vote}
 use Rattle.qs_ops.specs.declared.vote.Vote.TheVariants as votes
-use Rattle.qs_book_machine.specs.Book.{BookValue}
-use Rattle.qs_book_machine.specs.Lawful.{IsLawful, broken, effect}
-use Rattle.qs_book_laws.proofs.Outcomes.{Inv}
-use Rattle.qs_record.specs.declared.record.Record.{Record}
 use Rattle.qs_record.specs.declared.record.Record.TheVariants as records
-use Rattle.qs_restart.specs.Recovery.{Prepared, names_transaction, found_prepare, found_record}
-use Rattle.qs_node_servers.specs.Servers.{server_at}
 use Rattle.qs_tm.specs.Manager as tm
-use Rattle.qs_tm.specs.Members.{no_member, ballot_of, is_binding}
+use Rattle.qs_tm.specs.Members.{ballot_of, is_binding}
 use Rattle.qs_tm.specs.Outcomes as outcome_rules
 use Rattle.qs_tm.specs.Participant as participant
-use Rattle.qs_tm.specs.Participant.{member_of}
-use Rattle.qs_tm.specs.declared.members.MemberPart.{MemberPart}
-use Rattle.qs_tm.specs.declared.participant.Participant.{Participant}
-use Rattle.qs_node_step.specs.Bringing.{member_here}
-use Rattle.qs_node_step.specs.State.{Work, here, part_of, with_manager, with_doings, change_server}
-use Rattle.qs_node_step.specs.Voting.{served_count, enter_vote, log_prepare, vote_with}
-use Rattle.qs_world.specs.Posting.{entry_of}
-use Rattle.qs_world_lawful.specs.Entering.{entries_so_far, book_at}
-use Rattle.qs_world_lawful.specs.Logged.{IsKnown, KeepsRecords, HoldsLogs, is_plain, KeepsLogs}
+use Rattle.qs_node_step.specs.State.{part_of}
+use Rattle.qs_node_step.specs.Voting.{log_prepare}
 use Rattle.qs_world_lawful.proofs.LogActs.{acted_later}
 use Rattle.qs_world_lawful.proofs.LogFrames.{every_on}
 use Rattle.qs_world_lawful.proofs.LogKeeps.{by_quiet, lawful_before, lawful_since, inv_at}
@@ -101,10 +81,6 @@ module _ (stamp : ℕ) (before : BookValue) (i : Inv before) (disk waiting : Lis
       (changes_part tid voting work.node.manager part known)
       (changes_part tid (outcome_rules.logged rec) (tm.with_part tid voting work.node.manager) (voting part) (changes_part tid voting work.node.manager part known).now)
 
-  or_true : (b : Bool) → (b || true) ≡ true
-  or_true true = refl
-  or_true false = refl
-
   never : {X : Type 0} → part.outcome ≡ Some outcomes.Commit → X
   never is = absurd (clash (sym undecided ∙ is))
     where
@@ -143,7 +119,7 @@ module _ (stamp : ℕ) (before : BookValue) (i : Inv before) (disk waiting : Lis
     own =
         let k : KeepsRecords book (log_of stamp before i disk waiting work) tid part = h.knows.parts tid part known in
         record {
-          involved = λ is. or_true part.involved;
+          involved = λ is. or-true part.involved;
           undone = λ is done. never done;
           aborted = λ is done. never_abort done;
           listed = λ is. k.listed is;
@@ -171,7 +147,7 @@ module _ (stamp : ℕ) (before : BookValue) (i : Inv before) (disk waiting : Lis
         }
       where
         forced : (work.out.force || true) ≡ false → ⊥
-        forced e = cc (sym (or_true work.out.force) ∙ e)
+        forced e = cc (sym (or-true work.out.force) ∙ e)
 
     held : HoldsLogs stamp before disk waiting new
     held = held_with stamp before i disk waiting work new h (act ∷ []) refl refl rec refl

@@ -1,22 +1,6 @@
 -- What a node knows of its log stands while of each transaction the record marks, the outcome and the involvement stay.
-use Rattle.std.proofs.Common.{◌≡◌, inl, inr, Bool, true, false, List, [], ◌∷◌, Option, Some, None, refl, sym, ap, subst, ◌∙◌}
-use Rattle.std.specs.Prelude.{⊤}
-use Rattle.std.specs.Map.{lookup, set_value}
-use Rattle.std.specs.BTreeMap.{is_at}
-use Rattle.std.specs.declared.cmp.Ordering.TheVariants.{Equal}
-use Rattle.qs_base.specs.Order.{tid_cmp}
-use Rattle.qs_base.proofs.TidOrder.{tid_total}
-use Rattle.qs_base.specs.declared.identifiers.Tid.{Tid}
-use Rattle.qs_book_laws.proofs.Alikes.{at_exact, tid_itself}
-use Rattle.qs_book_laws.proofs.Maps.{Either, changed_either, lookup_put, lookup_put_apart}
-use Rattle.qs_book_laws.proofs.Rising.{IsBelow, IsRising, put_rises}
-use Rattle.qs_book_machine.specs.Book.{BookValue}
-use Rattle.qs_restart.specs.Recovery.{Prepared, Recovery}
+use Rattle.qs_world_lawful.proofs.Words.{◌≡◌, inl, inr, Bool, true, false, List, [], ◌∷◌, Option, Some, None, refl, sym, ap, subst, ◌∙◌, ⊤, lookup, set_value, is_at, Equal, tid_cmp, tid_total, Tid, at_exact, tid_itself, Either, changed_either, lookup_put, lookup_put_apart, IsBelow, IsRising, put_rises, BookValue, Prepared, Recovery, Manager, Participant, InLog, Later, IsPrepared, IsKnown, KeepsRecords, KnowsLog}
 use Rattle.qs_tm.specs.Manager as tm
-use Rattle.qs_tm.specs.declared.manager.Manager.{Manager}
-use Rattle.qs_tm.specs.declared.participant.Participant.{Participant}
-use Rattle.qs_tm.specs.declared.participant.InLog.{InLog}
-use Rattle.qs_world_lawful.specs.Logged.{Later, IsPrepared, IsKnown, KeepsRecords, KnowsLog}
 use Rattle.qs_world_lawful.proofs.LogFrames.{every_on}
 
 -- what goes for one transaction

@@ -1,35 +1,11 @@
 -- A rule that changes what one server has, what the machine keeps of its member, and what the node keeps of it.
-use Rattle.std.proofs.Common.{◌≡◌, ℕ, ◌+◌, List, Option, Some, None, refl, sym, ap, subst, ◌∙◌, length}
-use Rattle.std.specs.Prelude.{unwrap_or}
-use Rattle.std.specs.Option.{option_map}
-use Rattle.std.specs.Map.{lookup}
-use Rattle.std.specs.BTreeMap.{is_at}
-use Rattle.qs_base.specs.Order.{tid_cmp}
-use Rattle.qs_base.specs.declared.identifiers.Member.{Member}
-use Rattle.qs_base.specs.declared.identifiers.NodeNo.{NodeNo}
-use Rattle.qs_base.specs.declared.identifiers.ServerNo.{ServerNo}
-use Rattle.qs_base.specs.declared.identifiers.Tid.{Tid}
-use Rattle.qs_book_laws.proofs.Maps.{changed_at_here, changed_alike}
-use Rattle.qs_ops.specs.Server.{ServerValue, changes_in}
-use Rattle.qs_book_journal.specs.declared.entry.Act.{Act}
-use Rattle.qs_book_machine.specs.Transaction.{TransactionValue, no_part, life, life_cmp, changed_value}
-use Rattle.qs_book_machine.specs.declared.transaction.Life.{Life}
-use Rattle.qs_book_machine.specs.declared.transaction.Part.{Part}
-use Rattle.qs_book_machine.specs.Book.{BookValue, find_transaction, inc_at, with_node, with_transaction}
-use Rattle.qs_book_machine.specs.Lawful.{effect}
+use Rattle.qs_world_lawful.proofs.Words.{◌≡◌, ℕ, ◌+◌, List, Option, Some, None, refl, sym, ap, subst, ◌∙◌, length, unwrap_or, option_map, lookup, is_at, tid_cmp, Member, NodeNo, ServerNo, Tid, changed_at_here, changed_alike, ServerValue, changes_in, Act, TransactionValue, no_part, life, life_cmp, changed_value, Life, Part, BookValue, find_transaction, inc_at, with_transaction, effect, Participant, with_server, entry_of, face_of, Holds, HoldsTid, share_of, HoldsServers, is_seen, HoldsWaits, is_idle}
+use Rattle.qs_book_machine.specs.Book.{with_node}
 use Rattle.qs_book_machine.specs.Nodes as machine
 use Rattle.qs_tm.specs.Manager as tm
-use Rattle.qs_tm.specs.declared.participant.Participant.{Participant}
-use Rattle.qs_node_servers.specs.Servers.{with_server}
 use Rattle.qs_node_step.specs.State.{NodeValue}
-use Rattle.qs_world.specs.Posting.{entry_of}
-use Rattle.qs_world_lawful.specs.Face.{face_of}
-use Rattle.qs_world_lawful.specs.Holds.{Holds, HoldsTid}
 use Rattle.qs_world_lawful.proofs.Apart.{Apart}
 use Rattle.qs_world_lawful.proofs.Faces.{part_apart, part_changed}
-use Rattle.qs_ops.specs.Table.{share_of}
-use Rattle.qs_world_lawful.specs.Tables.{HoldsServers, is_seen}
-use Rattle.qs_world_lawful.specs.Waits.{HoldsWaits, is_idle}
 use Rattle.qs_world_lawful.proofs.Files.{files_apart, files_keep, idle_in}
 use Rattle.qs_world_lawful.proofs.Frames.{SameState, seen, clients_on, told_of}
 use Rattle.qs_world_lawful.proofs.Steps.{one_changed, servers_still, tx_seen, same_owners, changed_length}

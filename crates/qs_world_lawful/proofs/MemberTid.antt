@@ -1,25 +1,12 @@
 -- A vote, an ending, and a notice of a server leave what is held of its transaction at its node.
-use Rattle.std.proofs.Common.{◌≡◌, ◌≢◌, ◌⊎◌, inl, inr, ℕ, ◌+◌, ◌==◌, ◌≤◌, Bool, true, false, [], Some, refl, sym, ap, subst, ◌∙◌, arith, length, nat_lt}
-use Rattle.std.proofs.lemmas.Bool.Decides.{nat_tests}
-use Rattle.std.specs.Prelude.{is_some}
-use Rattle.std.specs.List.{filter, list_any}
-use Rattle.qs_base.specs.declared.identifiers.ClientNo.{ClientNo}
-use Rattle.qs_base.specs.declared.identifiers.Member.{Member}
-use Rattle.qs_base.specs.declared.identifiers.NodeNo.{NodeNo}
+use Rattle.qs_world_lawful.proofs.Words.{◌≡◌, ◌≢◌, ◌⊎◌, inl, inr, ℕ, ◌+◌, ◌==◌, ◌≤◌, Bool, true, false, [], Some, refl, sym, ap, subst, ◌∙◌, arith, length, nat_lt, nat_tests, is_some, filter, list_any, ClientNo, Member, NodeNo, ServerNo, Tid, peer_of, TransactionValue, life, is_start, is_open, is_outcome, sent_in, sent_on, requests_at, is_standing, has_note, learnt_abort, Cell, Part, member_of, has_noted, awaits_note, MemberPart, Participant, at_server, HoldsMember, HoldsHome, HoldsTid, eqb-true}
+use Rattle.qs_world_lawful.proofs.Words.{eqb-false, some_same}
 use Rattle.qs_base.specs.declared.identifiers.Outcome.TheVariants as outcomes
-use Rattle.qs_base.specs.declared.identifiers.ServerNo.{ServerNo}
-use Rattle.qs_base.specs.declared.identifiers.Tid.{Tid}
-use Rattle.qs_engage.specs.Engage.{peer_of}
-use Rattle.qs_book_machine.specs.Transaction.{TransactionValue, part_of, life, is_start, is_open, is_outcome, sent_in, sent_on, requests_at, is_standing, has_note, learnt_abort, borrower}
+use Rattle.qs_book_machine.specs.Transaction.{part_of, borrower}
 use Rattle.qs_book_machine.specs.Clauses.{note_text}
-use Rattle.qs_book_machine.specs.declared.transaction.Cell.{Cell}
-use Rattle.qs_book_machine.specs.declared.transaction.Part.{Part}
 use Rattle.qs_tm.specs.Members as rules
-use Rattle.qs_tm.specs.Participant.{member_of, has_noted, awaits_note}
-use Rattle.qs_tm.specs.declared.members.MemberPart.{MemberPart}
-use Rattle.qs_tm.specs.declared.participant.Participant.{Participant}
-use Rattle.qs_world_lawful.specs.Face.{Face, at_server, is_numbered}
-use Rattle.qs_world_lawful.specs.Holds.{HoldsMember, HoldsHome, HoldsTid, is_kept}
+use Rattle.qs_world_lawful.specs.Face.{Face, is_numbered}
+use Rattle.qs_world_lawful.specs.Holds.{is_kept}
 use Rattle.qs_world_lawful.proofs.Bare.{bare}
 use Rattle.qs_world_lawful.proofs.Parts.{LivesApart, member_like, same_life_or}
 
@@ -62,34 +49,25 @@ module _ (here : NodeNo) (inc : ℕ) (tid : Tid) (tx now : TransactionValue) (fa
     (others : (other : ServerNo) → IsOther server other → member_of after other ≡ member_of part other)
     (silent : learnt_abort now here inc ≡ true → part.outcome ≡ Some outcomes.Abort)
     (pending : (part_of now (at_server here rules.files_no) inc).pending ≡ changes) where
-  of_some : {X : Type 0} {x y : X} → Some x ≡ Some y → x ≡ y
-  of_some e = cc e
-
   members_on : (other : ServerNo) → is_kept other ≡ true → HoldsMember now (at_server here other) inc (member_of after other)
   members_on other its = by (server.0 == other.0) refl
     where
       same_is : (a b : ServerNo) → (a.0 == b.0) ≡ true → a ≡ b
-      same_is a b e = ap (λ (n : ℕ). record { 0 = n }) (numbers a.0 b.0 e)
-        where
-          numbers : (m n : ℕ) → (m == n) ≡ true → m ≡ n
-          numbers m n e = grind (arith, nat_tests, e)
-
-      differ : (m n : ℕ) → (m == n) ≡ false → m ≢ n
-      differ m n e same = grind (arith, nat_tests, e, same)
+      same_is a b e = ap (λ (n : ℕ). record { 0 = n }) (eqb-true a.0 b.0 e)
 
       by : (b : Bool) → (server.0 == other.0) ≡ b → HoldsMember now (at_server here other) inc (member_of after other)
       by true is = subst (λ (s : ServerNo). HoldsMember now (at_server here s) inc (member_of after s)) (same_is server other is) own
       by false is =
-          let far : IsOther server other = differ server.0 other.0 is in
+          let far : IsOther server other = eqb-false server.0 other.0 is in
           subst (λ (m : MemberPart). HoldsMember now (at_server here other) inc m) (sym (others other far))
           (member_like tx now (at_server here other) inc (member_of part other) (parts (at_server here other) (lives_apart here inc server other far)) (starts other far) (h.members refl other its))
 
   home_on : HoldsHome tx (Some part) → HoldsHome now (Some after)
   home_on k = record {
     runs = λ is. refl;
-    undecided = λ p same unknown. subst (λ (c : Cell). is_open c ≡ true) (sym cell_is) (k.undecided part refl (sym (ap (λ (q : Participant). q.outcome) as_plain) ∙ (ap (λ (q : Participant). q.outcome) (of_some same) ∙ unknown)));
+    undecided = λ p same unknown. subst (λ (c : Cell). is_open c ≡ true) (sym cell_is) (k.undecided part refl (sym (ap (λ (q : Participant). q.outcome) as_plain) ∙ (ap (λ (q : Participant). q.outcome) (some_same same) ∙ unknown)));
     asked = λ p same still. ap (λ (x : TransactionValue). is_some x.asked) rest
-        ∙ (k.asked part refl (subst (λ (c : Cell). is_open c ≡ true) cell_is still) ∙ (sym (ap (λ (q : Participant). q.asked) as_plain) ∙ ap (λ (q : Participant). q.asked) (of_some same)));
+        ∙ (k.asked part refl (subst (λ (c : Cell). is_open c ≡ true) cell_is still) ∙ (sym (ap (λ (q : Participant). q.asked) as_plain) ∙ ap (λ (q : Participant). q.asked) (some_same same)));
   }
     where
       cell_is : now.cell ≡ tx.cell

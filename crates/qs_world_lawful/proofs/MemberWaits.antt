@@ -1,48 +1,18 @@
 -- What waits of a transaction stands as its servers vote, learn and are told that it ends, and files that hold something are due.
-use Rattle.std.proofs.Common.{◌≡◌, ◌≢◌, ℕ, ◌==◌, Bool, true, false, List, [], ◌∷◌, Option, Some, None, refl, sym, ap, subst, ◌∙◌, arith}
-use Rattle.std.proofs.lemmas.Bool.Decides.{nat_tests}
-use Rattle.std.specs.Prelude.{not, unwrap_or}
-use Rattle.std.specs.Map.{lookup}
-use Rattle.std.specs.BTreeMap.{is_at}
-use Rattle.qs_base.specs.Order.{tid_cmp}
-use Rattle.qs_base.specs.declared.identifiers.Member.{Member}
-use Rattle.qs_base.specs.declared.identifiers.NodeNo.{NodeNo}
-use Rattle.qs_base.specs.declared.identifiers.Outcome.{Outcome}
+use Rattle.qs_world_lawful.proofs.Words.{◌≡◌, ℕ, ◌==◌, Bool, true, false, List, [], ◌∷◌, Option, Some, None, refl, sym, ap, subst, ◌∙◌, true≢false, not, unwrap_or, lookup, is_at, tid_cmp, Member, NodeNo, Outcome, ServerNo, Tid, Delivery, tid_itself, lookup_put, BookValue, find_transaction, crossed_in, TransactionValue, is_crossed, is_empty, life, life_cmp, changed_value, no_part, voted, voted_part, learnt, learnt_part, ended_part, Part, ServerValue, after_vote, voted_by, voted_in, after_notice}
+use Rattle.qs_world_lawful.proofs.Words.{noted_by, noted_in, TableValue, share_of, nothing_held, applied, Kind, Share, Vote, ServersValue, with_server, notice_of, at_server, HoldsServers, is_seen, seen_in, HoldsWaits, is_idle, eqb-false}
 use Rattle.qs_base.specs.declared.identifiers.Outcome.TheVariants as outcomes
-use Rattle.qs_base.specs.declared.identifiers.ServerNo.{ServerNo}
-use Rattle.qs_base.specs.declared.identifiers.Tid.{Tid}
-use Rattle.qs_ipc.specs.declared.delivery.Delivery.{Delivery}
-use Rattle.qs_book_laws.proofs.Alikes.{tid_itself}
-use Rattle.qs_book_laws.proofs.Maps.{lookup_put}
-use Rattle.qs_book_machine.specs.Book.{BookValue, find_transaction, crossed_in}
 use Rattle.qs_book_machine.specs.Nodes as machine
-use Rattle.qs_book_machine.specs.Transaction.{TransactionValue, is_crossed, is_empty, life, life_cmp, changed_value, no_part, voted, voted_part, learnt, learnt_part, ended, ended_part}
-use Rattle.qs_book_machine.specs.declared.transaction.Part.{Part}
-use Rattle.qs_ops.specs.Server.{ServerValue, after_vote, voted_by, voted_in, after_notice, noted_by, noted_in}
+use Rattle.qs_book_machine.specs.Transaction.{ended}
 use Rattle.qs_ops.specs.Servers as numbers
-use Rattle.qs_ops.specs.Table.{TableValue, share_of, nothing_held, applied}
-use Rattle.qs_ops.specs.declared.server.ServerKind.{ServerKind}
-use Rattle.qs_ops.specs.declared.share.Share.{Share}
 use Rattle.qs_ops.specs.declared.vote.Notice.TheVariants as notices
-use Rattle.qs_ops.specs.declared.vote.Vote.{Vote}
 use Rattle.qs_ops.specs.declared.vote.Vote.TheVariants as votes
-use Rattle.qs_node_servers.specs.Servers.{ServersValue, with_server}
-use Rattle.qs_node_step.specs.Deciding.{notice_of}
 use Rattle.qs_tm.specs.Members as rules
-use Rattle.qs_world_lawful.specs.Face.{at_server}
-use Rattle.qs_world_lawful.specs.Tables.{HoldsServers, is_seen, seen_in}
-use Rattle.qs_world_lawful.specs.Waits.{HoldsWaits, is_idle}
 use Rattle.qs_world_lawful.proofs.MemberRule.{parts_alike}
 use Rattle.qs_world_lawful.proofs.MemberTid.{lives_apart}
 use Rattle.qs_world_lawful.proofs.Parts.{changed_part_apart}
 use Rattle.qs_world_lawful.proofs.Pending.{files_here, files_elsewhere, gone}
 use Rattle.qs_world_lawful.proofs.SameWaits.{waits_on}
-
-differ : (a b : ℕ) → (a == b) ≡ false → a ≢ b
-differ a b e s = grind (arith, nat_tests, e, s)
-
-clash : true ≡ false → ⊥
-clash e = cc e
 
 -- what the machine sees of a transaction at a server is what is not crossed there
 pub seen_here : (book : BookValue) (here : NodeNo) (server : ServerNo) (tid : Tid) → is_seen book here server.0 tid ≡ not (crossed_in (find_transaction book tid) (at_server here server))
@@ -64,7 +34,7 @@ seen_committed book here server tid tx found whole =
 module _ (here : NodeNo) (inc : ℕ) (tid : Tid) (tx : TransactionValue) (waiting : ServerNo → List Delivery) (servers : ServersValue) (seen : ℕ → Tid → Bool) (state : machine.NodeValue) (s : HoldsServers seen state servers)
     (k : HoldsWaits here inc tid tx waiting servers) (server : ServerNo) where
   none_idle : (table : TableValue) → share_of table tid ≡ nothing_held → is_idle (share_of table tid) ≡ false → ⊥
-  none_idle table is busy = clash (sym (ap is_idle is) ∙ busy)
+  none_idle table is busy = true≢false (sym (ap is_idle is) ∙ busy)
 
   -- another server than files leaves what they hold
   idle_elsewhere : (u : ServerValue → ServerValue) → (server.0 == numbers.files_no) ≡ false → is_idle (share_of (with_server server u servers).files.table tid) ≡ false → is_idle (share_of servers.files.table tid) ≡ false
@@ -89,7 +59,7 @@ module _ (here : NodeNo) (inc : ℕ) (tid : Tid) (tx : TransactionValue) (waitin
     where
       by : (b : Bool) → (server.0 == numbers.files_no) ≡ b → is_idle (share_of servers.files.table tid) ≡ false
       by true is = idle_voted_in ballot (subst (λ (v : ServerValue). is_idle (share_of v.table tid) ≡ false)
-          (files_here server (λ value. after_vote value tid ballot) servers is ∙ ap (λ (kind : ServerKind). voted_by kind tid ballot servers.files) s.kinds.files) busy)
+          (files_here server (λ value. after_vote value tid ballot) servers is ∙ ap (λ (kind : Kind). voted_by kind tid ballot servers.files) s.kinds.files) busy)
       by false is = idle_elsewhere (λ value. after_vote value tid ballot) is busy
 
   pub voted_waits : (ballot : Vote) → HoldsWaits here inc tid (voted (at_server here server) inc ballot tx) waiting (with_server server (λ value. after_vote value tid ballot) servers)
@@ -101,7 +71,7 @@ module _ (here : NodeNo) (inc : ℕ) (tid : Tid) (tx : TransactionValue) (waitin
   -- nothing is held at files once they learnt
   gone_noted : (outcome : Outcome) → (server.0 == numbers.files_no) ≡ true → share_of (with_server server (λ value. after_notice value tid (notice_of outcome)) servers).files.table tid ≡ nothing_held
   gone_noted outcome is =
-      ap (λ (v : ServerValue). share_of v.table tid) (files_here server (λ value. after_notice value tid (notice_of outcome)) servers is ∙ ap (λ (kind : ServerKind). noted_by kind (notice_of outcome) tid servers.files) s.kinds.files)
+      ap (λ (v : ServerValue). share_of v.table tid) (files_here server (λ value. after_notice value tid (notice_of outcome)) servers is ∙ ap (λ (kind : Kind). noted_by kind (notice_of outcome) tid servers.files) s.kinds.files)
       ∙ none outcome
     where
       none : (o : Outcome) → share_of (noted_in (notice_of o) tid servers.files.table) tid ≡ nothing_held
@@ -112,7 +82,7 @@ module _ (here : NodeNo) (inc : ℕ) (tid : Tid) (tx : TransactionValue) (waitin
   due_elsewhere : (g : Part → Part) (u : ServerValue → ServerValue) → (server.0 == numbers.files_no) ≡ false → is_idle (share_of (with_server server u servers).files.table tid) ≡ false
       → (unwrap_or (lookup (is_at (life_cmp (life (at_server here rules.files_no) inc))) (changed_value (is_at (life_cmp (life (at_server here server) inc))) g tx.parts)) no_part).due ≡ true
   due_elsewhere g u far busy =
-      ap (λ (p : Part). p.due) (changed_part_apart (life (at_server here server) inc) g tx.parts (at_server here rules.files_no) inc (lives_apart here inc server rules.files_no (differ server.0 numbers.files_no far)))
+      ap (λ (p : Part). p.due) (changed_part_apart (life (at_server here server) inc) g tx.parts (at_server here rules.files_no) inc (lives_apart here inc server rules.files_no (eqb-false server.0 numbers.files_no far)))
       ∙ k.due (idle_elsewhere u far busy)
 
   learnt_due : (outcome : Outcome) → is_idle (share_of (with_server server (λ value. after_notice value tid (notice_of outcome)) servers).files.table tid) ≡ false

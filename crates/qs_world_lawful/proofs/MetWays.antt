@@ -1,26 +1,13 @@
 -- What is on its way goes on as a node gets to know a first incarnation of another: what waited for it is posted behind all that was, and of what
 -- that node has on its way the incarnations before are not known any more.
-use Rattle.std.proofs.Common.{◌≡◌, ℕ, ◌<◌, ◌≤◌, ◌+◌, ◌-◌, ◌==◌, ◌++◌, ◌&&◌, not, zero, suc, Bool, true, false, List, [], ◌∷◌, drop, length, Some, refl, sym, ap, subst, ◌∙◌, arith, nat_lt, nat_le, if◌then◌else◌, append-nil, append_assoc}
-use Rattle.std.proofs.lemmas.Bool.Decides.{nat_tests}
-use Rattle.std.proofs.lemmas.Grind.{flat_map-append}
-use Rattle.qs_base.specs.declared.identifiers.ServerNo.{ServerNo}
-use Rattle.qs_base.specs.declared.identifiers.Tid.{Tid}
-use Rattle.qs_session_channels.specs.Channels.{Channels}
-use Rattle.qs_session_channels.specs.Network.{with_at2}
-use Rattle.qs_book_machine.specs.Book.{BookValue, find_transaction}
-use Rattle.qs_book_machine.specs.Transaction.{TransactionValue}
-use Rattle.qs_ops.specs.declared.operation.Op.{Op}
-use Rattle.qs_world.specs.Moves.{Meet, is_later, may_move, moved}
-use Rattle.qs_world.specs.World.{Parcel, World}
+use Rattle.qs_world_lawful.proofs.Words.{◌≡◌, ℕ, ◌<◌, ◌≤◌, ◌+◌, ◌-◌, ◌==◌, ◌++◌, ◌&&◌, not, zero, suc, Bool, true, false, List, [], ◌∷◌, drop, length, Some, refl, sym, ap, subst, ◌∙◌, arith, nat_lt, nat_le, if◌then◌else◌, append-nil, append_assoc, nat_tests, flat_map-append, ServerNo, Tid, Channels, with_at2, BookValue, find_transaction, TransactionValue, Op, Meet, is_later, may_move, moved, Parcel, World, HoldsChannels, on_its_way, ops_of, pending, pending_from, way_between, IsWithin}
+use Rattle.qs_world_lawful.proofs.Words.{standing_ops, waiting_ops, AreSound, eqb-self, zero_plus, both_ways, eqb-true}
 use Rattle.qs_world_lawful.specs.Face.{waiting_at}
-use Rattle.qs_world_lawful.specs.Parcels.{HoldsChannels, HoldsWays, on_its_way, ops_of, pending, pending_from, way_between}
-use Rattle.qs_world_lawful.specs.Waits.{IsWithin, standing_ops, waiting_ops}
-use Rattle.qs_world_lawful.specs.WayLaws.{AreSound, EachMeetKeepsWays}
-use Rattle.qs_world_lawful.proofs.Truths.{number_is}
+use Rattle.qs_world_lawful.specs.Parcels.{HoldsWays}
+use Rattle.qs_world_lawful.specs.WayLaws.{EachMeetKeepsWays}
 use Rattle.qs_world_lawful.proofs.WithinParts.{pending_last, pending_parts, pending_same, within_around, within_first}
-
-clash : (x : Bool) → x ≡ false → x ≡ true → ⊥
-clash x e f = cc (sym e ∙ f)
+use Rattle.qs_base_lemmas.proofs.Tests.{lt_apart}
+use Rattle.std.proofs.lemmas.Bool.{leb-true}
 
 drop_front : (k : ℕ) (xs ys : List Parcel) → k ≤ length xs → drop k (xs ++ ys) ≡ drop k xs ++ ys
 drop_front zero xs ys low = refl
@@ -48,11 +35,8 @@ module _ (book : BookValue) (world : World) (n stamp m inc : ℕ) (channels : Ho
       is_none : (k : ℕ) → (k == 0) ≡ true → k ≡ 0
       is_none k e = grind (arith, nat_tests, e)
 
-      is_low : (k l : ℕ) → nat_le k l ≡ true → k ≤ l
-      is_low k l e = grind (arith, nat_tests, e)
-
       of : (s t u : Bool) → (m == n) ≡ u → (v w : Bool) → (c.peer n m == 0) ≡ w → (x y : Bool) → nat_le inc (c.inc m) ≡ y → (z : Bool) → (s && (t && ((not u && v) && (w && (x && (y && z)))))) ≡ true → Meets
-      of true true false apart true true known true true low z e = record { other = apart; unknown = is_none (c.peer n m) known; begun = is_low inc (c.inc m) low }
+      of true true false apart true true known true true low z e = record { other = apart; unknown = is_none (c.peer n m) known; begun = leb-true inc (c.inc m) low }
       of true true false apart true true known true false low z e = absurd (cc e)
       of true true false apart true true known false y low z e = absurd (cc e)
       of true true false apart true false known x y low z e = absurd (cc e)
@@ -96,18 +80,12 @@ module _ (book : BookValue) (world : World) (n stamp m inc : ℕ) (channels : Ho
         whole : (p l : ℕ) → p ≤ l → p + (l - p) ≡ l
         whole p l e = grind (arith, e)
 
-        before : (i l : ℕ) → i < l → (i == l) ≡ false
-        before i l e = grind (arith, nat_tests, e)
-
-        itself : (l : ℕ) → (l == l) ≡ true
-        itself l = grind (arith, nat_tests)
-
         at_last : c.inc b ≡ inc → met a b (c.inc a) ≡ at (c.inc a) ++ c.waits a b
-        at_last same = rw (itself (c.inc a), ap (λ (k : ℕ). k == inc) same ∙ itself inc) (ap (λ (k : ℕ). drop (length (c.handed a b (c.inc a) (c.inc b))) (c.posted a b (c.inc a) k ++ c.waits a b)) (sym same)
+        at_last same = rw (eqb-self (c.inc a), ap (λ (k : ℕ). k == inc) same ∙ eqb-self inc) (ap (λ (k : ℕ). drop (length (c.handed a b (c.inc a) (c.inc b))) (c.posted a b (c.inc a) k ++ c.waits a b)) (sym same)
             ∙ drop_front (length (c.handed a b (c.inc a) (c.inc b))) (c.posted a b (c.inc a) (c.inc b)) (c.waits a b) (sound.within a b (c.inc a) (c.inc b)))
 
         less : (i : ℕ) → i < c.inc a → met a b i ≡ at i
-        less i e = rw (before i (c.inc a) e) refl
+        less i e = rw (lt_apart i (c.inc a) e) refl
 
         apart_at : (c.inc b == inc) ≡ false → (i : ℕ) → met a b i ≡ at i
         apart_at far i = of (i == c.inc a)
@@ -118,7 +96,7 @@ module _ (book : BookValue) (world : World) (n stamp m inc : ℕ) (channels : Ho
 
         by : (x : Bool) → (c.inc b == inc) ≡ x → Met a b
         by true same = subst (λ (ps : List Parcel). IsWithin (W b ++ ops ps) rs) (sym (append-nil _ ∙ (ap (pending_from (met a b) (c.peer b a)) (numbers (c.peer b a) (c.inc a) (channels.known b a))
-            ∙ (pending_last at (met a b) (c.waits a b) (c.inc a) (at_last (number_is (c.inc b) inc same)) less (c.peer b a) (c.inc a - c.peer b a) (whole (c.peer b a) (c.inc a) (channels.known b a))
+            ∙ (pending_last at (met a b) (c.waits a b) (c.inc a) (at_last (eqb-true (c.inc b) inc same)) less (c.peer b a) (c.inc a - c.peer b a) (whole (c.peer b a) (c.inc a) (channels.known b a))
             ∙ ap (λ (k : ℕ). pending_from at (c.peer b a) k ++ c.waits a b) (sym (numbers (c.peer b a) (c.inc a) (channels.known b a))))))) was_so
         by false far = subst (λ (ps : List Parcel). IsWithin (W b ++ ops ps) rs) (sym (append-nil _ ∙ pending_same (met a b) at (apart_at far) (c.peer b a) ((c.inc a + 1) - c.peer b a)))
             (within_first (W b) (ops P) (ops (c.waits a b)) rs (subst (λ (xs : List Op). IsWithin (W b ++ xs) rs) (flat_map-append _ P (c.waits a b)) was_so))
@@ -133,12 +111,9 @@ module _ (book : BookValue) (world : World) (n stamp m inc : ℕ) (channels : Ho
         numbers : (j l : ℕ) → j ≤ l → (l + 1) - 0 ≡ j + ((l + 1) - j)
         numbers j l e = grind (arith, e)
 
-        none_plus : (j : ℕ) → 0 + j ≡ j
-        none_plus j = grind (arith)
-
         parts : P ++ c.waits a b ≡ pending_from at 0 inc ++ (pending_from at inc ((c.inc a + 1) - inc) ++ c.waits a b)
         parts = ap (λ (k : ℕ). pending_from at k ((c.inc a + 1) - k) ++ c.waits a b) unknown
-            ∙ (ap (λ (ps : List Parcel). ps ++ c.waits a b) (ap (pending_from at 0) (numbers inc (c.inc a) low) ∙ (pending_parts at 0 inc ((c.inc a + 1) - inc) ∙ ap (λ (k : ℕ). pending_from at 0 inc ++ pending_from at k ((c.inc a + 1) - inc)) (none_plus inc)))
+            ∙ (ap (λ (ps : List Parcel). ps ++ c.waits a b) (ap (pending_from at 0) (numbers inc (c.inc a) low) ∙ (pending_parts at 0 inc ((c.inc a + 1) - inc) ∙ ap (λ (k : ℕ). pending_from at 0 inc ++ pending_from at k ((c.inc a + 1) - inc)) (zero_plus inc)))
             ∙ append_assoc (pending_from at 0 inc) (pending_from at inc ((c.inc a + 1) - inc)) (c.waits a b))
 
     pub met_way : IsWithin (waiting_ops (way_between a b number) (waiting_at ((moved (Meet n stamp m inc) world).hosts b).node tid server) ++ ops (on_its_way (moved (Meet n stamp m inc) world).channels a b)) rs
@@ -151,12 +126,12 @@ module _ (book : BookValue) (world : World) (n stamp m inc : ℕ) (channels : Ho
             → IsWithin (waiting_ops (way_between a b number) (waiting_at (if u then record (world.hosts n) { stamp = stamp } else world.hosts b).node tid server)
             ++ ops (pending_from (λ i. drop (length (c.handed a b i (c.inc b))) ((if x then (if y then with_at2 (c.posted n m) (c.inc n) inc (c.posted n m (c.inc n) inc ++ c.waits n m) else c.posted a b) else c.posted a b) i (c.inc b))) (if u then (if v then inc else c.peer b a) else c.peer b a) ((c.inc a + 1) - (if u then (if v then inc else c.peer b a) else c.peer b a))
             ++ (if x then (if y then [] else c.waits a b) else c.waits a b))) rs
-        by true near y is true too v e = absurd (clash (a == b) apart (both a b n near too))
-        by true near true is false too v e = subst (λ (l : ℕ). Met n l) (number_is b m is) (subst (λ (k : ℕ). Met k b) (number_is a n near) met_own)
+        by true near y is true too v e = absurd (both_ways (a == b) apart (both a b n near too))
+        by true near true is false too v e = subst (λ (l : ℕ). Met n l) (eqb-true b m is) (subst (λ (k : ℕ). Met k b) (eqb-true a n near) met_own)
         by true near false is false too v e = was_so
-        by false far y is true too true e = subst (λ (k : ℕ). IsWithin (W k ++ ops (pending_from at inc ((c.inc a + 1) - inc) ++ c.waits a b)) rs) (number_is b n too)
-            (back (subst (λ (l : ℕ). c.peer b l ≡ 0) (sym (number_is a m e)) (subst (λ (k : ℕ). c.peer k m ≡ 0) (sym (number_is b n too)) meets.unknown)) (subst (λ (k : ℕ). inc ≤ c.inc k) (sym (number_is a m e)) meets.begun))
-        by false far y is true too false e = subst (λ (k : ℕ). IsWithin (W k ++ ops (P ++ c.waits a b)) rs) (number_is b n too) was_so
+        by false far y is true too true e = subst (λ (k : ℕ). IsWithin (W k ++ ops (pending_from at inc ((c.inc a + 1) - inc) ++ c.waits a b)) rs) (eqb-true b n too)
+            (back (subst (λ (l : ℕ). c.peer b l ≡ 0) (sym (eqb-true a m e)) (subst (λ (k : ℕ). c.peer k m ≡ 0) (sym (eqb-true b n too)) meets.unknown)) (subst (λ (k : ℕ). inc ≤ c.inc k) (sym (eqb-true a m e)) meets.begun))
+        by false far y is true too false e = subst (λ (k : ℕ). IsWithin (W k ++ ops (P ++ c.waits a b)) rs) (eqb-true b n too) was_so
         by false far y is false too v e = was_so
 
 pub meet_ways : EachMeetKeepsWays

@@ -1,28 +1,10 @@
 -- Transactions are numbered from 1, after each act of a node that runs.
-use Rattle.std.proofs.Common.{◌≡◌, ℕ, ◌+◌, Bool, true, false, List, Option, Some, None, refl, sym, ap, subst, ◌∙◌, arith}
-use Rattle.std.proofs.lemmas.Bool.Decides.{nat_tests}
-use Rattle.std.specs.Prelude.{is_some, nat_lt, slice_get}
-use Rattle.std.specs.Option.{option_map}
-use Rattle.std.specs.BTreeMap.{is_at}
-use Rattle.std.specs.declared.cmp.Ordering.TheVariants.{Equal}
-use Rattle.qs_base.specs.Order.{tid_cmp}
-use Rattle.qs_base.specs.declared.identifiers.ClientNo.{ClientNo}
-use Rattle.qs_base.specs.declared.identifiers.Tid.{Tid}
-use Rattle.qs_book_journal.specs.declared.entry.Act.{Act}
+use Rattle.qs_world_lawful.proofs.Words.{◌≡◌, ℕ, ◌+◌, Bool, true, false, List, Option, Some, None, refl, sym, ap, subst, ◌∙◌, arith, nat_tests, is_some, nat_lt, slice_get, option_map, is_at, Equal, tid_cmp, ClientNo, Tid, Act, TransactionValue, asked_at, decided_at, BookValue, find_transaction, with_transaction, begin, tick_node, crash_node, broken, effect, effect_act, at_exact, face, changed_alike, lookup_put_apart, next_is, begin_may, held, names_transaction, entry_of, IsNamed}
 use Rattle.qs_book_journal.specs.declared.entry.Act.TheVariants as acts
-use Rattle.qs_book_machine.specs.Transaction.{TransactionValue, asked_at, decided_at}
-use Rattle.qs_book_machine.specs.Book.{BookValue, find_transaction, with_node, with_transaction, begin, issue, serve, vote, count, end, learn, answer, loan, give_back, tick_node, crash_node}
-use Rattle.qs_book_machine.specs.Lawful.{broken, effect, effect_act}
+use Rattle.qs_book_machine.specs.Book.{with_node, issue, serve, vote, count, end, learn, answer, loan, give_back}
 use Rattle.qs_book_machine.specs.Nodes.{NodeValue}
 use Rattle.qs_book_laws.proofs.Acts as of
-use Rattle.qs_book_laws.proofs.Alikes.{at_exact}
-use Rattle.qs_book_laws.proofs.Faces.{face, face_at}
-use Rattle.qs_book_laws.proofs.Maps.{changed_alike, lookup_put_apart}
-use Rattle.qs_book_laws.proofs.Outcomes.{next_is}
-use Rattle.qs_book_laws.proofs.Steps.{begin_may, held}
-use Rattle.qs_restart.specs.Recovery.{names_transaction}
-use Rattle.qs_world.specs.Posting.{entry_of}
-use Rattle.qs_world_lawful.specs.Logged.{IsNamed}
+use Rattle.qs_book_laws.proofs.Faces.{face_at}
 use Rattle.qs_world_lawful.proofs.LogActs.{acting, is_begun}
 
 some_of : {X Y : Type 0} (f : X → Y) (o : Option X) (p : Option X) → option_map f p ≡ option_map f o → is_some p ≡ is_some o

@@ -1,13 +1,12 @@
 -- A note's text tells its count.
-use Rattle.std.proofs.Common.{◌≡◌, ℕ, ◌+◌, ◌<◌, ◌≤◌, ◌==◌, ◌/◌, ◌^◌, ◌*◌, ◌%◌, ◌++◌, Bool, true, false, List, [], ◌∷◌, zero, suc, refl, sym, ap, subst, ◌∙◌, arith, nat_lt, length, codes, if◌then◌else◌}
-use Rattle.std.proofs.lemmas.Bool.Decides.{nat_tests}
+use Rattle.qs_world_lawful.proofs.Words.{◌≡◌, ℕ, ◌+◌, ◌<◌, ◌≤◌, ◌==◌, ◌^◌, ◌++◌, Bool, true, false, List, [], ◌∷◌, zero, suc, refl, sym, ap, subst, ◌∙◌, arith, nat_lt, length, if◌then◌else◌, nat_tests, Tid, is_zero_plus}
+use Rattle.std.proofs.Common.{◌/◌, ◌*◌, ◌%◌, codes}
 use Rattle.std.proofs.Math.Nat.{le-div_iff_mul-le}
 use Rattle.std.proofs.lemmas.Fmt.{decimal_is_IsNumeral_wide, length-decimal-le}
 use Rattle.std.proofs.lemmas.List.{append_cancel_left}
 use Rattle.std.specs.Fmt.{decimal, digit_glyph, digits, digits_onto}
 use Rattle.std.specs.Str.Parse.{digits_value}
 use native.Mathlib.Numerals.{unary_clauses}
-use Rattle.qs_base.specs.declared.identifiers.Tid.{Tid}
 use Rattle.qs_book_machine.specs.Clauses.{note_text}
 
 -- so many digits of a number that has more
@@ -28,10 +27,7 @@ rest k n h = (le-div_iff_mul-le ten).1 (subst (λ (m : ℕ). m ≤ n) (power k) 
     ten = grind arith
 
 full : (k n : ℕ) (acc : List ℕ) → 10 ^ k ≤ n → length (digits_onto k 10 false n acc) ≡ k + length acc
-full zero n acc h = none (length acc)
-  where
-    none : (m : ℕ) → m ≡ 0 + m
-    none m = grind arith
+full zero n acc h = is_zero_plus (length acc)
 full (suc k) n acc h = by (n / 10 == 0) refl (full k (n / 10) (digit_glyph false (n % 10) ∷ acc) (rest k n h))
   where
     no : (a b : ℕ) → 1 ≤ a → a ≤ b → (b == 0) ≡ true → ⊥

@@ -1,33 +1,14 @@
 -- Files issue their note: to audit here or of another node, once for each count of changes, while commit is asked for.
-use Rattle.std.proofs.Common.{◌≡◌, ◌≢◌, ◌⊎◌, inl, inr, ℕ, ◌==◌, ◌+◌, ◌≤◌, ◌<◌, Bool, true, false, List, Option, Some, None, refl, sym, ap, subst, ◌∙◌, arith, length, nat_lt}
-use Rattle.std.proofs.lemmas.Bool.Decides.{nat_tests}
-use Rattle.std.specs.Prelude.{not, ◌&&◌, is_some, if◌then◌else◌}
-use Rattle.qs_base.specs.declared.identifiers.NodeNo.{NodeNo}
-use Rattle.qs_base.specs.declared.identifiers.Tid.{Tid}
-use Rattle.qs_base.proofs.Same.{same_bytes-self}
-use Rattle.qs_engage.specs.Engage.{last_number, peer_of}
-use Rattle.qs_engage.specs.Nodes.{same_node}
+use Rattle.qs_world_lawful.proofs.Words.{◌≡◌, ◌⊎◌, inl, inr, ℕ, ◌==◌, ◌+◌, ◌≤◌, ◌<◌, Bool, true, false, List, Option, Some, None, refl, sym, ap, subst, ◌∙◌, arith, length, nat_lt, true≢false, nat_tests, not, ◌&&◌, is_some, if◌then◌else◌, NodeNo, Tid, same_bytes-self, last_number, peer_of, same_node, BookValue, find_transaction, broken, TransactionValue, has_note, is_commit, Op, Note, issue_away, issue_here, local_count, next_local, Work, here, change_count, issue_note, awaits_note, has_noted}
+use Rattle.qs_world_lawful.proofs.Words.{Outstanding, Participant, entry_of, HoldsWork, book_at, at_server, face_of, part_in, part_or_new, Holds, HoldsTid, next_to, ltb_some, eq-eqb, eqb-true, eqb-false}
 use Rattle.qs_book_journal.specs.declared.entry.Act.TheVariants as acts
-use Rattle.qs_book_machine.specs.Book.{BookValue, find_transaction}
 use Rattle.qs_book_machine.specs.Clauses.{files_count, is_note, is_note_due, note_here}
-use Rattle.qs_book_machine.specs.Lawful.{broken}
-use Rattle.qs_book_machine.specs.Transaction.{TransactionValue, has_note, is_commit, part_of}
-use Rattle.qs_ops.specs.declared.operation.Op.{Op}
-use Rattle.qs_ops.specs.declared.operation.Op.TheVariants.{Note}
+use Rattle.qs_book_machine.specs.Transaction.{part_of}
 use Rattle.qs_node_servers.specs.Servers.{audit_no}
-use Rattle.qs_node_step.specs.Requests.{issue_away, issue_here, local_count, next_local}
-use Rattle.qs_node_step.specs.State.{Work, NodeValue, here}
-use Rattle.qs_node_step.specs.Voting.{change_count, issue_note, note_text}
+use Rattle.qs_node_step.specs.State.{NodeValue}
+use Rattle.qs_node_step.specs.Voting.{note_text}
 use Rattle.qs_tm.specs.Manager as tm
 use Rattle.qs_tm.specs.Members as rules
-use Rattle.qs_tm.specs.Participant.{awaits_note, has_noted}
-use Rattle.qs_tm.specs.declared.participant.Outstanding.{Outstanding}
-use Rattle.qs_tm.specs.declared.participant.Participant.{Participant}
-use Rattle.qs_world.specs.Posting.{entry_of}
-use Rattle.qs_world_lawful.specs.Entering.{HoldsWork, book_at}
-use Rattle.qs_world_lawful.specs.Face.{at_server, face_of, part_in, part_or_new}
-use Rattle.qs_world_lawful.specs.Holds.{Holds, HoldsTid}
-use Rattle.qs_world_lawful.specs.Issues.{next_to}
 use Rattle.qs_world_lawful.proofs.Clauses.{known_held, lawful_act, of_tid}
 use Rattle.qs_world_lawful.proofs.Issuing.{number_is}
 use Rattle.qs_world_lawful.proofs.IssuingAway.{by_issue_away}
@@ -54,12 +35,9 @@ module _ (stamp : ℕ) (book : BookValue) (node : NodeValue) (h : Holds stamp bo
   unserved : 1 ≤ count → has_noted count part ≡ false → awaits_note part ≡ false → has_note tx (note_here node.setting.node.0 h.state text) ≡ false
   unserved some unnoted idle = ap (λ (inc : ℕ). has_note tx (record { node = node.setting.node; inc = inc; text = text })) h.same.inc ∙ by (has_note tx (record { node = node.setting.node; inc = node.setting.inc; text = text })) refl
     where
-      clash : true ≡ false → ⊥
-      clash e = cc e
-
       neither : (has_noted count (part_in (face_of node tid)) ≡ true) ⊎ (awaits_note (part_in (face_of node tid)) ≡ true) → ⊥
-      neither (inl is) = clash (sym (sym (ap (has_noted count) part_is) ∙ is) ∙ unnoted)
-      neither (inr is) = clash (sym (sym (ap awaits_note part_is) ∙ is) ∙ idle)
+      neither (inl is) = true≢false (sym (sym (ap (has_noted count) part_is) ∙ is) ∙ unnoted)
+      neither (inr is) = true≢false (sym (sym (ap awaits_note part_is) ∙ is) ∙ idle)
 
       by : (b : Bool) → has_note tx (record { node = node.setting.node; inc = node.setting.inc; text = text }) ≡ b → b ≡ false
       by false is = refl
@@ -68,25 +46,19 @@ module _ (stamp : ℕ) (book : BookValue) (node : NodeValue) (h : Holds stamp bo
   module _ (asked : part.asked ≡ true) (still : is_commit tx.cell ≡ false) (some : nat_lt 0 (change_count tid node) ≡ true) (unnoted : has_noted (change_count tid node) part ≡ false) (idle : awaits_note part ≡ false) where
     due : is_note_due node.setting.node.0 h.state tid tx (Note text) ≡ true
     due = subst (λ (n : ℕ). ((is_some tx.asked && nat_lt 0 n) && (is_note (note_text tid node.setting.node n) (Note text) && not (has_note tx (note_here node.setting.node.0 h.state (note_text tid node.setting.node n))))) ≡ true) (sym counted_is)
-        (all _ _ _ _ (held.asked (ap (λ (p : Participant). p.asked) part_is ∙ asked)) some (same_bytes-self text) (unserved (least count some) unnoted idle))
+        (all _ _ _ _ (held.asked (ap (λ (p : Participant). p.asked) part_is ∙ asked)) some (same_bytes-self text) (unserved (ltb_some count some) unnoted idle))
       where
         all : (a b c d : Bool) → a ≡ true → b ≡ true → c ≡ true → d ≡ false → ((a && b) && (c && not d)) ≡ true
         all a b c d p q r s = rw (p, q, r, s) refl
-
-        least : (n : ℕ) → nat_lt 0 n ≡ true → 1 ≤ n
-        least n e = grind (arith, nat_tests, e)
 
     pub note_issues : (to : NodeNo) → nat_lt to.0 node.setting.nodes ≡ true
         → broken book (entry_of node.setting.node.0 stamp (acts.Issue tid (at_server node.setting.node rules.files_no) (record { node = to; server = audit_no }) (next_to node tid to) (Note text))) ≡ None
     note_issues to in_run =
         lawful_act stamp book node h (acts.Issue tid (at_server node.setting.node rules.files_no) (record { node = to; server = audit_no }) (next_to node tid to) (Note text)) (λ state. refl)
-        (rw found (allowed _ _ _ _ _ _ still (same _ _ (number_is stamp book node h tid tx found (record { node = to; server = audit_no }) still)) (subst (λ n. nat_lt to.0 n ≡ true) (sym h.run) in_run) (files_here node.setting.node.0) due))
+        (rw found (allowed _ _ _ _ _ _ still (eq-eqb _ _ (number_is stamp book node h tid tx found (record { node = to; server = audit_no }) still)) (subst (λ n. nat_lt to.0 n ≡ true) (sym h.run) in_run) (files_here node.setting.node.0) due))
       where
         clause : ℕ → Option ℕ
         clause n = Some n
-
-        same : (a b : ℕ) → a ≡ b → (a == b) ≡ true
-        same a b e = grind (arith, nat_tests, e)
 
         files_here : (n : ℕ) → ((n == n) && (0 == 0)) ≡ true
         files_here n = grind (arith, nat_tests)
@@ -114,22 +86,16 @@ module _ (stamp : ℕ) (before : BookValue) (work : Work) (h : HoldsWork stamp b
   pub by_note : (to : NodeNo) → nat_lt to.0 work.node.setting.nodes ≡ true → to.0 < length part.engage.peers → HoldsWork stamp before (issue_note tid (Some to) work)
   by_note to in_run slot = by (same_node to (here work)) refl
     where
-      equal : (a b : ℕ) → (a == b) ≡ true → a ≡ b
-      equal a b e = grind (arith, nat_tests, e)
-
-      differ : (a b : ℕ) → (a == b) ≡ false → a ≢ b
-      differ a b e is = grind (arith, nat_tests, e, is)
-
       near : same_node to (here work) ≡ true → (b : Bool) → (local_count tid work.node == last_number) ≡ b
           → HoldsWork stamp before (elim (if b then None else Some (local_count tid work.node + 1)) [ None ↦ work | Some number ↦ issue_here tid (request to number) op work ])
       near is true full = h
-      near is false room = by_issue_here stamp before work tid (request to (local_count tid work.node + 1)) op part tx h known found (ap (λ (n : ℕ). record { 0 = n }) (equal to.0 work.node.setting.node.0 is)) refl refl
+      near is false room = by_issue_here stamp before work tid (request to (local_count tid work.node + 1)) op part tx h known found (ap (λ (n : ℕ). record { 0 = n }) (eqb-true to.0 work.node.setting.node.0 is)) refl refl
           (lawful_as to in_run (local_count tid work.node + 1) (ap (λ (b : Bool). if b then local_count tid work.node + 1 else (peer_of (part_in (face_of work.node tid)).engage to).sent + 1) is))
 
       far : same_node to (here work) ≡ false → (b : Bool) → ((peer_of part.engage to).sent == last_number) ≡ b
           → HoldsWork stamp before (elim (if b then None else Some ((peer_of part.engage to).sent + 1)) [ None ↦ work | Some number ↦ issue_away tid (request to number) op work ])
       far is true full = h
-      far is false room = by_issue_away stamp before work tid (request to ((peer_of part.engage to).sent + 1)) op part tx h known found (differ to.0 work.node.setting.node.0 is) room slot
+      far is false room = by_issue_away stamp before work tid (request to ((peer_of part.engage to).sent + 1)) op part tx h known found (eqb-false to.0 work.node.setting.node.0 is) room slot
           (lawful_as to in_run ((peer_of part.engage to).sent + 1)
           (ap (λ (b : Bool). if b then local_count tid work.node + 1 else (peer_of (part_in (face_of work.node tid)).engage to).sent + 1) is ∙ ap (λ (p : Participant). (peer_of p.engage to).sent + 1) (ap part_or_new known)))
 

@@ -1,25 +1,10 @@
 -- Notes of files as requests are served: what was issued stays so, and what counts as served was issued.
-use Rattle.std.proofs.Common.{◌≡◌, ◌⊎◌, inl, inr, ℕ, ◌==◌, Bool, true, false, List, [], ◌∷◌, Option, Some, None, Less, Equal, Greater, refl, sym, ap, subst, ◌∙◌, arith}
-use Rattle.std.proofs.lemmas.Bool.Decides.{nat_tests}
-use Rattle.std.proofs.lemmas.Map.Lookups.{exact_bytes, exact_unsigned, exact_pairs}
-use Rattle.std.specs.BTreeMap.{is_at}
-use Rattle.std.specs.BTreeSet.{insert_key}
-use Rattle.std.specs.List.{find, list_any}
-use Rattle.std.specs.Map.{lookup, set_value}
+use Rattle.qs_world_lawful.proofs.Words.{◌≡◌, ◌⊎◌, inl, inr, ℕ, Bool, true, false, List, [], ◌∷◌, Option, Some, None, Less, Equal, Greater, refl, sym, ap, subst, ◌∙◌, exact_unsigned, exact_pairs, is_at, insert_key, find, list_any, lookup, set_value, ◌||◌, unwrap_or, if◌then◌else◌, Ordering, same_bytes-self, bytes_cmp, Member, NodeNo, TransactionValue, changed_value, has_note, is_standing, mark_served, noted_cmp, request_cmp, requests_at, requests_in, served_in, standing_request, Noted, Request}
+use Rattle.qs_world_lawful.proofs.Words.{RequestNo, Op, has_issued, has_note_in, is_note_by, eqb-self}
+use Rattle.std.proofs.lemmas.Map.Lookups.{exact_bytes}
 use Rattle.std.specs.Ordering.{nat_cmp, ordering_then}
-use Rattle.std.specs.Prelude.{◌||◌, unwrap_or, if◌then◌else◌}
-use Rattle.std.specs.declared.cmp.Ordering.{Ordering}
-use Rattle.qs_base.proofs.Same.{same_bytes-self}
-use Rattle.qs_base.specs.Order.{bytes_cmp}
-use Rattle.qs_base.specs.declared.identifiers.Member.{Member}
-use Rattle.qs_base.specs.declared.identifiers.NodeNo.{NodeNo}
-use Rattle.qs_book_machine.specs.Transaction.{TransactionValue, changed_value, has_note, is_by_files, is_standing, mark_served, note_of, noted_cmp, request_cmp, requests_at, requests_in, served_in, standing_request, with_note, with_note_of}
-use Rattle.qs_book_machine.specs.declared.transaction.Noted.{Noted}
-use Rattle.qs_book_machine.specs.declared.transaction.Request.{Request}
-use Rattle.qs_book_machine.specs.declared.transaction.RequestNo.{RequestNo}
-use Rattle.qs_ops.specs.declared.operation.Op.{Op}
+use Rattle.qs_book_machine.specs.Transaction.{is_by_files, note_of, with_note, with_note_of}
 use Rattle.qs_ops.specs.declared.operation.Op.TheVariants as ops
-use Rattle.qs_world_lawful.specs.Beside.{has_issued, has_note_in, is_note_by}
 use Rattle.qs_world_lawful.proofs.Truths.{of_some}
 
 -- ---- keys
@@ -63,11 +48,8 @@ any_put_back cmp p k (x ∷ xs) h = by (cmp k x) refl h (any_put_back cmp p k xs
 tells : (r : Request) (note : Noted) → note_of r ≡ Some note → is_note_by note.node note.inc note.text r ≡ true
 tells r note = by (is_by_files r) refl r.op refl
   where
-    itself : (k : ℕ) → (k == k) ≡ true
-    itself k = grind (arith, nat_tests)
-
     of_text : (text : List ℕ) → is_by_files r ≡ true → r.op ≡ ops.Note text → record { node = r.issuer.node; inc = r.inc; text = text } ≡ note → is_note_by note.node note.inc note.text r ≡ true
-    of_text text files op e = subst (λ (m : Noted). is_note_by m.node m.inc m.text r ≡ true) e (rw (itself r.issuer.node.0, itself r.inc, files, op) (same_bytes-self text))
+    of_text text files op e = subst (λ (m : Noted). is_note_by m.node m.inc m.text r ≡ true) e (rw (eqb-self r.issuer.node.0, eqb-self r.inc, files, op) (same_bytes-self text))
 
     by : (b : Bool) → is_by_files r ≡ b → (op : Op) → r.op ≡ op → note_of r ≡ Some note → is_note_by note.node note.inc note.text r ≡ true
     by false other op is h = absurd (cc (rw other at h))

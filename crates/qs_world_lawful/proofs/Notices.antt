@@ -1,24 +1,12 @@
 -- The servers of a node get their notices: endings first where it is aborted, then the outcome. The rules as wholes.
-use Rattle.std.proofs.Common.{◌≡◌, ℕ, Bool, true, false, Option, Some, refl, sym, subst}
-use Rattle.std.specs.Prelude.{◌||◌, is_some}
-use Rattle.qs_base.specs.declared.identifiers.Outcome.{Outcome}
+use Rattle.qs_world_lawful.proofs.Words.{◌≡◌, ℕ, Bool, true, false, Option, Some, refl, sym, subst, is_some, Outcome, Tid, TransactionValue, is_outcome, Cell, BookValue, find_transaction, member_of, Participant, end_member, end_members, give_notices, Work, face_of, HoldsFiles, HoldsTid, HoldsWork, book_at, or_right}
 use Rattle.qs_base.specs.declared.identifiers.Outcome.TheVariants as outcomes
-use Rattle.qs_base.specs.declared.identifiers.Tid.{Tid}
 use Rattle.qs_ops.specs.declared.vote.Notice.TheVariants as notices
-use Rattle.qs_book_machine.specs.Transaction.{TransactionValue, is_outcome, is_abort}
-use Rattle.qs_book_machine.specs.declared.transaction.Cell.{Cell}
+use Rattle.qs_book_machine.specs.Transaction.{is_abort}
 use Rattle.qs_book_machine.specs.declared.transaction.Cell.TheVariants as cells
-use Rattle.qs_book_machine.specs.Book.{BookValue, find_transaction}
 use Rattle.qs_tm.specs.Manager as tm
 use Rattle.qs_tm.specs.Outcomes as outcome_rules
-use Rattle.qs_tm.specs.Participant.{member_of}
-use Rattle.qs_tm.specs.declared.participant.Participant.{Participant}
-use Rattle.qs_node_step.specs.Deciding.{end_member, end_members, give_notices}
-use Rattle.qs_node_step.specs.State.{Work, NodeValue}
-use Rattle.qs_world_lawful.specs.Face.{face_of}
-use Rattle.qs_world_lawful.specs.Filed.{HoldsFiles}
-use Rattle.qs_world_lawful.specs.Holds.{HoldsTid}
-use Rattle.qs_world_lawful.specs.Entering.{HoldsWork, book_at}
+use Rattle.qs_node_step.specs.State.{NodeValue}
 use Rattle.qs_world_lawful.proofs.Clauses.{of_tid}
 use Rattle.qs_world_lawful.proofs.Faces.{part_changed}
 use Rattle.qs_world_lawful.proofs.Endings.{end_if, ended_held, endings_are}
@@ -53,10 +41,6 @@ module _ (stamp : ℕ) (before : BookValue) (tid : Tid) where
       known = part_changed tid (outcome_rules.settled (no 3)) node.manager m.part m.known;
       knows = m.knows;
     }
-      where
-        or_right : (a b : Bool) → b ≡ true → (a || b) ≡ true
-        or_right true b e = refl
-        or_right false b e = e
 
     ended_if : (b : Bool) → (member_of m.part (no 3)).fresh ≡ b → Midst stamp before tid outcomes.Abort (end_if b tid work)
     ended_if true fresh = ended_now fresh

@@ -1,27 +1,7 @@
 -- Transactions of an opening are numbered from 1, where each log names those alone; and so do the logs of a run that begins as it may.
-use Rattle.std.proofs.Common.{◌≡◌, ◌⊎◌, inl, inr, ℕ, ◌+◌, ◌&&◌, ◌++◌, not, Bool, true, false, List, [], ◌∷◌, length, map, fold, flat_map, Option, Some, None, zero, suc, refl, sym, ap, subst, ◌∙◌, is_some, if◌then◌else◌}
-use Rattle.std.specs.List.{filter}
-use Rattle.std.specs.BTreeMap.{insert_entry, is_at}
-use Rattle.qs_base.specs.Order.{tid_cmp}
-use Rattle.qs_base.specs.declared.identifiers.NodeNo.{NodeNo}
-use Rattle.qs_base.specs.declared.identifiers.Tid.{Tid}
-use Rattle.qs_base.proofs.TidOrder.{tid_exact}
-use Rattle.qs_book_laws.proofs.Maps.{lookup_put_apart}
-use Rattle.qs_book_laws.proofs.Openings.{first_book}
-use Rattle.qs_book_machine.specs.Book.{BookValue, find_transaction}
-use Rattle.qs_book_machine.specs.Opening.{name_all, name_from, name_pending, name_transaction, opened_transaction, opening}
-use Rattle.qs_book_machine.specs.Restart.{member_at}
-use Rattle.qs_book_machine.specs.Transaction.{TransactionValue, found_at}
-use Rattle.qs_book_machine.specs.declared.opened.Opened.{Opened}
-use Rattle.qs_book_machine.specs.declared.opened.Pending.{Pending}
-use Rattle.qs_record.specs.declared.record.Record.{Record}
+use Rattle.qs_world_lawful.proofs.Words.{◌≡◌, ◌⊎◌, inl, inr, ℕ, ◌+◌, ◌++◌, not, Bool, true, false, List, [], ◌∷◌, length, map, fold, flat_map, Option, Some, None, zero, suc, refl, sym, ap, subst, ◌∙◌, is_some, if◌then◌else◌, filter, insert_entry, is_at, tid_cmp, NodeNo, Tid, tid_exact, lookup_put_apart, first_book, BookValue, find_transaction, name_all, name_from, name_pending, name_transaction, opened_transaction, opening, member_at, TransactionValue, found_at, Opened, Pending, Record, Prepared}
+use Rattle.qs_world_lawful.proofs.Words.{Recovery, found_record, is_in_doubt, names_transaction, nothing_said, prepare_of, recovery, with_list, opened_from, pending_of, Opening, IsNumbered, IsNamed, Every, and_first}
 use Rattle.qs_record.specs.declared.record.Record.TheVariants as records
-use Rattle.qs_restart.specs.Recovery.{Prepared, Recovery, found_record, is_in_doubt, names_transaction, nothing_said, prepare_of, recovery, with_list}
-use Rattle.qs_world.specs.Histories.{opened_from, pending_of}
-use Rattle.qs_world.specs.World.{Opening}
-use Rattle.qs_world_lawful.specs.LastingLaws.{IsNumbered}
-use Rattle.qs_world_lawful.specs.Logged.{IsNamed}
-use Rattle.qs_world_lawful.specs.Logs.{Every}
 use Rattle.qs_world_lawful.proofs.Apart.{Apart, same_or_apart}
 use Rattle.qs_world_lawful.proofs.LogRecords.{every_append}
 use Rattle.qs_world_lawful.proofs.Turning.{stood, turned_by}
@@ -102,13 +82,9 @@ in_doubt_named : (votes : List Prepared) → Every (λ (p : Pending). IsName p.t
 in_doubt_named [] = tt
 in_doubt_named (v ∷ votes) = by (is_in_doubt v) refl (in_doubt_named votes)
   where
-    first : (a b : Bool) → (a && b) ≡ true → a ≡ true
-    first true b e = refl
-    first false b e = absurd (cc e)
-
     by : (b : Bool) → is_in_doubt v ≡ b → Every (λ (p : Pending). IsName p.tid) (flat_map pending_of (map prepare_of (filter is_in_doubt votes)))
         → Every (λ (p : Pending). IsName p.tid) (flat_map pending_of (map prepare_of (if b then v ∷ filter is_in_doubt votes else filter is_in_doubt votes)))
-    by true is more = (first (names_transaction v.tid) (not v.committed) is, more)
+    by true is more = (and_first (names_transaction v.tid) (not v.committed) is, more)
     by false is more = more
 
 pub opened_numbered : (o : Opening) (n more : ℕ) → Every IsNumbered (opened_from o n more)

@@ -1,21 +1,8 @@
 -- What waits stays numbered: where as many were given, where fewer wait, and as one more gets the next number.
-use Rattle.std.proofs.Common.{◌≡◌, ℕ, ◌+◌, ◌==◌, ◌<◌, ◌≤◌, Bool, true, false, List, [], ◌∷◌, ◌++◌, refl, sym, subst, arith}
-use Rattle.std.proofs.lemmas.Bool.Decides.{nat_tests}
-use Rattle.std.specs.List.{filter, list_any}
-use Rattle.std.specs.Prelude.{◌&&◌, ◌||◌, if◌then◌else◌}
-use Rattle.qs_base.proofs.Same.{same_member-true}
-use Rattle.qs_base.specs.Order.{same_member}
-use Rattle.qs_base.specs.declared.identifiers.Member.{Member}
-use Rattle.qs_base.specs.declared.identifiers.NodeNo.{NodeNo}
+use Rattle.qs_world_lawful.proofs.Words.{◌≡◌, ℕ, ◌+◌, ◌==◌, ◌<◌, ◌≤◌, Bool, true, false, List, [], ◌∷◌, ◌++◌, refl, sym, subst, arith, nat_tests, filter, list_any, ◌&&◌, ◌||◌, if◌then◌else◌, same_member-true, same_member, Member, NodeNo, last_number, no_peer, peer_of, same_node, Engage, PeerPart, is_answered_by, Outstanding, Every, AreApart, AreNumbered, eqb-true}
 use Rattle.qs_engage.specs.Engage as engage
-use Rattle.qs_engage.specs.Engage.{last_number, no_peer, peer_of, with_peer}
-use Rattle.qs_engage.specs.Nodes.{same_node}
-use Rattle.qs_engage.specs.declared.engage.Engage.{Engage}
-use Rattle.qs_engage.specs.declared.engage.PeerPart.{PeerPart}
-use Rattle.qs_tm.specs.Participant.{is_answered_by}
-use Rattle.qs_tm.specs.declared.participant.Outstanding.{Outstanding}
-use Rattle.qs_world_lawful.specs.Logs.{Every}
-use Rattle.qs_world_lawful.specs.NodeFacts.{AreApart, AreNumbered, given_to}
+use Rattle.qs_engage.specs.Engage.{with_peer}
+use Rattle.qs_world_lawful.specs.NodeFacts.{given_to}
 use Rattle.qs_world_lawful.proofs.Counting.{index_alike}
 use Rattle.qs_world_lawful.proofs.LogFrames.{every_on}
 use Rattle.qs_world_lawful.proofs.LogRecords.{every_append, every_filter}
@@ -105,10 +92,7 @@ sends_next here local e request waiting away counts others next = one_more here 
     more to = by (same_node to here)
       where
         up : (b : Bool) → (to.0 == request.member.node.0) ≡ b → (peer_of e to).sent ≤ (peer_of (engage.sent request.member.node e) to).sent
-        up true is = subst (λ (k : ℕ). (peer_of e (record { 0 = k })).sent ≤ (peer_of (engage.sent request.member.node e) (record { 0 = k })).sent) (sym (same to.0 request.member.node.0 is)) (let c = counts in grind (arith, c))
-          where
-            same : (a b : ℕ) → (a == b) ≡ true → a ≡ b
-            same a b is = grind (arith, nat_tests, is)
+        up true is = subst (λ (k : ℕ). (peer_of e (record { 0 = k })).sent ≤ (peer_of (engage.sent request.member.node e) (record { 0 = k })).sent) (sym (eqb-true to.0 request.member.node.0 is)) (let c = counts in grind (arith, c))
         up false is = let c = others to is in grind (arith, c)
 
         by : (b : Bool) → (if b then local else (peer_of e to).sent) ≤ (if b then local else (peer_of (engage.sent request.member.node e) to).sent)

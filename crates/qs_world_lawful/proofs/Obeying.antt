@@ -1,38 +1,14 @@
 -- A command comes and is obeyed: of the client that begins a transaction, and of its owner; each as a whole.
-use Rattle.std.proofs.Common.{◌≡◌, ℕ, ◌==◌, Bool, true, false, Option, Some, None, refl, sym, ap, subst, ◌∙◌, arith}
-use Rattle.std.proofs.lemmas.Bool.Decides.{nat_tests}
-use Rattle.std.proofs.lemmas.Cmp.{tied_itself, nat_cmp_total}
-use Rattle.std.specs.Prelude.{if◌then◌else◌}
-use Rattle.std.specs.Map.{lookup}
-use Rattle.std.specs.BTreeMap.{is_at}
-use Rattle.qs_base.specs.declared.identifiers.Member.{Member}
-use Rattle.qs_base.specs.declared.identifiers.Tid.{Tid}
+use Rattle.qs_world_lawful.proofs.Words.{◌≡◌, ℕ, Bool, true, false, Option, Some, None, refl, sym, ap, subst, ◌∙◌, tied_itself, nat_cmp_total, if◌then◌else◌, lookup, is_at, Member, Tid, Op, Command, ScriptLine, lookup_put, BookValue, is_fresh, Participant, Begun, kept_outcome, borrower_command, owner_command, request_command, label_at, Work, client_cmp, is_owner, labelled, obey, with_command, command_came, OpenCommand, HoldsFiles, IsBehind, IsAsking, HoldsWork, book_at, eqb-self, some_same}
+use Rattle.qs_world_lawful.proofs.Words.{none-some}
 use Rattle.qs_ipc.specs.Queue as queues
-use Rattle.qs_ops.specs.declared.operation.Op.{Op}
 use Rattle.qs_ops.specs.declared.answer.Answer.TheVariants as answers
-use Rattle.qs_book_journal.specs.declared.script_line.Command.{Command}
 use Rattle.qs_book_journal.specs.declared.script_line.Command.TheVariants as commands
-use Rattle.qs_book_journal.specs.declared.script_line.ScriptLine.{ScriptLine}
-use Rattle.qs_book_laws.proofs.Maps.{lookup_put}
-use Rattle.qs_book_machine.specs.Book.{BookValue}
-use Rattle.qs_book_machine.specs.Clauses.{is_fresh}
 use Rattle.qs_tm.specs.Manager as tm
-use Rattle.qs_tm.specs.declared.participant.Participant.{Participant}
-use Rattle.qs_node_kept.specs.declared.kept.KeptLabel.{KeptLabel}
-use Rattle.qs_node_step.specs.Answering.{kept_outcome}
-use Rattle.qs_node_step.specs.Borrowing.{borrower_command}
 use Rattle.qs_node_step.specs.Bringing.{answer}
-use Rattle.qs_node_step.specs.Commands.{owner_command, request_command}
-use Rattle.qs_node_step.specs.Serving.{label_at}
-use Rattle.qs_node_step.specs.State.{Work, client_cmp}
-use Rattle.qs_node_step.specs.Step.{is_owner, labelled, obey, with_command, command_came}
-use Rattle.qs_node_step.specs.declared.state.OpenCommand.{OpenCommand}
-use Rattle.qs_world_lawful.specs.Filed.{HoldsFiles}
-use Rattle.qs_world_lawful.specs.Holds.{IsBehind, IsAsking}
-use Rattle.qs_world_lawful.specs.Entering.{HoldsWork, book_at}
 use Rattle.qs_world_lawful.proofs.Answers.{by_answer}
 use Rattle.qs_world_lawful.proofs.Commanding.{by_begin_command}
-use Rattle.qs_world_lawful.proofs.OwnersAnswers.{by_owner_command, some_same}
+use Rattle.qs_world_lawful.proofs.OwnersAnswers.{by_owner_command}
 use Rattle.qs_world_lawful.proofs.OwnersCommands.{by_commit_command, by_abort_command}
 use Rattle.qs_world_lawful.proofs.Requesting.{by_owners_request}
 use Rattle.qs_world_lawful.proofs.Silent.{by_command}
@@ -70,22 +46,19 @@ module _ (stamp : ℕ) (before : BookValue) (work : Work) (h : HoldsWork stamp b
 
   -- a label that the node has not met: the command waits
   pub by_unmet_came : (line.command ≡ commands.Begin → ⊥) → label_at line.label work.node ≡ None → HoldsWork stamp before (command_came line work)
-  by_unmet_came no_begin unmet = by_label no_begin (λ c is. subst (λ (o : Option KeptLabel). HoldsWork stamp before (elim o [ None ↦ open_work | Some b ↦ labelled line.client b c open_work ])) (sym unmet) came)
+  by_unmet_came no_begin unmet = by_label no_begin (λ c is. subst (λ (o : Option Begun). HoldsWork stamp before (elim o [ None ↦ open_work | Some b ↦ labelled line.client b c open_work ])) (sym unmet) came)
 
   -- one whose begin was refused: its client is told so, another's command waits
-  pub by_refused_came : (line.command ≡ commands.Begin → ⊥) → (begun : KeptLabel) → label_at line.label work.node ≡ Some begun → begun.tid ≡ None → HoldsWork stamp before (command_came line work)
-  by_refused_came no_begin begun known refused = by_label no_begin (λ c is. subst (λ (o : Option KeptLabel). HoldsWork stamp before (elim o [ None ↦ open_work | Some b ↦ labelled line.client b c open_work ])) (sym known)
+  pub by_refused_came : (line.command ≡ commands.Begin → ⊥) → (begun : Begun) → label_at line.label work.node ≡ Some begun → begun.tid ≡ None → HoldsWork stamp before (command_came line work)
+  by_refused_came no_begin begun known refused = by_label no_begin (λ c is. subst (λ (o : Option Begun). HoldsWork stamp before (elim o [ None ↦ open_work | Some b ↦ labelled line.client b c open_work ])) (sym known)
       (subst (λ (o : Option Tid). HoldsWork stamp before (if is_owner line.client begun.owner then owner_command line.client o c open_work else elim o [ None ↦ open_work | Some t ↦ borrower_command line.client t c open_work ])) (sym refused) (by (is_owner line.client begun.owner))))
     where
-      nothing : (t : Tid) → None ≡ Some t → ⊥
-      nothing t e = cc e
-
       idle : (t : Tid) → IsAsking open_work.node t line.client → ⊥
       idle t a =
           let same : command ≡ a.command = some_same (sym waits ∙ a.waits) in
           let label : label_at line.label open_work.node ≡ Some a.begun = subst (λ (x : OpenCommand). label_at x.line.label open_work.node ≡ Some a.begun) (sym same) a.labelled in
           let begun_same : begun ≡ a.begun = some_same (sym known ∙ label) in
-          nothing t (sym refused ∙ (ap (λ (b : KeptLabel). b.tid) begun_same ∙ a.of))
+          none-some t (sym refused ∙ (ap (λ (b : Begun). b.tid) begun_same ∙ a.of))
 
       by : (b : Bool) → HoldsWork stamp before (if b then answer line.client answers.NotBegun open_work else open_work)
       by true = by_answer stamp before open_work line.client answers.NotBegun came (λ owner there. refl) idle
@@ -93,18 +66,15 @@ module _ (stamp : ℕ) (before : BookValue) (work : Work) (h : HoldsWork stamp b
 
   -- ---- the owner: what runs still began here since the node started
 
-  module _ (begun : KeptLabel) (known : label_at line.label work.node ≡ Some begun) (tid : Tid) (of : begun.tid ≡ Some tid) (owned : begun.owner ≡ Some line.client)
+  module _ (begun : Begun) (known : label_at line.label work.node ≡ Some begun) (tid : Tid) (of : begun.tid ≡ Some tid) (owned : begun.owner ≡ Some line.client)
       (now : kept_outcome tid work.node ≡ None → (tid.home ≡ work.node.setting.node) × (tid.inc ≡ work.node.setting.inc)) (inc : (part : Participant) → tm.part_of tid work.node.manager ≡ Some part → part.outcome ≡ None → tid.inc ≡ work.node.setting.inc) where
     owns : is_owner line.client begun.owner ≡ true
-    owns = ap (is_owner line.client) owned ∙ itself line.client.0
-      where
-        itself : (n : ℕ) → (n == n) ≡ true
-        itself n = grind (arith, nat_tests)
+    owns = ap (is_owner line.client) owned ∙ eqb-self line.client.0
 
     -- by its label it is the owner's command
     by_label_at : (c : Command) → HoldsWork stamp before (owner_command line.client (Some tid) c open_work)
         → HoldsWork stamp before (elim (label_at line.label work.node) [ None ↦ open_work | Some b ↦ labelled line.client b c open_work ])
-    by_label_at c held = subst (λ (o : Option KeptLabel). HoldsWork stamp before (elim o [ None ↦ open_work | Some b ↦ labelled line.client b c open_work ])) (sym known)
+    by_label_at c held = subst (λ (o : Option Begun). HoldsWork stamp before (elim o [ None ↦ open_work | Some b ↦ labelled line.client b c open_work ])) (sym known)
         (as_owner (is_owner line.client begun.owner) owns _ (subst (λ (o : Option Tid). HoldsWork stamp before (owner_command line.client o c open_work)) (sym of) held))
       where
         as_owner : (b : Bool) → b ≡ true → (other : Work) → HoldsWork stamp before (owner_command line.client begun.tid c open_work) → HoldsWork stamp before (if b then owner_command line.client begun.tid c open_work else other)

@@ -1,30 +1,13 @@
 -- What is old enough as a tick comes, the machine finds that old, at each stage of the fold: where all was young before it.
-use Rattle.std.proofs.Common.{◌≡◌, ◌≤◌, ◌<◌, ◌^◌, ◌+◌, ◌-◌, ◌==◌, ℕ, true, List, [], ◌∷◌, Option, Some, None, refl, ap, sym, subst, ◌∙◌, arith, min, nat_lt, nat_le}
-use Rattle.std.proofs.lemmas.Bool.Decides.{nat_tests}
-use Rattle.std.specs.Option.{option_map}
-use Rattle.std.specs.Prelude.{◌&&◌, is_none}
-use Rattle.qs_base.specs.declared.identifiers.Outcome.{Outcome}
-use Rattle.qs_base.specs.declared.identifiers.Tid.{Tid}
+use Rattle.qs_world_lawful.proofs.Words.{◌≡◌, ◌≤◌, ◌<◌, ◌^◌, ◌+◌, ◌-◌, ◌==◌, ℕ, true, List, [], ◌∷◌, Option, Some, None, refl, ap, sym, subst, ◌∙◌, arith, nat_lt, nat_le, nat_tests, option_map, ◌&&◌, Tid, changed_at_here, BookValue, tick_node, Work, abort_old, Setting, is_undecided, Manager, Participant, InRun, HoldsBeside, HoldsWork, book_at, AtEach, HasCause, MayDecide, MayAge, tick_work, Every, HasNodeFacts, none_is, and_from, eqb-true}
+use Rattle.std.proofs.Common.{min}
 use Rattle.qs_book_journal.specs.declared.entry.Act.TheVariants as acts
-use Rattle.qs_book_laws.proofs.Maps.{changed_at_here}
-use Rattle.qs_book_machine.specs.Book.{BookValue, tick_node}
 use Rattle.qs_book_machine.specs.Nodes as machine
 use Rattle.qs_ops.specs.declared.answer.Cause.TheVariants as causes
-use Rattle.qs_node_step.specs.State.{Work}
-use Rattle.qs_node_step.specs.Step.{abort_old}
-use Rattle.qs_node_step.specs.declared.setting.Setting.{Setting}
 use Rattle.qs_tm.specs.Manager as tm
-use Rattle.qs_tm.specs.Participant.{is_undecided}
-use Rattle.qs_tm.specs.declared.manager.Manager.{Manager}
 use Rattle.qs_tm.specs.declared.manager.Which.TheVariants as whiches
-use Rattle.qs_tm.specs.declared.participant.Participant.{Participant}
-use Rattle.qs_world_lawful.specs.Amid.{InRun}
-use Rattle.qs_world_lawful.specs.Beside.{HoldsBeside}
-use Rattle.qs_world_lawful.specs.Entering.{HoldsWork, book_at}
-use Rattle.qs_world_lawful.specs.Given.{AtEach, HasCause, MayDecide}
-use Rattle.qs_world_lawful.specs.GivenStep.{MayAbortOld, MayAge, tick_work}
-use Rattle.qs_world_lawful.specs.Logs.{Every}
-use Rattle.qs_world_lawful.specs.NodeFacts.{AreYoung, HasNodeFacts, IsYoung}
+use Rattle.qs_world_lawful.specs.GivenStep.{MayAbortOld}
+use Rattle.qs_world_lawful.specs.NodeFacts.{AreYoung, IsYoung}
 use Rattle.qs_world_lawful.proofs.AgedTids.{AllApart, IsIn, all_in, chosen, chosen_are, every_all}
 use Rattle.qs_world_lawful.proofs.Apart.{Apart}
 use Rattle.qs_world_lawful.proofs.BesideRestarts.{goes_ticked}
@@ -34,7 +17,7 @@ use Rattle.qs_world_lawful.proofs.Growing.{book_now}
 use Rattle.qs_world_lawful.proofs.LeftElse.{LeavesElse, else_abort, ticked_at}
 use Rattle.qs_world_lawful.proofs.Settled.{aborted}
 use Rattle.qs_world_lawful.proofs.Silent.{by_tick}
-use Rattle.qs_world_lawful.proofs.Truths.{both_true, left_true, node_is, number_is, of_some, right_true}
+use Rattle.qs_world_lawful.proofs.Truths.{left_true, node_is, of_some, right_true}
 
 -- it is that old at that time, and its home has not decided it
 record IsAged (age time : ℕ) (manager : Manager) (tid : Tid) : Type 0 where
@@ -56,7 +39,7 @@ module _ (stamp : ℕ) (before : BookValue) (run : InRun before) (age time : ℕ
   module _ (work : Work) (tid : Tid) (s : StandsAged work) (a : IsAged age time work.node.manager tid) where
     decides : MayDecide stamp before work tid
     decides = record {
-      home = node_is tid.home work.node.setting.node (number_is tid.home.0 work.node.setting.node.0 (sym (s.facts.parts tid a.part a.known).homed ∙ a.home));
+      home = node_is tid.home work.node.setting.node (eqb-true tid.home.0 work.node.setting.node.0 (sym (s.facts.parts tid a.part a.known).homed ∙ a.home));
       inc = (s.facts.parts tid a.part a.known).began a.home a.unknown;
       owner = λ tx client found owns. s.beside.owners tid tx found client owns;
     }
@@ -65,8 +48,8 @@ module _ (stamp : ℕ) (before : BookValue) (run : InRun before) (age time : ℕ
     equal x y is = grind (arith, nat_tests, is)
 
     cause : HasCause stamp before work tid (causes.Old age)
-    cause state tx there found = both_true (nat_lt 0 age && (state.timers.ticks == tx.begun_at + age)) (state.ticked == stamp)
-        (both_true (nat_lt 0 age) (state.timers.ticks == tx.begun_at + age) a.some (equal state.timers.ticks (tx.begun_at + age) (clock ∙ (a.old ∙ ap (λ (k : ℕ). k + age) (sym begun)))))
+    cause state tx there found = and_from (nat_lt 0 age && (state.timers.ticks == tx.begun_at + age)) (state.ticked == stamp)
+        (and_from (nat_lt 0 age) (state.timers.ticks == tx.begun_at + age) a.some (equal state.timers.ticks (tx.begun_at + age) (clock ∙ (a.old ∙ ap (λ (k : ℕ). k + age) (sym begun)))))
         (equal state.ticked stamp (of_some (sym (ap (option_map (λ (x : machine.NodeValue). x.ticked)) there) ∙ s.ticked)))
       where
         clock : state.timers.ticks ≡ time
@@ -121,10 +104,6 @@ module _ (stamp : ℕ) (before : BookValue) (run : InRun before) (work : Work) (
         ∙ ap (option_map (λ (x : machine.NodeValue). x.ticked)) (changed_at_here (tick_node stamp) (book_at stamp before work).nodes work.node.setting.node.0 beside.state beside.there);
   }
 
-  none_of : (o : Option Outcome) → is_none o ≡ true → o ≡ None
-  none_of None e = refl
-  none_of (Some outcome) e = absurd (cc e)
-
   time_is : (k b a : ℕ) → k + 1 < 2 ^ 62 → b ≤ k → k - b < a → nat_le a (min (k + 1) (2 ^ 64 - 1) - b) ≡ true → (nat_lt 0 a ≡ true) × (min (k + 1) (2 ^ 64 - 1) ≡ b + a)
   time_is k b a small low short long = (grind (arith, nat_tests, small, low, short, long), grind (arith, nat_tests, small, low, short, long))
 
@@ -136,7 +115,7 @@ module _ (stamp : ℕ) (before : BookValue) (run : InRun before) (work : Work) (
         part = is.0
 
         none : part.outcome ≡ None
-        none = none_of part.outcome (left_true (is_undecided part) _ is.2)
+        none = none_is part.outcome (left_true (is_undecided part) _ is.2)
 
         rest : (part.engage.home && nat_le age (ticking.node.manager.ticks - part.begun_at)) ≡ true
         rest = right_true (is_undecided part) _ is.2

@@ -1,33 +1,18 @@
 -- Of what a node forgets the machine has nothing due: it only read, sent nothing, and issued no note.
-use Rattle.std.proofs.Common.{◌≡◌, ℕ, ◌==◌, ◌≤◌, Bool, true, false, Option, Some, None, refl, sym, ap, subst, ◌∙◌, arith, nat_lt}
-use Rattle.std.proofs.lemmas.Bool.Decides.{nat_tests}
-use Rattle.std.specs.Prelude.{not, ◌&&◌, ◌||◌, is_none, if◌then◌else◌}
-use Rattle.qs_base.specs.declared.identifiers.Class.{Class}
+use Rattle.qs_world_lawful.proofs.Words.{◌≡◌, ℕ, ◌==◌, ◌≤◌, Bool, true, false, Option, Some, None, refl, sym, ap, subst, ◌∙◌, arith, nat_lt, nat_tests, not, ◌&&◌, ◌||◌, is_none, if◌then◌else◌, Class, NodeNo, ServerNo, Tid, is_no_node, BookValue, find_transaction, TransactionValue, has_note, may_learn_still, Part, class_of, Work, is_due_at, is_forgotten, is_undecided, member_of, needs_pass, only_read, Participant, HoldsPart, HoldsReads, book_at, at_server, face_of, HoldsMember, HoldsTid, Stands}
+use Rattle.qs_world_lawful.proofs.Words.{or_last, none_is}
 use Rattle.qs_base.specs.declared.identifiers.Class.TheVariants as classes
-use Rattle.qs_base.specs.declared.identifiers.NodeNo.{NodeNo}
-use Rattle.qs_base.specs.declared.identifiers.Outcome.{Outcome}
-use Rattle.qs_base.specs.declared.identifiers.ServerNo.{ServerNo}
-use Rattle.qs_base.specs.declared.identifiers.Tid.{Tid}
-use Rattle.qs_engage.specs.Nodes.{is_no_node}
-use Rattle.qs_book_machine.specs.Book.{BookValue, find_transaction}
 use Rattle.qs_book_machine.specs.Clauses.{note_text}
-use Rattle.qs_book_machine.specs.Transaction.{TransactionValue, has_note, is_let_go, may_learn_still, part_of}
-use Rattle.qs_book_machine.specs.declared.transaction.Part.{Part}
-use Rattle.qs_ops.specs.Members.{class_of}
-use Rattle.qs_node_step.specs.State.{NodeValue, Work}
+use Rattle.qs_book_machine.specs.Transaction.{is_let_go, part_of}
+use Rattle.qs_node_step.specs.State.{NodeValue}
 use Rattle.qs_tm.specs.Manager as tm
 use Rattle.qs_tm.specs.Members as rules
 use Rattle.qs_tm.specs.Members.{all_servers}
-use Rattle.qs_tm.specs.Participant.{has_due, is_due_at, is_forgotten, is_undecided, member_of, needs_pass, only_read}
-use Rattle.qs_tm.specs.declared.participant.Participant.{Participant}
+use Rattle.qs_tm.specs.Participant.{has_due}
 use Rattle.qs_tm.specs.declared.participant.Due.TheVariants as dues
 use Rattle.qs_world_lawful.specs.Agreed.{IsIdle}
-use Rattle.qs_world_lawful.specs.Beside.{HoldsPart, HoldsReads}
-use Rattle.qs_world_lawful.specs.Entering.{book_at}
-use Rattle.qs_world_lawful.specs.Face.{at_server, face_of}
 use Rattle.qs_world_lawful.specs.Given.{HasOnlyRead}
-use Rattle.qs_world_lawful.specs.Holds.{HoldsMember, HoldsTid, is_kept}
-use Rattle.qs_world_lawful.specs.Standing.{Stands}
+use Rattle.qs_world_lawful.specs.Holds.{is_kept}
 use Rattle.qs_world_lawful.proofs.Clauses.{of_tid}
 use Rattle.qs_world_lawful.proofs.ReadAlone.{all_read}
 use Rattle.qs_world_lawful.proofs.Truths.{clash, left_true, not_true, right_true}
@@ -61,17 +46,13 @@ no_client n kept is = by (n == 2) (n == 3) (n == 4) (n == 5) (nat_lt 31 n) refl 
 -- nothing is due to timers
 unended : (part : Participant) → needs_pass part ≡ false → (server : ServerNo) → rules.is_immediate (class_of server.0) ≡ true → (member_of part server).fresh ≡ false
 unfolding all_servers
-unended part idle server is = subst (λ (n : ℕ). (member_of part (record { 0 = n })).fresh ≡ false) (sym (number server.0 (immediate_is server.0 is))) (fourth (ends 0) (ends 1) (ends 2) (member_of part (record { 0 = 3 })).fresh (ends 4) (ends 5) (ends 6) (second (has_due dues.Vote part) (has_due dues.Ending part) idle))
+unended part idle server is = subst (λ (n : ℕ). (member_of part (record { 0 = n })).fresh ≡ false) (sym (number server.0 (immediate_is server.0 is))) (fourth (ends 0) (ends 1) (ends 2) (member_of part (record { 0 = 3 })).fresh (ends 4) (ends 5) (ends 6) (or_last (has_due dues.Vote part) (has_due dues.Ending part) idle))
   where
     ends : ℕ → Bool
     ends n = is_due_at dues.Ending part (record { 0 = n })
 
     number : (n : ℕ) → (n == 3) ≡ true → n ≡ 3
     number n e = grind (arith, nat_tests, e)
-
-    second : (a b : Bool) → (a || b) ≡ false → b ≡ false
-    second false b e = e
-    second true b e = absurd (cc e)
 
     fourth : (a b c d e f g : Bool) → (a || (b || (c || (d || (e || (f || (g || false))))))) ≡ false → d ≡ false
     fourth a b c false e f g is = refl
@@ -82,14 +63,6 @@ unended part idle server is = subst (λ (n : ℕ). (member_of part (record { 0 =
 
 unlearning : (p : Part) → p.due ≡ false → may_learn_still p ≡ false
 unlearning p none = ap (λ (b : Bool). b && not (is_let_go p)) none
-
-none_of : (o : Option Outcome) → is_none o ≡ true → o ≡ None
-none_of None e = refl
-none_of (Some outcome) e = absurd (cc e)
-
-no_superior : (o : Option NodeNo) → is_none o ≡ true → o ≡ None
-no_superior None e = refl
-no_superior (Some node) e = absurd (cc e)
 
 module _ (stamp : ℕ) (before : BookValue) (size : ℕ) (nodes : ℕ → NodeValue) (n : ℕ) (work : Work) (s : Stands stamp before size nodes n work) (tid : Tid) (part : Participant) (known : tm.part_of tid work.node.manager ≡ Some part)
     (tx : TransactionValue) (found : find_transaction (book_at stamp before work) tid ≡ Some tx) (forgotten : is_forgotten part ≡ true) (quiet : IsIdle part) where
@@ -106,7 +79,7 @@ module _ (stamp : ℕ) (before : BookValue) (size : ℕ) (nodes : ℕ → NodeVa
   back = right_true (is_undecided part && not part.engage.home) _ forgotten
 
   unknown : part.outcome ≡ None
-  unknown = none_of part.outcome (left_true (is_undecided part) (not part.engage.home) front)
+  unknown = none_is part.outcome (left_true (is_undecided part) (not part.engage.home) front)
 
   away : part.engage.home ≡ false
   away = not_true part.engage.home (right_true (is_undecided part) (not part.engage.home) front)

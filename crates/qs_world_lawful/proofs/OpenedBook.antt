@@ -1,26 +1,10 @@
 -- What the machine opens with of each transaction that a log names: its outcome, and of each member what stands in doubt in its log.
-use Rattle.std.proofs.Common.{◌≡◌, ◌≢◌, ◌⊎◌, inl, inr, ℕ, ◌+◌, ◌<◌, ◌==◌, ◌&&◌, zero, suc, Bool, true, false, List, [], ◌∷◌, length, Option, Some, None, fold, refl, sym, ap, subst, ◌∙◌, arith, if◌then◌else◌, is_some, unwrap_or}
-use Rattle.std.proofs.lemmas.Bool.Decides.{nat_tests}
-use Rattle.std.specs.Prelude.{nat_lt, slice_get}
-use Rattle.std.specs.List.{list_any}
-use Rattle.std.specs.Map.{lookup}
-use Rattle.std.specs.BTreeMap.{insert_entry, is_at}
-use Rattle.qs_base.specs.Order.{same_tid, tid_cmp}
-use Rattle.qs_base.proofs.Same.{same_tid-self}
-use Rattle.qs_base.specs.declared.identifiers.Tid.{Tid}
-use Rattle.qs_book_laws.proofs.Alikes.{at_exact, tid_itself}
-use Rattle.qs_book_laws.proofs.Maps.{changed_apart, lookup_changed, lookup_put, lookup_put_apart}
-use Rattle.qs_book_machine.specs.Book.{BookValue, find_transaction}
+use Rattle.qs_world_lawful.proofs.Words.{◌≡◌, ◌⊎◌, inl, inr, ℕ, ◌+◌, ◌<◌, ◌==◌, ◌&&◌, zero, suc, Bool, true, false, List, [], ◌∷◌, length, Option, Some, None, fold, refl, sym, ap, subst, ◌∙◌, arith, if◌then◌else◌, is_some, unwrap_or, nat_tests, nat_lt, slice_get, list_any, lookup, insert_entry, is_at, same_tid, tid_cmp, same_tid-self, Tid, at_exact, tid_itself, changed_apart, lookup_changed, lookup_put, lookup_put_apart, BookValue, find_transaction, has_commit, name_all, name_from, name_pending}
+use Rattle.qs_world_lawful.proofs.Words.{name_transaction, opened_transaction, member_at, TransactionValue, found_at, found_part, life, no_part, Opened, Pending, Life, Part, and_false, eqb-self, eqb-true, eqb-false}
 use Rattle.qs_book_machine.specs.Nodes as machine
-use Rattle.qs_book_machine.specs.Opening.{has_commit, name_all, name_from, name_pending, name_transaction, opened_transaction}
-use Rattle.qs_book_machine.specs.Restart.{member_at}
-use Rattle.qs_book_machine.specs.Transaction.{TransactionValue, found_at, found_part, life, no_part, part_of}
+use Rattle.qs_book_machine.specs.Transaction.{part_of}
 use Rattle.qs_book_machine.specs.Transaction as transaction
-use Rattle.qs_book_machine.specs.declared.opened.Opened.{Opened}
-use Rattle.qs_book_machine.specs.declared.opened.Pending.{Pending}
 use Rattle.qs_book_machine.specs.declared.transaction.Cell.TheVariants as cells
-use Rattle.qs_book_machine.specs.declared.transaction.Life.{Life}
-use Rattle.qs_book_machine.specs.declared.transaction.Part.{Part}
 use Rattle.qs_ops.specs.declared.answer.Cause.TheVariants as causes
 use Rattle.qs_world_lawful.proofs.Apart.{Apart, same_or_apart}
 use Rattle.qs_world_lawful.proofs.Keys.{same_key_or, life_exact, life_itself}
@@ -99,9 +83,6 @@ module _ (nodes : List machine.NodeValue) (tid : Tid) (n inc s : ℕ) where
 
   -- ---- a vote that a log holds
 
-  some_is : (x y : TransactionValue) → Some x ≡ Some y → x ≡ y
-  some_is x y e = ap (λ (o : Option TransactionValue). elim o [ None ↦ x | Some z ↦ z ]) e
-
   -- a transaction that was named is there
   named_there : (book : BookValue) → is_some (find_transaction (name_transaction book tid) tid) ≡ true
   named_there book = by (find_transaction book tid) refl
@@ -120,12 +101,6 @@ module _ (nodes : List machine.NodeValue) (tid : Tid) (n inc s : ℕ) where
   own_part : (k i : ℕ) (p : Pending) (o : Option Pending) (tx : TransactionValue) → ((k == n) ≡ true → i ≡ inc) → p.tid ≡ tid → part_of tx (member_at n s) inc ≡ part_opened o → part_of (f_of k i p tx) (member_at n s) inc ≡ part_opened (next_pending k o p)
   own_part k i p o tx same_inc same h = by (k == n) (p.server.0 == s) refl refl
     where
-      no_is : (a b : ℕ) → (a == b) ≡ true → a ≡ b
-      no_is a b e = grind (arith, nat_tests, e)
-
-      no_other : (a b : ℕ) → (a == b) ≡ false → a ≢ b
-      no_other a b e q = grind (arith, nat_tests, e, q)
-
       apart : (life (member_at k p.server.0) i ≡ life (member_at n s) inc → ⊥) → part_of (f_of k i p tx) (member_at n s) inc ≡ part_opened o
       apart far = of (same_key_or transaction.life_cmp life_exact life_itself (life (member_at k p.server.0) i) (life (member_at n s) inc))
         where
@@ -134,18 +109,14 @@ module _ (nodes : List machine.NodeValue) (tid : Tid) (n inc s : ℕ) where
           of (inr is) = put_part_apart (life (member_at k p.server.0) i) (found_part p.covers (length p.changes)) tx.parts (member_at n s) inc is ∙ h
 
       by : (a b : Bool) → (k == n) ≡ a → (p.server.0 == s) ≡ b → part_of (f_of k i p tx) (member_at n s) inc ≡ part_opened (if a then (if same_tid p.tid tid && b then Some p else o) else o)
-      by false b far e = apart (λ l. no_other k n far (ap (λ (x : Life). x.member.node.0) l))
-      by true false near far = subst (λ (c : Bool). part_of (f_of k i p tx) (member_at n s) inc ≡ part_opened (if c then Some p else o)) (sym (and_false (same_tid p.tid tid))) (apart (λ l. no_other p.server.0 s far (ap (λ (x : Life). x.member.server.0) l)))
-        where
-          and_false : (c : Bool) → (c && false) ≡ false
-          and_false true = refl
-          and_false false = refl
+      by false b far e = apart (λ l. eqb-false k n far (ap (λ (x : Life). x.member.node.0) l))
+      by true false near far = subst (λ (c : Bool). part_of (f_of k i p tx) (member_at n s) inc ≡ part_opened (if c then Some p else o)) (sym (and_false (same_tid p.tid tid))) (apart (λ l. eqb-false p.server.0 s far (ap (λ (x : Life). x.member.server.0) l)))
       by true true near is = subst (λ (c : Bool). part_of (f_of k i p tx) (member_at n s) inc ≡ part_opened (if c && true then Some p else o)) (sym (subst (λ (t : Tid). same_tid t tid ≡ true) (sym same) (same_tid-self tid)))
           (subst (λ (l : Life). unwrap_or (lookup (is_at (transaction.life_cmp (life (member_at n s) inc))) (insert_entry transaction.life_cmp tx.parts l (found_part p.covers (length p.changes)))) no_part ≡ found_part p.covers (length p.changes)) (sym key)
           (ap (λ (q : Option Part). unwrap_or q no_part) (lookup_put transaction.life_cmp (life (member_at n s) inc) (found_part p.covers (length p.changes)) (life_itself (life (member_at n s) inc)) tx.parts)))
         where
           key : life (member_at k p.server.0) i ≡ life (member_at n s) inc
-          key = rw (no_is k n near, no_is p.server.0 s is, same_inc near) refl
+          key = rw (eqb-true k n near, eqb-true p.server.0 s is, same_inc near) refl
 
   pending_read : (k i : ℕ) → ((k == n) ≡ true → i ≡ inc) → (p : Pending) (o : Option Pending) (book : BookValue) → Reads o book → Reads (next_pending k o p) (name_pending k i book p)
   pending_read k i same_inc p o book r = by (same_or_apart p.tid tid)
@@ -187,10 +158,7 @@ module _ (nodes : List machine.NodeValue) (tid : Tid) (n inc s : ℕ) where
 
   pendings_here : (ps : List Pending) (o : Option Pending) (book : BookValue) → Reads o book → Reads (fold (last_pending tid s) o ps) (fold (name_pending n inc) book ps)
   pendings_here [] o book r = r
-  pendings_here (p ∷ ps) o book r = pendings_here ps (last_pending tid s o p) (name_pending n inc book p) (subst (λ (b : Bool). Reads (if b then last_pending tid s o p else o) (name_pending n inc book p)) (self n) (pending_read n inc (λ near. refl) p o book r))
-    where
-      self : (k : ℕ) → (k == k) ≡ true
-      self k = grind (arith, nat_tests)
+  pendings_here (p ∷ ps) o book r = pendings_here ps (last_pending tid s o p) (name_pending n inc book p) (subst (λ (b : Bool). Reads (if b then last_pending tid s o p else o) (name_pending n inc book p)) (eqb-self n) (pending_read n inc (λ near. refl) p o book r))
 
   -- ---- the logs, one after the other
 

@@ -1,39 +1,15 @@
 -- Which Commits the machine opens with: those of the log of each node, and of a home in the run none that its own log has not.
-use Rattle.std.proofs.Common.{◌≡◌, ◌⊎◌, inl, inr, ℕ, ◌<◌, ◌&&◌, ◌||◌, ◌++◌, not, Bool, true, false, List, [], ◌∷◌, map, Option, Some, None, fold, suc, refl, sym, ap, subst, ◌∙◌, nat_lt, if◌then◌else◌, Less, Equal, Greater}
-use Rattle.std.proofs.lemmas.Option.{slice_get-map}
-use Rattle.std.specs.Prelude.{slice_get}
-use Rattle.std.specs.Option.{option_map}
-use Rattle.std.specs.List.{list_all, list_any}
-use Rattle.std.specs.BTreeSet.{insert_key}
-use Rattle.std.specs.declared.cmp.Ordering.{Ordering}
-use Rattle.qs_base.specs.Order.{same_tid, tid_cmp}
-use Rattle.qs_base.proofs.Same.{same_tid-true}
-use Rattle.qs_base.proofs.TidOrder.{tid_exact}
-use Rattle.qs_base.specs.declared.identifiers.NodeNo.{NodeNo}
-use Rattle.qs_base.specs.declared.identifiers.Tid.{Tid}
+use Rattle.qs_world_lawful.proofs.Words.{◌≡◌, ◌⊎◌, inl, inr, ℕ, ◌<◌, ◌||◌, ◌++◌, not, Bool, true, false, List, [], ◌∷◌, map, Option, Some, None, fold, suc, refl, sym, ap, subst, ◌∙◌, nat_lt, if◌then◌else◌, Less, Equal, Greater, true≢false, slice_get-map, slice_get, option_map, list_all, list_any, insert_key, Ordering, same_tid, tid_cmp, same_tid-true, tid_exact, NodeNo, Tid, has_commit, is_among, Opened, Record, Recovery, found_record, names_transaction, nothing_said, recovery, with_list}
+use Rattle.qs_world_lawful.proofs.Words.{opened_from, IsOpening, is_earlier, is_record, Opening, Every, some_same, and_parts}
 use Rattle.qs_book_machine.specs.Nodes as machine
-use Rattle.qs_book_machine.specs.Opening.{has_commit, opened_node, put_tid}
-use Rattle.qs_book_machine.specs.Restart.{is_among}
-use Rattle.qs_book_machine.specs.declared.opened.Opened.{Opened}
-use Rattle.qs_record.specs.declared.record.Record.{Record}
+use Rattle.qs_book_machine.specs.Opening.{opened_node, put_tid}
 use Rattle.qs_record.specs.declared.record.Record.TheVariants as records
-use Rattle.qs_restart.specs.Recovery.{Recovery, found_record, names_transaction, nothing_said, recovery, with_list}
-use Rattle.qs_world.specs.Histories.{opened_from}
-use Rattle.qs_world.specs.Openings.{IsOpening, is_commit_of, is_committed_at_home, is_earlier, is_list, is_record}
-use Rattle.qs_world.specs.World.{Opening}
-use Rattle.qs_world_lawful.specs.Logs.{Every}
+use Rattle.qs_world.specs.Openings.{is_commit_of, is_committed_at_home, is_list}
 use Rattle.qs_world_lawful.proofs.CoherentOpenings.{each_is, every_of, opened_is}
 use Rattle.qs_world_lawful.proofs.FoundMembers.{every_among}
 use Rattle.qs_world_lawful.proofs.LogRecords.{among_last, among_more}
 use Rattle.qs_world_lawful.proofs.NotesServed.{any_put_back}
-
-and_both : (a b : Bool) → (a && b) ≡ true → (a ≡ true) × (b ≡ true)
-and_both true b e = (refl, e)
-and_both false b e = absurd (cc e)
-
-or_split : (a b : Bool) → (a || b) ≡ true → (a ≡ true) ⊎ (b ≡ true)
-or_split true b e = inl refl
-or_split false b e = inr e
+use Rattle.std.proofs.lemmas.Bool.{or_cases}
 
 -- ---- as a set
 
@@ -56,7 +32,7 @@ insert_among t k (x ∷ xs) h = by (tid_cmp k x) refl (insert_among t k xs)
 
     further : ((is_among xs t ≡ true) ⊎ (same_tid t k ≡ true) → is_among (insert_key tid_cmp xs k) t ≡ true) → (is_among (x ∷ xs) t ≡ true) ⊎ (same_tid t k ≡ true) → (same_tid t x || is_among (insert_key tid_cmp xs k) t) ≡ true
     further more (inr e) = or_right (same_tid t x) (is_among (insert_key tid_cmp xs k) t) (more (inr e))
-    further more (inl e) = of (or_split (same_tid t x) (is_among xs t) e)
+    further more (inl e) = of (or_cases (same_tid t x) (is_among xs t) e)
       where
         of : (same_tid t x ≡ true) ⊎ (is_among xs t ≡ true) → (same_tid t x || is_among (insert_key tid_cmp xs k) t) ≡ true
         of (inl a) = rw a refl
@@ -74,7 +50,7 @@ put_among t (x ∷ xs) acc h = put_among t xs (put_tid acc x) (of h)
   where
     of : (is_among acc t ≡ true) ⊎ (is_among (x ∷ xs) t ≡ true) → (is_among (put_tid acc x) t ≡ true) ⊎ (is_among xs t ≡ true)
     of (inl a) = inl (insert_among t x acc (inl a))
-    of (inr b) = at (or_split (same_tid t x) (is_among xs t) b)
+    of (inr b) = at (or_cases (same_tid t x) (is_among xs t) b)
       where
         at : (same_tid t x ≡ true) ⊎ (is_among xs t ≡ true) → (is_among (put_tid acc x) t ≡ true) ⊎ (is_among xs t ≡ true)
         at (inl c) = inl (insert_among t x acc (inr c))
@@ -118,7 +94,7 @@ commit_among tid named log any = from log nothing_said any
   where
     from : (log : List Record) (said : Recovery) → list_any (is_commit_of tid) log ≡ true → is_among (fold found_record said log).committed tid ≡ true
     from [] said h = absurd (cc h)
-    from (rec ∷ log) said h = by (or_split (is_commit_of tid rec) (list_any (is_commit_of tid) log) h) (λ more. from log (found_record said rec) more)
+    from (rec ∷ log) said h = by (or_cases (is_commit_of tid rec) (list_any (is_commit_of tid) log) h) (λ more. from log (found_record said rec) more)
       where
         own : (rec : Record) → is_commit_of tid rec ≡ true → is_among (found_record said rec).committed tid ≡ true
         own (records.Prepare t server covers changes) is = absurd (cc is)
@@ -144,7 +120,7 @@ module _ (o : Opening) (opens : IsOpening o) where
   record_at n said (records.Commit t told) is all = subst (Every At) (sym (list_commits t told _)) (more said.committed all)
     where
       mine : At t
-      mine = (and_both (is_committed_at_home o t) (is_list n t told) (and_both (is_earlier o t) _ is).1).0
+      mine = (and_parts (is_committed_at_home o t) (is_list n t told) (and_parts (is_earlier o t) _ is).1).0
 
       if_named : (b : Bool) → Every At (if b then t ∷ [] else [])
       if_named true = (mine, tt)
@@ -165,12 +141,9 @@ module _ (o : Opening) (opens : IsOpening o) where
   pub none_commits : (tid : Tid) → names_transaction tid ≡ true → nat_lt tid.home.0 o.size ≡ true → is_among (recovery (o.logs tid.home.0)).committed tid ≡ false → list_any (has_commit tid) (map opened_node (opened_from o 0 o.size)) ≡ false
   none_commits tid named in_run none = by (list_any (has_commit tid) (map opened_node (opened_from o 0 o.size))) refl
     where
-      clash : true ≡ false → ⊥
-      clash e = cc e
-
       some_has : (ns : List machine.NodeValue) → list_any (has_commit tid) ns ≡ true → (k : ℕ) × (v : machine.NodeValue) × (slice_get ns k ≡ Some v) × (has_commit tid v ≡ true)
       some_has [] h = absurd (cc h)
-      some_has (v ∷ ns) h = of (or_split (has_commit tid v) (list_any (has_commit tid) ns) h) (λ more. some_has ns more)
+      some_has (v ∷ ns) h = of (or_cases (has_commit tid v) (list_any (has_commit tid) ns) h) (λ more. some_has ns more)
         where
           of : (has_commit tid v ≡ true) ⊎ (list_any (has_commit tid) ns ≡ true) → (list_any (has_commit tid) ns ≡ true → (k : ℕ) × (u : machine.NodeValue) × (slice_get ns k ≡ Some u) × (has_commit tid u ≡ true))
               → (k : ℕ) × (u : machine.NodeValue) × (slice_get (v ∷ ns) k ≡ Some u) × (has_commit tid u ≡ true)
@@ -180,21 +153,18 @@ module _ (o : Opening) (opens : IsOpening o) where
       never : (k : ℕ) (v : machine.NodeValue) → slice_get (map opened_node (opened_from o 0 o.size)) k ≡ Some v → has_commit tid v ≡ true → ⊥
       never k v at has = of (slice_get (opened_from o 0 o.size) k) refl (sym (slice_get-map opened_node (opened_from o 0 o.size) k) ∙ at)
         where
-          some_of : {x y : machine.NodeValue} → Some x ≡ Some y → x ≡ y
-          some_of e = cc e
-
           of : (p : Option Opened) → slice_get (opened_from o 0 o.size) k ≡ p → option_map opened_node p ≡ Some v → ⊥
           of None is e = cc e
           of (Some one) is e =
               let q = opened_is o opens k one is in
-              among q.0 (subst (λ (x : Opened). is_among x.committed tid ≡ true) q.1 (was (put_was tid one.committed [] (subst (λ (x : machine.NodeValue). has_commit tid x ≡ true) (sym (some_of e)) has))))
+              among q.0 (subst (λ (x : Opened). is_among x.committed tid ≡ true) q.1 (was (put_was tid one.committed [] (subst (λ (x : machine.NodeValue). has_commit tid x ≡ true) (sym (some_same e)) has))))
             where
               was : (is_among [] tid ≡ true) ⊎ (is_among one.committed tid ≡ true) → is_among one.committed tid ≡ true
               was (inl h) = absurd (cc h)
               was (inr h) = h
 
               among : k < o.size → is_among (recovery (o.logs k)).committed tid ≡ true → ⊥
-              among low h = clash (sym (commit_among tid named (o.logs tid.home.0) (home (nat_lt tid.home.0 o.size) in_run (committed_home k low tid h))) ∙ none)
+              among low h = true≢false (sym (commit_among tid named (o.logs tid.home.0) (home (nat_lt tid.home.0 o.size) in_run (committed_home k low tid h))) ∙ none)
                 where
                   home : (b : Bool) → b ≡ true → (not b || list_any (is_commit_of tid) (o.logs tid.home.0)) ≡ true → list_any (is_commit_of tid) (o.logs tid.home.0) ≡ true
                   home true e x = x

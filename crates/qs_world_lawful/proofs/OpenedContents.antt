@@ -1,18 +1,10 @@
 -- The contents of files and audit that a log leaves are those that the machine opens with.
-use Rattle.std.proofs.Common.{◌≡◌, ◌++◌, ℕ, true, List, [], ◌∷◌, map, fold, refl, sym, ap, ◌∙◌, Less}
-use Rattle.std.proofs.lemmas.List.{append-nil}
-use Rattle.std.specs.Prelude.{⊤}
-use Rattle.qs_base.specs.Order.{bytes_cmp}
+use Rattle.qs_world_lawful.proofs.Words.{◌≡◌, ◌++◌, ℕ, true, List, [], ◌∷◌, map, fold, refl, sym, ap, ◌∙◌, Less, append-nil, ⊤, bytes_cmp, put_of, apply_change, apply_note, applied, no_table, File, Op, Put, Append, Del, Get, Listing, Note, Notes, Bind, Find, Timer, Left, Window, Title, Keep, Fetch, Extra, Lend, Every}
 use Rattle.qs_ipc.specs.Queue.{is_for}
-use Rattle.qs_book_machine.specs.Opening.{note_of, put_of}
+use Rattle.qs_book_machine.specs.Opening.{note_of}
 use Rattle.qs_ops.specs.Files.{put_file}
 use Rattle.qs_ops.specs.Places.{IsBelowAll, IsInOrder}
-use Rattle.qs_ops.specs.Table.{apply_change, apply_note, applied, no_table}
-use Rattle.qs_ops.specs.declared.file.File.{File}
-use Rattle.qs_ops.specs.declared.operation.Op.{Op}
-use Rattle.qs_ops.specs.declared.operation.Op.TheVariants.{Put, Append, Del, Get, Listing, Note, Notes, Bind, Find, Timer, Left, Window, Title, Keep, Fetch, Extra, Lend}
 use Rattle.qs_ops.proofs.FileOrder.{greater_from_less, in_order-put_file, in_order-remove_file}
-use Rattle.qs_world_lawful.specs.Logs.{Every}
 
 -- ---- files
 

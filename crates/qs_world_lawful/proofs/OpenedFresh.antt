@@ -1,42 +1,15 @@
 -- As a world begins the machine has of each transaction at a node what stands in doubt in its log, and nothing else.
-use Rattle.std.proofs.Common.{◌≡◌, inr, ℕ, ◌<◌, ◌+◌, ◌==◌, ◌&&◌, ◌||◌, not, Bool, true, false, List, [], ◌∷◌, length, map, Option, Some, None, zero, suc, refl, sym, ap, subst, ◌∙◌, arith, is_some, nat_lt, if◌then◌else◌}
-use Rattle.std.proofs.lemmas.Bool.Decides.{nat_tests}
-use Rattle.std.proofs.lemmas.Option.{slice_get-map}
-use Rattle.std.specs.Prelude.{slice_get}
-use Rattle.std.specs.Option.{option_map}
-use Rattle.std.specs.List.{list_all, list_any}
-use Rattle.qs_base.specs.Order.{same_tid}
-use Rattle.qs_base.proofs.Same.{same_tid-true}
-use Rattle.qs_base.specs.declared.identifiers.NodeNo.{NodeNo}
-use Rattle.qs_base.specs.declared.identifiers.Tid.{Tid}
-use Rattle.qs_book_laws.specs.Laws.{IsCoherent}
-use Rattle.qs_book_laws.proofs.Faces.{face}
-use Rattle.qs_book_laws.proofs.Openings.{first_book, opening_names}
-use Rattle.qs_book_machine.specs.Book.{BookValue, cell_of_transaction, find_transaction}
+use Rattle.qs_world_lawful.proofs.Words.{◌≡◌, inr, ℕ, ◌<◌, ◌+◌, ◌==◌, ◌&&◌, ◌||◌, not, Bool, true, false, List, [], ◌∷◌, length, map, Option, Some, None, zero, suc, refl, sym, ap, subst, ◌∙◌, arith, is_some, nat_lt, if◌then◌else◌, nat_tests, slice_get-map, slice_get, option_map, list_all, list_any, same_tid, same_tid-true, NodeNo, Tid, IsCoherent, face, first_book, opening_names, BookValue, cell_of_transaction, find_transaction, is_recoverable, has_commit, is_among, member_at, TransactionValue}
+use Rattle.qs_world_lawful.proofs.Words.{has_note, no_part, sent_in, sent_on, Opened, Pending, Part, Record, Prepared, Recovery, Untold, is_in_doubt, is_untold_of, names_transaction, recovery, recovered_of, opened_from, opened_with, IsOpening, is_earlier, is_record, Opening, doubt_at, member_as, share_as, HoldsMember, Lasts, HasAborted, HasCommitted, IsMarked, Every, is_idle, not-true, eqb-true, and_parts, is_zero_plus}
 use Rattle.qs_book_machine.specs.Nodes as machine
-use Rattle.qs_book_machine.specs.Nodes.{is_recoverable}
-use Rattle.qs_book_machine.specs.Opening.{has_commit, opened_node}
-use Rattle.qs_book_machine.specs.Restart.{is_among, member_at}
-use Rattle.qs_book_machine.specs.Transaction.{TransactionValue, has_note, no_part, opened_as, part_of, sent_in, sent_on}
-use Rattle.qs_book_machine.specs.declared.opened.Opened.{Opened}
-use Rattle.qs_book_machine.specs.declared.opened.Pending.{Pending}
+use Rattle.qs_book_machine.specs.Opening.{opened_node}
+use Rattle.qs_book_machine.specs.Transaction.{opened_as, part_of}
 use Rattle.qs_book_machine.specs.declared.transaction.Cell.TheVariants as cells
-use Rattle.qs_book_machine.specs.declared.transaction.Part.{Part}
 use Rattle.qs_ops.specs.Servers.{files_no}
 use Rattle.qs_ops.specs.declared.answer.Cause.TheVariants as causes
-use Rattle.qs_record.specs.declared.record.Record.{Record}
 use Rattle.qs_record.specs.declared.record.Record.TheVariants as records
-use Rattle.qs_restart.specs.Recovery.{Prepared, Recovery, Untold, is_in_doubt, is_untold_of, names_transaction, recovery}
-use Rattle.qs_node_step.specs.Opening.{recovered_of}
-use Rattle.qs_world.specs.Histories.{book_of, opened_from, opened_with}
-use Rattle.qs_world.specs.Openings.{IsOpening, are_unended, is_doubt, is_earlier, is_record, is_untold}
-use Rattle.qs_world.specs.World.{Opening}
-use Rattle.qs_world_lawful.specs.Doubtful.{doubt_at, member_as, share_as}
-use Rattle.qs_world_lawful.specs.Holds.{HoldsMember}
-use Rattle.qs_world_lawful.specs.Lasting.{Lasts}
-use Rattle.qs_world_lawful.specs.Logged.{HasAborted, HasCommitted, IsMarked}
-use Rattle.qs_world_lawful.specs.Logs.{Every}
-use Rattle.qs_world_lawful.specs.Waits.{is_idle}
+use Rattle.qs_world.specs.Histories.{book_of}
+use Rattle.qs_world.specs.Openings.{are_unended, is_doubt, is_untold}
 use Rattle.qs_world_lawful.proofs.CoherentOpenings.{each_is, every_of, opens_soundly}
 use Rattle.qs_world_lawful.proofs.FoundMembers.{all_true, every_two, member_found, member_none}
 use Rattle.qs_world_lawful.proofs.FreshFace.{Fresh, FreshAt, IsDoubt}
@@ -52,7 +25,7 @@ use Rattle.qs_world_lawful.proofs.Reopened.{doubt_is}
 use Rattle.qs_world_lawful.proofs.RestartVotes.{IsSorted}
 use Rattle.qs_world_lawful.proofs.TakenCommits.{IsListed}
 use Rattle.qs_world_lawful.proofs.UntoldListed.{untold_listed}
-use Rattle.qs_world_lawful.proofs.OpenedVotes.{and_both, as_pending, last_as, opened_there}
+use Rattle.qs_world_lawful.proofs.OpenedVotes.{as_pending, last_as, opened_there}
 
 module _ (o : Opening) (opens : IsOpening o) where
   abbrev pub opened : List Opened
@@ -99,8 +72,8 @@ module _ (o : Opening) (opens : IsOpening o) where
       where
         sound : (rec : Record) → is_record o n rec ≡ true → IsSoundVote rec
         sound (records.Prepare tid server covers changes) is =
-            let p = and_both (is_earlier o tid) _ is in
-            let q = and_both (is_recoverable server.0) _ p.1 in
+            let p = and_parts (is_earlier o tid) _ is in
+            let q = and_parts (is_recoverable server.0) _ p.1 in
             (q.0, every_of _ changes q.1)
         sound (records.Commit tid told) is = tt
         sound (records.Aborted tid) is = tt
@@ -110,18 +83,18 @@ module _ (o : Opening) (opens : IsOpening o) where
     unended = each_is o.size (λ m. are_unended (recovery (o.logs m))) opens.unended n low
 
     pub doubtful : Every (λ (v : Prepared). is_doubt log v ≡ true) log.prepared
-    doubtful = every_of (is_doubt log) log.prepared (and_both (list_all (is_doubt log) log.prepared) _ unended).0
+    doubtful = every_of (is_doubt log) log.prepared (and_parts (list_all (is_doubt log) log.prepared) _ unended).0
 
     -- a vote that is marked has its Commit there
     pub marked : Every (IsMarked log) log.prepared
-    marked = every_on (λ (v : Prepared). v.committed ≡ true → list_any (is_untold_of v.tid) log.untold ≡ true) (IsMarked log) (λ v has is. in_all log.untold (and_both (list_all (is_doubt log) log.prepared) _ unended).1 (untold_listed (o.logs n)) v.tid (has is)) log.prepared says.lists
+    marked = every_on (λ (v : Prepared). v.committed ≡ true → list_any (is_untold_of v.tid) log.untold ≡ true) (IsMarked log) (λ v has is. in_all log.untold (and_parts (list_all (is_doubt log) log.prepared) _ unended).1 (untold_listed (o.logs n)) v.tid (has is)) log.prepared says.lists
       where
         in_all : (commits : List Untold) → list_all is_untold commits ≡ true → Every (IsListed log.committed) commits → (tid : Tid) → list_any (is_untold_of tid) commits ≡ true → is_among log.committed tid ≡ true
         in_all [] all listed tid any = absurd (cc any)
-        in_all (c ∷ commits) all listed tid any = by (is_untold_of tid c) refl any (λ more. in_all commits (and_both (is_untold c) _ all).1 listed.1 tid more)
+        in_all (c ∷ commits) all listed tid any = by (is_untold_of tid c) refl any (λ more. in_all commits (and_parts (is_untold c) _ all).1 listed.1 tid more)
           where
             by : (b : Bool) → is_untold_of tid c ≡ b → (b || list_any (is_untold_of tid) commits) ≡ true → (list_any (is_untold_of tid) commits ≡ true → is_among log.committed tid ≡ true) → is_among log.committed tid ≡ true
-            by true is h more = subst (λ (t : Tid). is_among log.committed t ≡ true) (same_tid-true c.tid tid is) (listed.0 (and_both (is_untold c) _ all).0)
+            by true is h more = subst (λ (t : Tid). is_among log.committed t ≡ true) (same_tid-true c.tid tid is) (listed.0 (and_parts (is_untold c) _ all).0)
             by false is h more = more h
 
     pub far_of : (v : Prepared) → is_doubt log v ≡ true → v.committed ≡ false → is_among log.committed v.tid ≡ false
@@ -144,10 +117,7 @@ module _ (o : Opening) (opens : IsOpening o) where
 
     reads : (tid : Tid) (s : ℕ) → Reads book.nodes tid n (o.settings n).inc s (option_map as_pending (doubt_at log.prepared tid s)) book
     reads tid s = subst (λ (p : Option Pending). Reads book.nodes tid n (o.settings n).inc s p book) (last_as tid s log.prepared None)
-        (logs_read book.nodes tid n (o.settings n).inc s 0 n opened one one_there (zero_plus n) refl (first_book opened) (record { nodes_are = sym (opening_names opened coherent).nodes; stands = refl }))
-      where
-        zero_plus : (k : ℕ) → k ≡ 0 + k
-        zero_plus k = grind (arith)
+        (logs_read book.nodes tid n (o.settings n).inc s 0 n opened one one_there (is_zero_plus n) refl (first_book opened) (record { nodes_are = sym (opening_names opened coherent).nodes; stands = refl }))
 
     named_as : (tid : Tid) (s : ℕ) (tx : TransactionValue) → find_transaction book tid ≡ Some tx → IsNamedAs book.nodes tid n (o.settings n).inc s (option_map as_pending (doubt_at log.prepared tid s)) tx
     named_as tid s tx found = subst (Stands book.nodes tid n (o.settings n).inc s (option_map as_pending (doubt_at log.prepared tid s))) found (reads tid s).stands
@@ -174,14 +144,10 @@ module _ (o : Opening) (opens : IsOpening o) where
     aborted v doubt in_doubt there home = by (find_transaction book v.tid) refl
       where
         named : names_transaction v.tid ≡ true
-        named = (and_both (names_transaction v.tid) _ in_doubt).0
+        named = (and_parts (names_transaction v.tid) _ in_doubt).0
 
         clear : v.committed ≡ false
-        clear = of v.committed (and_both (names_transaction v.tid) _ in_doubt).1
-          where
-            of : (b : Bool) → not b ≡ true → b ≡ false
-            of false e = refl
-            of true e = absurd (cc e)
+        clear = not-true v.committed (and_parts (names_transaction v.tid) _ in_doubt).1
 
         home_is : v.tid.home.0 ≡ n
         home_is = ap (λ (k : NodeNo). k.0) home
@@ -220,10 +186,7 @@ module _ (o : Opening) (opens : IsOpening o) where
       doubt_kept : (s : ℕ) (v : Prepared) → doubt_at log.prepared tid s ≡ Some v → is_recoverable s ≡ true
       doubt_kept s v is =
           let p = doubt_is (λ (x : Prepared). is_recoverable x.server.0 ≡ true) tid s log.prepared says.kinds v is in
-          subst (λ (k : ℕ). is_recoverable k ≡ true) (no_is v.server.0 s (and_both (same_tid v.tid tid) (v.server.0 == s) (and_both (is_in_doubt v) _ p.1).1).1) p.0
-        where
-          no_is : (a b : ℕ) → (a == b) ≡ true → a ≡ b
-          no_is a b e = grind (arith, nat_tests, e)
+          subst (λ (k : ℕ). is_recoverable k ≡ true) (eqb-true v.server.0 s (and_parts (same_tid v.tid tid) (v.server.0 == s) (and_parts (is_in_doubt v) _ p.1).1).1) p.0
 
       member_held : (s : ℕ) → HoldsMember tx (member_at n s) (o.settings n).inc (member_as (doubt_at log.prepared tid s))
       member_held s = by (doubt_at log.prepared tid s) refl
@@ -273,11 +236,7 @@ module _ (o : Opening) (opens : IsOpening o) where
       sorted = sorted;
       listed = untold_listed (o.logs n);
       doubts = every_two (λ (v : Prepared). is_doubt log v ≡ true) (λ (v : Prepared). is_in_doubt v ≡ true → is_some (find_transaction book v.tid) ≡ true) (λ (v : Prepared). is_in_doubt v ≡ true → IsDoubt book here log v.tid)
-          (λ v doubt there in_doubt. record { stands = there in_doubt; away = λ home. aborted v doubt in_doubt (there in_doubt) home; far = far_of v doubt (clear v.committed (and_both (names_transaction v.tid) _ in_doubt).1) }) log.prepared doubtful stands;
+          (λ v doubt there in_doubt. record { stands = there in_doubt; away = λ home. aborted v doubt in_doubt (there in_doubt) home; far = far_of v doubt (not-true v.committed (and_parts (names_transaction v.tid) _ in_doubt).1) }) log.prepared doubtful stands;
       committed = done_committed;
       at = fresh_at;
     }
-      where
-        clear : (b : Bool) → not b ≡ true → b ≡ false
-        clear false e = refl
-        clear true e = absurd (cc e)

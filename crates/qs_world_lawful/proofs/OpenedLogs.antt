@@ -1,27 +1,11 @@
 -- What a log says of what it names, where its records are such as a run may begin with: votes are of servers that keep them, with their own changes,
 -- and a vote that is marked as committed has its Commit with a list.
-use Rattle.std.proofs.Common.{◌≡◌, ℕ, ◌==◌, ◌&&◌, ◌||◌, ◌++◌, not, Bool, true, false, List, [], ◌∷◌, flat_map, fold, refl, sym, subst, arith, if◌then◌else◌}
-use Rattle.std.proofs.lemmas.Bool.Decides.{nat_tests}
-use Rattle.std.specs.Prelude.{⊤}
-use Rattle.std.specs.List.{filter, list_any}
-use Rattle.qs_base.specs.Order.{same_tid}
-use Rattle.qs_base.proofs.Same.{same_tid-self, same_tid-true}
-use Rattle.qs_base.specs.declared.identifiers.NodeNo.{NodeNo}
-use Rattle.qs_base.specs.declared.identifiers.ServerNo.{ServerNo}
-use Rattle.qs_base.specs.declared.identifiers.Tid.{Tid}
+use Rattle.qs_world_lawful.proofs.Words.{◌≡◌, ℕ, ◌==◌, ◌||◌, ◌++◌, not, Bool, true, false, List, [], ◌∷◌, flat_map, fold, refl, sym, subst, if◌then◌else◌, ⊤, filter, list_any, same_tid, same_tid-self, same_tid-true, NodeNo, ServerNo, Tid, is_recoverable, Op, Record, Prepared, Recovery, Untold, found_commit, found_record, is_untold_of, is_vote_of, mark_committed, names_transaction, nothing_said, recovery, with_list, Every, eqb-true, and_parts}
 use Rattle.qs_ipc.specs.Queue.{is_for}
-use Rattle.qs_book_machine.specs.Nodes.{is_recoverable}
-use Rattle.qs_ops.specs.declared.operation.Op.{Op}
-use Rattle.qs_record.specs.declared.record.Record.{Record}
 use Rattle.qs_record.specs.declared.record.Record.TheVariants as records
-use Rattle.qs_restart.specs.Recovery.{Prepared, Recovery, Untold, changes_at, ended, files_no, audit_no, found_commit, found_record, is_of, is_untold_of, is_vote_of, mark_committed, names_transaction, nothing_said, recovery, with_list}
-use Rattle.qs_world_lawful.specs.Logs.{Every}
+use Rattle.qs_restart.specs.Recovery.{changes_at, ended, files_no, audit_no, is_of}
 use Rattle.qs_world_lawful.proofs.LogRecords.{every_append, every_filter, every_map}
 use Rattle.qs_world_lawful.proofs.OpenedContents.{AreFor}
-
-and_both : (a b : Bool) → (a && b) ≡ true → (a ≡ true) × (b ≡ true)
-and_both true b e = (refl, e)
-and_both false b e = absurd (cc e)
 
 -- ---- a record
 
@@ -126,12 +110,9 @@ taken_for : (server : ServerNo) (tid : Tid) (votes : List Prepared) → Every (�
 taken_for server tid [] all = tt
 taken_for server tid (v ∷ votes) all = by (is_vote_of tid server v) refl (taken_for server tid votes all.1)
   where
-    no_is : (a b : ℕ) → (a == b) ≡ true → a ≡ b
-    no_is a b e = grind (arith, nat_tests, e)
-
     by : (b : Bool) → is_vote_of tid server v ≡ b → AreFor server.0 (flat_map (λ (v : Prepared). v.changes) (filter (is_vote_of tid server) votes)) → AreFor server.0 (flat_map (λ (v : Prepared). v.changes) (filter (is_vote_of tid server) (v ∷ votes)))
     by true is more = rw is (every_append (λ (op : Op). is_for (record { 0 = server.0 }) op ≡ true) v.changes (flat_map (λ (v : Prepared). v.changes) (filter (is_vote_of tid server) votes))
-        (subst (λ (n : ℕ). AreFor n v.changes) (no_is v.server.0 server.0 (and_both (same_tid v.tid tid) (v.server.0 == server.0) is).1) all.0) more)
+        (subst (λ (n : ℕ). AreFor n v.changes) (eqb-true v.server.0 server.0 (and_parts (same_tid v.tid tid) (v.server.0 == server.0) is).1) all.0) more)
     by false is more = rw is more
 
 commit_sound : (tid : Tid) (told : List NodeNo) (said : Recovery) → SaysSoundly said → SaysSoundly (found_commit tid told said)

@@ -1,28 +1,12 @@
 -- As a world begins the machine has of each log what it says: what is on record, what is committed, contents and changes.
-use Rattle.std.proofs.Common.{◌≡◌, ◌⊎◌, inl, inr, ℕ, ◌<◌, ◌==◌, ◌&&◌, ◌||◌, not, Bool, true, false, List, [], ◌∷◌, map, flat_map, Option, Some, None, refl, sym, ap, subst, ◌∙◌, arith, is_some, nat_le}
-use Rattle.std.proofs.lemmas.Bool.Decides.{nat_tests}
-use Rattle.std.specs.Option.{option_map}
-use Rattle.std.specs.List.{list_any}
-use Rattle.qs_base.specs.Order.{same_tid}
-use Rattle.qs_base.proofs.Same.{same_tid-self, same_tid-true}
-use Rattle.qs_base.specs.declared.identifiers.Tid.{Tid}
+use Rattle.qs_world_lawful.proofs.Words.{◌≡◌, ◌⊎◌, inl, inr, ℕ, ◌<◌, ◌==◌, ◌&&◌, ◌||◌, not, Bool, true, false, List, [], ◌∷◌, map, flat_map, Option, Some, None, refl, sym, ap, subst, ◌∙◌, arith, is_some, nat_le, nat_tests, option_map, list_any, same_tid, same_tid-self, same_tid-true, Tid, BookValue, cell_of_transaction, find_transaction, changes_of, record_of, voter, voter_cmp, put_of, is_among, TransactionValue, OnRecord, no_table, Prepared, Recovery, is_in_doubt, is_untold_of, names_transaction}
+use Rattle.qs_world_lawful.proofs.Words.{IsOpening, Opening, doubt_at, HoldsLogged, IsCommitMade, IsMarked, IsRecordSafe, StandsIn, Every, IsApplied, IsVoteLogged, HoldsSaid, IsApart, IsAsRecorded, IsRecorded, eqb-self, some_same, or_left, or_right, and_parts, eqb-true, not-true}
 use Rattle.qs_book_laws.proofs.Reopens.{restarted_is}
-use Rattle.qs_book_machine.specs.Book.{BookValue, cell_of_transaction, find_transaction}
 use Rattle.qs_book_machine.specs.Nodes as machine
-use Rattle.qs_book_machine.specs.Nodes.{changes_of, record_of, voter, voter_cmp}
-use Rattle.qs_book_machine.specs.Opening.{keep_pending, note_of, put_of}
-use Rattle.qs_book_machine.specs.Restart.{is_among}
-use Rattle.qs_book_machine.specs.Transaction.{TransactionValue}
-use Rattle.qs_book_machine.specs.declared.state.OnRecord.{OnRecord}
+use Rattle.qs_book_machine.specs.Opening.{keep_pending, note_of}
 use Rattle.qs_ops.specs.Servers.{audit_no, files_no}
-use Rattle.qs_ops.specs.Table.{no_table}
-use Rattle.qs_restart.specs.Recovery.{Prepared, Recovery, is_in_doubt, is_untold_of, names_transaction}
-use Rattle.qs_world.specs.Openings.{IsOpening, is_doubt}
-use Rattle.qs_world.specs.World.{Opening}
-use Rattle.qs_world_lawful.specs.Doubtful.{doubt_at}
-use Rattle.qs_world_lawful.specs.Logged.{HoldsLogged, IsCommitMade, IsMarked, IsRecordSafe, StandsIn}
-use Rattle.qs_world_lawful.specs.Logs.{Every, IsApplied, IsVoteLogged}
-use Rattle.qs_world_lawful.specs.Said.{HoldsSaid, IsApart, IsAsRecorded, IsRecorded, IsUndone}
+use Rattle.qs_world.specs.Openings.{is_doubt}
+use Rattle.qs_world_lawful.specs.Said.{IsUndone}
 use Rattle.qs_world_lawful.proofs.FoundMembers.{every_two}
 use Rattle.qs_world_lawful.proofs.FoundOnce.{found_once}
 use Rattle.qs_world_lawful.proofs.LogFrames.{every_on}
@@ -33,17 +17,6 @@ use Rattle.qs_world_lawful.proofs.OpenedVotes.{as_pending, last_as}
 use Rattle.qs_world_lawful.proofs.OpenedFresh.{aborted, book, done_committed, doubtful, far_of, log, marked, one, says, stands, state}
 use Rattle.qs_world_lawful.proofs.OpenedRecords.{all_put, doubt_found, doubts_once, record_for}
 use Rattle.qs_world_lawful.proofs.Reopened.{doubt_is}
-
-and_both : (a b : Bool) → (a && b) ≡ true → (a ≡ true) × (b ≡ true)
-and_both true b e = (refl, e)
-and_both false b e = absurd (cc e)
-
-no_is : (a b : ℕ) → (a == b) ≡ true → a ≡ b
-no_is a b e = grind (arith, nat_tests, e)
-
-off : (b : Bool) → not b ≡ true → b ≡ false
-off false e = refl
-off true e = absurd (cc e)
 
 module _ (o : Opening) (opens : IsOpening o) (n : ℕ) (low : n < o.size) where
   abbrev now : BookValue
@@ -101,11 +74,8 @@ module _ (o : Opening) (opens : IsOpening o) (n : ℕ) (low : n < o.size) where
   vote_logged : (v : Prepared) → KnowsVote v → IsVoteLogged n now its its_log v
   vote_logged v k = of (in_doubt_or v k.doubt)
     where
-      self : (m : ℕ) → (m == m) ≡ true
-      self m = grind (arith, nat_tests)
-
       of : (v.committed ≡ true) ⊎ (is_in_doubt v ≡ true) → IsVoteLogged n now its its_log v
-      of (inr is) = inl (ap (λ (p : Option OnRecord). elim p [ None ↦ false | Some rec ↦ rec.covers == v.covers ]) (record_is v.tid v.server.0 ∙ ap (λ (d : Option Prepared). option_map record_for (option_map as_pending d)) (k.last is)) ∙ self v.covers)
+      of (inr is) = inl (ap (λ (p : Option OnRecord). elim p [ None ↦ false | Some rec ↦ rec.covers == v.covers ]) (record_is v.tid v.server.0 ∙ ap (λ (d : Option Prepared). option_map record_for (option_map as_pending d)) (k.last is)) ∙ eqb-self v.covers)
       of (inl is) = inr (applied (find_transaction now v.tid) refl)
         where
           applied : (p : Option TransactionValue) → find_transaction now v.tid ≡ p → IsApplied n now its its_log v
@@ -132,13 +102,13 @@ module _ (o : Opening) (opens : IsOpening o) (n : ℕ) (low : n < o.size) where
   doubt_of : (tid : Tid) (s : ℕ) (v : Prepared) → doubt_at its_log.prepared tid s ≡ Some v → DoubtAt tid s v
   doubt_of tid s v at =
       let p = doubt_is (λ (x : Prepared). is_doubt its_log x ≡ true) tid s its_log.prepared (doubtful o opens n low) v at in
-      let q = and_both (is_in_doubt v) _ p.1 in
-      let r = and_both (same_tid v.tid tid) (v.server.0 == s) q.1 in
+      let q = and_parts (is_in_doubt v) _ p.1 in
+      let r = and_parts (same_tid v.tid tid) (v.server.0 == s) q.1 in
       record {
         tid_is = same_tid-true v.tid tid r.0;
-        server_is = no_is v.server.0 s r.1;
+        server_is = eqb-true v.server.0 s r.1;
         doubt = q.0;
-        far = subst (λ (t : Tid). is_among its_log.committed t ≡ false) (same_tid-true v.tid tid r.0) (far_of o opens n low v p.0 (off v.committed (and_both (names_transaction v.tid) _ q.0).1));
+        far = subst (λ (t : Tid). is_among its_log.committed t ≡ false) (same_tid-true v.tid tid r.0) (far_of o opens n low v p.0 (not-true v.committed (and_parts (names_transaction v.tid) _ q.0).1));
       }
 
   kept_safe : (tid : Tid) (server : ℕ) (rec : OnRecord) → record_of its tid server ≡ Some rec → IsRecordSafe now its_log (voter tid server) rec.covers
@@ -154,19 +124,11 @@ module _ (o : Opening) (opens : IsOpening o) (n : ℕ) (low : n < o.size) where
       same_le a b c d p q = grind (arith, nat_tests, p, q)
 
       passes : (v : Prepared) → rec ≡ record_for (as_pending v) → DoubtAt tid server v → is_found (voter tid server) rec.covers v ≡ true
-      passes v e d = rw ((and_both (names_transaction v.tid) _ d.doubt).0, subst (λ (t : Tid). same_tid v.tid t ≡ true) d.tid_is (same_tid-self v.tid)) (same_le v.server.0 server v.covers rec.covers d.server_is (sym (ap (λ (r : OnRecord). r.covers) e)))
+      passes v e d = rw ((and_parts (names_transaction v.tid) _ d.doubt).0, subst (λ (t : Tid). same_tid v.tid t ≡ true) d.tid_is (same_tid-self v.tid)) (same_le v.server.0 server v.covers rec.covers d.server_is (sym (ap (λ (r : OnRecord). r.covers) e)))
 
   all_made : (tids : List Tid) → ((tid : Tid) → is_among tids tid ≡ true → is_among its_log.committed tid ≡ true) → Every (IsCommitMade now its) tids
   all_made [] within = tt
-  all_made (t ∷ tids) within = (inl (put_among t its_log.committed [] (inr (within t (or_first (same_tid t t) (is_among tids t) (same_tid-self t))))), all_made tids (λ u is. within u (or_any (same_tid u t) (is_among tids u) is)))
-    where
-      or_first : (a b : Bool) → a ≡ true → (a || b) ≡ true
-      or_first true b e = refl
-      or_first false b e = absurd (cc e)
-
-      or_any : (a b : Bool) → b ≡ true → (a || b) ≡ true
-      or_any true b e = refl
-      or_any false b e = e
+  all_made (t ∷ tids) within = (inl (put_among t its_log.committed [] (inr (within t (or_left (same_tid t t) (is_among tids t) (same_tid-self t))))), all_made tids (λ u is. within u (or_right (same_tid u t) (is_among tids u) is)))
 
   pub log_held : HoldsLogged n now its its_log
   log_held = record {
@@ -186,12 +148,9 @@ module _ (o : Opening) (opens : IsOpening o) (n : ℕ) (low : n < o.size) where
       p : (u : Prepared) × (doubt_at its_log.prepared v.tid v.server.0 ≡ Some u) × (rec ≡ record_for (as_pending u))
       p = from_doubt v.tid v.server.0 rec is
 
-      same : {x y : Prepared} → Some x ≡ Some y → x ≡ y
-      same e = cc e
-
       of : (v.committed ≡ true) ⊎ (is_in_doubt v ≡ true) → IsRecorded n now (Some rec) v
       of (inl c) = absurd (cc ((doubt_of v.tid v.server.0 p.0 p.1).far, k.mark c))
-      of (inr d) = subst (λ (r : OnRecord). IsRecorded n now (Some r) v) (sym (p.2 ∙ ap (λ (u : Prepared). record_for (as_pending u)) (same (sym p.1 ∙ k.last d)))) (record { changes = λ clean. refl; count = λ files. refl })
+      of (inr d) = subst (λ (r : OnRecord). IsRecorded n now (Some r) v) (sym (p.2 ∙ ap (λ (u : Prepared). record_for (as_pending u)) (some_same (sym p.1 ∙ k.last d)))) (record { changes = λ clean. refl; count = λ files. refl })
 
   undone : (v : Prepared) → KnowsVote v → IsUndone n now v
   undone v k home names clear committed = cc (sym committed ∙ aborted o opens n low v k.doubt doubt (k.there doubt) (ap (λ (m : ℕ). record { 0 = m }) home))

@@ -1,24 +1,11 @@
 -- As a run begins the machine has the scripts of all clients, and nothing is on its way.
-use Rattle.std.proofs.Common.{◌≡◌, ℕ, ◌<◌, ◌+◌, ◌-◌, ◌&&◌, zero, suc, replicate, Bool, true, false, List, [], ◌∷◌, Option, Some, None, fold, refl, sym, ap, subst, ◌∙◌, arith, nat_lt}
-use Rattle.std.proofs.lemmas.Bool.Decides.{nat_tests}
-use Rattle.std.specs.Prelude.{slice_get}
-use Rattle.std.specs.BTreeMap.{insert_entry}
-use Rattle.qs_base.specs.Order.{tid_cmp}
-use Rattle.qs_base.specs.declared.identifiers.Tid.{Tid}
-use Rattle.qs_book_machine.specs.Book.{BookValue, find_transaction}
-use Rattle.qs_book_machine.specs.Clauses.{is_fresh}
-use Rattle.qs_book_machine.specs.Opening.{name_all, name_from, name_pending, name_transaction, no_owner, opened_transaction}
-use Rattle.qs_book_machine.specs.Transaction.{TransactionValue}
-use Rattle.qs_book_machine.specs.declared.opened.Opened.{Opened}
-use Rattle.qs_book_machine.specs.declared.opened.Pending.{Pending}
-use Rattle.qs_book_machine.specs.declared.state.Owner.{Owner}
-use Rattle.qs_world.specs.Histories.{book_of, opened_from}
+use Rattle.qs_world_lawful.proofs.Words.{◌≡◌, ℕ, ◌<◌, ◌+◌, ◌-◌, ◌&&◌, zero, suc, replicate, Bool, true, false, List, [], ◌∷◌, Option, Some, None, fold, refl, sym, ap, subst, ◌∙◌, arith, nat_lt, nat_tests, slice_get, insert_entry, tid_cmp, Tid, BookValue, find_transaction, is_fresh, name_all, name_from, name_pending, name_transaction, opened_transaction, TransactionValue, Opened, Pending, Owner, opened_from, IsOpening, are_rising, labels_begun, Opening, Parcel, start, Every, pending_from, AreBehind}
+use Rattle.qs_world_lawful.proofs.Words.{HoldsClient, IsFresh}
+use Rattle.qs_book_machine.specs.Opening.{no_owner}
+use Rattle.qs_world.specs.Histories.{book_of}
 use Rattle.qs_world.specs.Moves.{client_count}
-use Rattle.qs_world.specs.Openings.{IsOpening, are_rising, is_script, labels_begun}
-use Rattle.qs_world.specs.World.{Opening, Parcel, start}
-use Rattle.qs_world_lawful.specs.Logs.{Every}
-use Rattle.qs_world_lawful.specs.Parcels.{pending_from}
-use Rattle.qs_world_lawful.specs.Scripts.{AreBehind, HoldsClient, HoldsScripts, IsFresh}
+use Rattle.qs_world.specs.Openings.{is_script}
+use Rattle.qs_world_lawful.specs.Scripts.{HoldsScripts}
 use Rattle.qs_world_lawful.specs.WayLaws.{EachOpensScripts, EachOpensWays}
 use Rattle.qs_world_lawful.proofs.CoherentOpenings.{each_is}
 

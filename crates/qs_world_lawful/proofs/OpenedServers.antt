@@ -1,33 +1,10 @@
 -- As a world begins the machine has at each server of a node what the node has there.
-use Rattle.std.proofs.Common.{◌≡◌, ℕ, ◌<◌, ◌==◌, ◌&&◌, not, Bool, true, false, List, [], ◌∷◌, map, flat_map, Option, Some, None, fold, refl, sym, ap, subst, ◌∙◌, if◌then◌else◌, is_some}
-use Rattle.std.specs.List.{filter}
-use Rattle.std.specs.Map.{lookup}
-use Rattle.std.specs.BTreeMap.{is_at}
-use Rattle.qs_base.specs.Order.{member_cmp, tid_cmp}
-use Rattle.qs_base.proofs.TidOrder.{tid_total}
-use Rattle.qs_base.specs.declared.identifiers.NodeNo.{NodeNo}
-use Rattle.qs_base.specs.declared.identifiers.Tid.{Tid}
+use Rattle.qs_world_lawful.proofs.Words.{◌≡◌, ℕ, ◌<◌, ◌==◌, ◌&&◌, not, Bool, true, false, List, [], ◌∷◌, map, flat_map, Option, Some, None, fold, refl, sym, ap, subst, ◌∙◌, if◌then◌else◌, is_some, filter, lookup, is_at, member_cmp, tid_cmp, tid_total, NodeNo, Tid, IsRising, put_rises, BookValue, find_transaction, put_of, TransactionValue, names_no, ServerValue, TableValue, applied, kept, no_table, File, Op, Share, Prepared, is_in_doubt, prepare_of, opened_servers, recovered_as, Setting, pending_of}
+use Rattle.qs_world_lawful.proofs.Words.{IsOpening, Opening, HoldsDoubts, Every, HoldsServers, HoldsTable, HoldsTimers, is_seen, of_seen, seen_in}
 use Rattle.qs_node_kept.specs.Keeping.{no_kept}
-use Rattle.qs_book_laws.proofs.Rising.{IsRising, put_rises}
-use Rattle.qs_book_machine.specs.Book.{BookValue, find_transaction}
-use Rattle.qs_book_machine.specs.Opening.{keep_pending, note_of, put_of}
-use Rattle.qs_book_machine.specs.Transaction.{TransactionValue}
-use Rattle.qs_ops.specs.Servers.{audit_no, files_no, names_no}
-use Rattle.qs_ops.specs.Server.{ServerValue}
-use Rattle.qs_ops.specs.Table.{TableValue, applied, kept, no_table}
-use Rattle.qs_ops.specs.declared.file.File.{File}
-use Rattle.qs_ops.specs.declared.operation.Op.{Op}
-use Rattle.qs_ops.specs.declared.share.Share.{Share}
-use Rattle.qs_restart.specs.Recovery.{Prepared, is_in_doubt, prepare_of}
-use Rattle.qs_node_step.specs.Opening.{opened_servers, recovered_as}
+use Rattle.qs_book_machine.specs.Opening.{keep_pending, note_of}
+use Rattle.qs_ops.specs.Servers.{audit_no, files_no}
 use Rattle.qs_node_step.specs.State.{NodeValue}
-use Rattle.qs_node_step.specs.declared.setting.Setting.{Setting}
-use Rattle.qs_world.specs.Histories.{pending_of}
-use Rattle.qs_world.specs.Openings.{IsOpening}
-use Rattle.qs_world.specs.World.{Opening}
-use Rattle.qs_world_lawful.specs.Doubts.{HoldsDoubts}
-use Rattle.qs_world_lawful.specs.Logs.{Every}
-use Rattle.qs_world_lawful.specs.Tables.{HoldsServers, HoldsTable, HoldsTimers, is_seen, of_seen, seen_in}
 use Rattle.qs_world_lawful.proofs.FreshFace.{Fresh, IsOldLoan, node, tables}
 use Rattle.qs_world_lawful.proofs.LastsOpening.{opening_empty}
 use Rattle.qs_world_lawful.proofs.OpenedContents.{audit_opened, files_opened}

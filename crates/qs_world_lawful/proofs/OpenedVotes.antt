@@ -1,31 +1,13 @@
 -- As a world begins each log is read as it stands: the votes that the machine has as pending are those in doubt there.
-use Rattle.std.proofs.Common.{◌≡◌, ℕ, ◌<◌, ◌+◌, ◌==◌, ◌&&◌, Bool, true, false, List, [], ◌∷◌, map, flat_map, Option, Some, fold, zero, suc, refl, sym, ap, ◌∙◌, arith, if◌then◌else◌}
-use Rattle.std.specs.Prelude.{slice_get}
-use Rattle.std.specs.Option.{option_map}
-use Rattle.std.specs.List.{filter}
-use Rattle.qs_base.specs.Order.{same_tid}
-use Rattle.qs_base.specs.declared.identifiers.Tid.{Tid}
-use Rattle.qs_book_machine.specs.declared.opened.Pending.{Pending}
-use Rattle.qs_restart.specs.Recovery.{Prepared, is_in_doubt, prepare_of}
-use Rattle.qs_node_step.specs.Opening.{recovered_of}
-use Rattle.qs_world.specs.Histories.{opened_from, opened_with, pending_of}
-use Rattle.qs_world.specs.World.{Opening}
-use Rattle.qs_world_lawful.specs.Doubtful.{last_doubt}
+use Rattle.qs_world_lawful.proofs.Words.{◌≡◌, ℕ, ◌<◌, ◌+◌, ◌==◌, ◌&&◌, Bool, true, false, List, [], ◌∷◌, map, flat_map, Option, Some, fold, zero, suc, refl, sym, ap, ◌∙◌, arith, if◌then◌else◌, slice_get, option_map, filter, same_tid, Tid, Pending, Prepared, is_in_doubt, prepare_of, recovered_of, opened_from, opened_with, pending_of, Opening, last_doubt, is_plus_zero}
 use Rattle.qs_world_lawful.proofs.OpenedBook.{last_pending}
-
-pub and_both : (a b : Bool) → (a && b) ≡ true → (a ≡ true) × (b ≡ true)
-and_both true b e = (refl, e)
-and_both false b e = absurd (cc e)
 
 pub opened_there : (o : Opening) (n more k : ℕ) → k < more → slice_get (opened_from o n more) k ≡ Some (opened_with (o.settings (n + k)) (recovered_of (o.logs (n + k))))
 opened_there o n zero k low = absurd (none low)
   where
     none : {a : ℕ} → a < 0 → ⊥
     none {a} e = grind (arith, e)
-opened_there o n (suc more) zero low = ap (λ (m : ℕ). Some (opened_with (o.settings m) (recovered_of (o.logs m)))) (same n)
-  where
-    same : (a : ℕ) → a ≡ a + 0
-    same a = grind (arith)
+opened_there o n (suc more) zero low = ap (λ (m : ℕ). Some (opened_with (o.settings m) (recovered_of (o.logs m)))) (is_plus_zero n)
 opened_there o n (suc more) (suc k) low = opened_there o (n + 1) more k (fall low) ∙ ap (λ (m : ℕ). Some (opened_with (o.settings m) (recovered_of (o.logs m)))) (over n k)
   where
     fall : {a b : ℕ} → suc a < suc b → a < b

@@ -1,44 +1,20 @@
 -- As a world begins the machine has all of it: each node that begins over its log, with what that says, and that nothing is kept for clients.
-use Rattle.std.proofs.Common.{◌≡◌, inl, ℕ, ◌<◌, ◌+◌, ◌==◌, ◌&&◌, ◌||◌, ◌^◌, ◌++◌, not, Bool, true, false, List, [], ◌∷◌, length, map, fold, Option, Some, None, zero, suc, refl, sym, ap, subst, ◌∙◌, arith, is_some, nat_lt, nat_le, if◌then◌else◌}
-use Rattle.std.proofs.lemmas.Bool.Decides.{nat_tests}
-use Rattle.std.proofs.lemmas.List.{append-nil}
-use Rattle.std.specs.Prelude.{slice_get}
-use Rattle.std.specs.BTreeMap.{insert_entry}
-use Rattle.qs_base.specs.Order.{tid_cmp}
-use Rattle.qs_base.specs.declared.identifiers.Tid.{Tid}
+use Rattle.qs_world_lawful.proofs.Words.{◌≡◌, inl, ℕ, ◌<◌, ◌+◌, ◌==◌, ◌&&◌, ◌||◌, ◌^◌, ◌++◌, not, Bool, true, false, List, [], ◌∷◌, length, map, fold, Option, Some, None, zero, suc, refl, sym, ap, subst, ◌∙◌, arith, is_some, nat_lt, nat_le, if◌then◌else◌, nat_tests, append-nil, slice_get, insert_entry, tid_cmp, Tid, first_book, opening_names, BookValue, find_transaction, name_all, name_from, name_pending, name_transaction, opened_transaction, TransactionValue, Opened, Pending, Recovery, in_doubt}
+use Rattle.qs_world_lawful.proofs.Words.{recovery, untold, new_manager, Setting, Participant, opened_from, IsOpening, Host, Opening, start, part_or_new, HoldsClients, HoldsNode, HoldsStill, is_next, HoldsHost, HoldsLogged, KnowsLog, HoldsSaid, HoldsKept, HoldsNodeOf, HoldsUp, HoldsWorld, and_parts}
 use Rattle.qs_node_kept.specs.Keeping.{no_kept}
-use Rattle.qs_book_laws.proofs.Openings.{first_book, opening_names}
-use Rattle.qs_book_machine.specs.Book.{BookValue, find_transaction}
 use Rattle.qs_book_machine.specs.Nodes as machine
-use Rattle.qs_book_machine.specs.Opening.{name_all, name_from, name_pending, name_transaction, opened_node, opened_transaction}
-use Rattle.qs_book_machine.specs.Transaction.{TransactionValue}
-use Rattle.qs_book_machine.specs.declared.opened.Opened.{Opened}
-use Rattle.qs_book_machine.specs.declared.opened.Pending.{Pending}
-use Rattle.qs_restart.specs.Recovery.{Recovery, in_doubt, recovery, untold}
-use Rattle.qs_node_step.specs.Opening.{new_manager}
+use Rattle.qs_book_machine.specs.Opening.{opened_node}
 use Rattle.qs_node_step.specs.State.{NodeValue}
-use Rattle.qs_node_step.specs.declared.setting.Setting.{Setting}
 use Rattle.qs_tm.specs.Manager as tm
-use Rattle.qs_tm.specs.declared.participant.Participant.{Participant}
-use Rattle.qs_world.specs.Histories.{opened_from}
 use Rattle.qs_world.specs.Moves.{is_in_order}
-use Rattle.qs_world.specs.Openings.{IsOpening, is_setting}
-use Rattle.qs_world.specs.World.{Host, Opening, opened_host, start}
-use Rattle.qs_world_lawful.specs.Face.{part_or_new}
-use Rattle.qs_world_lawful.specs.Holds.{HoldsClients, HoldsNode, HoldsStill, is_next}
-use Rattle.qs_world_lawful.specs.Logged.{HoldsHost, HoldsLogged, KnowsLog}
-use Rattle.qs_world_lawful.specs.Said.{HoldsSaid}
-use Rattle.qs_world_lawful.specs.Worlds.{HoldsKept, HoldsNodeOf, HoldsUp, HoldsWorld}
+use Rattle.qs_world.specs.Openings.{is_setting}
+use Rattle.qs_world.specs.World.{opened_host}
 use Rattle.qs_world_lawful.proofs.CoherentOpenings.{each_is}
 use Rattle.qs_world_lawful.proofs.FreshFace.{at_held, known_as, waits_at}
 use Rattle.qs_world_lawful.proofs.FreshLog.{SameNumbers, all_taken, knows}
 use Rattle.qs_world_lawful.proofs.OpenedFresh.{book, coherent, lasts, log, opened, state, state_there}
 use Rattle.qs_world_lawful.proofs.OpenedSaid.{log_held, said_held}
 use Rattle.qs_world_lawful.proofs.OpenedServers.{begins, fresh_own, no_loans, servers_held}
-
-and_both : (a b : Bool) → (a && b) ≡ true → (a ≡ true) × (b ≡ true)
-and_both true b e = (refl, e)
-and_both false b e = absurd (cc e)
 
 -- ---- the machine opens at the beginning
 
@@ -92,16 +68,16 @@ module _ (o : Opening) (opens : IsOpening o) where
     no_is a b e = grind (arith, nat_tests, e)
 
     node_no : setting.node.0 ≡ n
-    node_no = no_is setting.node.0 n (and_both (setting.node.0 == n) (setting.nodes == o.size) (and_both ((setting.node.0 == n) && (setting.nodes == o.size)) _ is).0).0
+    node_no = no_is setting.node.0 n (and_parts (setting.node.0 == n) (setting.nodes == o.size) (and_parts ((setting.node.0 == n) && (setting.nodes == o.size)) _ is).0).0
 
     own : setting.node ≡ record { 0 = n }
     own = ap (λ (k : ℕ). record { 0 = k }) node_no
 
     run_is : setting.nodes ≡ o.size
-    run_is = no_is setting.nodes o.size (and_both (setting.node.0 == n) (setting.nodes == o.size) (and_both ((setting.node.0 == n) && (setting.nodes == o.size)) _ is).0).1
+    run_is = no_is setting.nodes o.size (and_parts (setting.node.0 == n) (setting.nodes == o.size) (and_parts ((setting.node.0 == n) && (setting.nodes == o.size)) _ is).0).1
 
     format_is : (((setting.extra == 0) && (setting.keep == 128)) || ((setting.extra == 8) && (setting.keep == 144))) ≡ true
-    format_is = (and_both _ _ (and_both _ _ (and_both _ _ (and_both ((setting.node.0 == n) && (setting.nodes == o.size)) _ is).1).1).1).0
+    format_is = (and_parts _ _ (and_parts _ _ (and_parts _ _ (and_parts ((setting.node.0 == n) && (setting.nodes == o.size)) _ is).1).1).1).0
 
     -- the format of its disk
     formats : (extra keep : ℕ) → (((extra == 0) && (keep == 128)) || ((extra == 8) && (keep == 144))) ≡ true
@@ -109,7 +85,7 @@ module _ (o : Opening) (opens : IsOpening o) where
     formats extra keep h = by (extra == 0) refl h
       where
         eight : (extra == 0) ≡ false → ((false && (keep == 128)) || ((extra == 8) && (keep == 144))) ≡ true → (8 ≡ extra) × (144 ≡ keep)
-        eight e h = let p = and_both (extra == 8) (keep == 144) h in (sym (no_is extra 8 p.0), sym (no_is keep 144 p.1))
+        eight e h = let p = and_parts (extra == 8) (keep == 144) h in (sym (no_is extra 8 p.0), sym (no_is keep 144 p.1))
 
         zero_is : (extra == 0) ≡ true → ((true && (keep == 128)) || ((extra == 8) && (keep == 144))) ≡ true → (0 ≡ extra) × (128 ≡ keep)
         zero_is e h = (sym (no_is extra 0 e), of (keep == 128) refl h)

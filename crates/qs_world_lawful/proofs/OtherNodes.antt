@@ -1,28 +1,10 @@
 -- What another node does that changes no transaction and no owner leaves all that is held of a node, its log too, whether it runs or not.
-use Rattle.std.proofs.Common.{◌≡◌, ◌⊎◌, inl, inr, ℕ, ◌&&◌, ◌++◌, not, Bool, List, [], ◌∷◌, length, flat_map, Option, Some, None, fold, refl, sym, ap, subst, ◌∙◌, if◌then◌else◌}
-use Rattle.std.specs.Prelude.{slice_get}
-use Rattle.qs_base.specs.declared.identifiers.ClientNo.{ClientNo}
-use Rattle.qs_base.specs.declared.identifiers.Tid.{Tid}
-use Rattle.qs_node_kept.specs.declared.kept.Decided.{Decided}
-use Rattle.qs_book_machine.specs.Book.{BookValue}
+use Rattle.qs_world_lawful.proofs.Words.{◌≡◌, ◌⊎◌, inl, inr, ℕ, ◌&&◌, ◌++◌, not, Bool, List, [], ◌∷◌, length, flat_map, Option, Some, None, fold, refl, sym, ap, subst, ◌∙◌, if◌then◌else◌, slice_get, ClientNo, Tid, Decided, BookValue, add_commit, commits_found, has_record, is_among, new_votes, record_at, with_votes, OnRecord, Voter, changed_at_here, applied, Op, Record, Prepared, Recovery, recovery, Manager, Host, HasEnded, HoldsClients, HoldsStill, IsBehind, IsOwner, MayBeTold, HoldsHost}
+use Rattle.qs_world_lawful.proofs.Words.{HoldsLogged, Later, HoldsStopped, IsCutVote, IsVoteLogged, found_votes, HoldsLeft, HoldsSaid, IsAsRecorded, IsMadeBy, IsRecorded, IsToBeRecorded, book_found, HoldsDown, HoldsNodeOf, HoldsUp}
 use Rattle.qs_book_machine.specs.Nodes as machine
-use Rattle.qs_book_machine.specs.Restart.{add_commit, changes_at, commits_found, has_record, is_among, new_votes, new_votes_at, record_at, with_votes}
-use Rattle.qs_book_machine.specs.declared.state.OnRecord.{OnRecord}
-use Rattle.qs_book_machine.specs.declared.state.Voter.{Voter}
-use Rattle.qs_book_laws.proofs.Maps.{changed_at_here}
+use Rattle.qs_book_machine.specs.Restart.{changes_at, new_votes_at}
 use Rattle.qs_ops.specs.Servers.{audit_no, files_no}
-use Rattle.qs_ops.specs.Table.{applied}
-use Rattle.qs_ops.specs.declared.operation.Op.{Op}
-use Rattle.qs_record.specs.declared.record.Record.{Record}
-use Rattle.qs_restart.specs.Recovery.{Prepared, Recovery, recovery}
 use Rattle.qs_node_step.specs.State.{NodeValue}
-use Rattle.qs_tm.specs.declared.manager.Manager.{Manager}
-use Rattle.qs_world.specs.World.{Host}
-use Rattle.qs_world_lawful.specs.Holds.{HasEnded, HoldsClients, HoldsStill, IsBehind, IsOwner, MayBeTold}
-use Rattle.qs_world_lawful.specs.Logged.{HoldsHost, HoldsLogged, Later}
-use Rattle.qs_world_lawful.specs.Logs.{HoldsStopped, IsCutVote, IsVoteLogged, found_votes}
-use Rattle.qs_world_lawful.specs.Said.{HoldsLeft, HoldsSaid, IsAsRecorded, IsMadeBy, IsRecorded, IsToBeRecorded, book_found}
-use Rattle.qs_world_lawful.specs.Worlds.{HoldsDown, HoldsNodeOf, HoldsUp}
 use Rattle.qs_world_lawful.proofs.LearntOn.{learnt_self}
 use Rattle.qs_world_lawful.proofs.LogFrames.{every_on, logged_on}
 use Rattle.qs_world_lawful.proofs.Marks.{knows_on, knows_self}

@@ -1,29 +1,8 @@
 -- The entries of a step leave the script of a client that none of them answers, where none begins under a label of it.
-use Rattle.std.proofs.Common.{◌≡◌, ◌-◌, ℕ, Bool, true, false, List, [], ◌∷◌, ◌++◌, fold, Option, Some, None, is_none, refl, sym, ap, subst, ◌∙◌, if◌then◌else◌}
+use Rattle.qs_world_lawful.proofs.Words.{◌≡◌, ◌-◌, ℕ, Bool, true, false, List, [], ◌∷◌, ◌++◌, fold, Option, Some, None, is_none, refl, sym, ap, subst, ◌∙◌, if◌then◌else◌, slice_get, lookup, is_at, bytes_cmp, Member, Tid, Act, Entry, ScriptLine, lookup_put_apart, BookValue, begin, crosses, find_transaction, give_back_from, hear, inc_at, loan_to, waiting_of, with_crossing, with_owner, with_transaction, with_waiting, is_client_no, borrower_at, link_to, effect, effect_act, issued, Asking, Owner}
+use Rattle.qs_world_lawful.proofs.Words.{RequestNo, are_rising, labels_begun, IsOfStep, Every, AreBehind, IsFresh}
 use Rattle.std.proofs.lemmas.Map.Lookups.{exact_bytes}
-use Rattle.std.specs.Prelude.{slice_get}
-use Rattle.std.specs.Map.{lookup}
-use Rattle.std.specs.BTreeMap.{is_at}
-use Rattle.qs_base.specs.Order.{bytes_cmp}
-use Rattle.qs_base.specs.declared.identifiers.Member.{Member}
-use Rattle.qs_base.specs.declared.identifiers.Tid.{Tid}
-use Rattle.qs_book_journal.specs.declared.entry.Act.{Act}
 use Rattle.qs_book_journal.specs.declared.entry.Act.TheVariants as acts
-use Rattle.qs_book_journal.specs.declared.entry.Entry.{Entry}
-use Rattle.qs_book_journal.specs.declared.script_line.ScriptLine.{ScriptLine}
-use Rattle.qs_book_laws.proofs.Maps.{lookup_put_apart}
-use Rattle.qs_book_machine.specs.Book.{BookValue, begin, crosses, find_transaction, give_back_from, hear, inc_at, loan_to, waiting_of, with_crossing, with_owner, with_transaction, with_waiting}
-use Rattle.qs_ops.specs.Servers.{is_client_no}
-use Rattle.qs_book_machine.specs.Clauses.{borrower_at, link_to}
-use Rattle.qs_book_machine.specs.Lawful.{effect, effect_act}
-use Rattle.qs_book_machine.specs.Transaction.{issued}
-use Rattle.qs_book_machine.specs.declared.state.Asking.{Asking}
-use Rattle.qs_book_machine.specs.declared.state.Owner.{Owner}
-use Rattle.qs_book_machine.specs.declared.transaction.RequestNo.{RequestNo}
-use Rattle.qs_world.specs.Openings.{are_rising, labels_begun}
-use Rattle.qs_world_lawful.specs.Aside.{IsOfStep}
-use Rattle.qs_world_lawful.specs.Logs.{Every}
-use Rattle.qs_world_lawful.specs.Scripts.{AreBehind, IsFresh}
 use Rattle.qs_world_lawful.specs.WayLaws.{BeginsNone, EachStepKeepsOtherScripts, HoldsScript, IsOther, IsSilentTo, LeavesScript}
 use Rattle.qs_world_lawful.proofs.AsideActs.{IsAnsweredBy, owners_keep}
 use Rattle.qs_world_lawful.proofs.FoundMembers.{every_two}

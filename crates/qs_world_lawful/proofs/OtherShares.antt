@@ -1,18 +1,6 @@
 -- What is removed, put, voted or noted of one transaction in a table leaves what every other holds there.
-use Rattle.std.proofs.Common.{◌≡◌, Bool, true, false, List, [], ◌∷◌, Option, refl, ap}
-use Rattle.std.specs.Prelude.{unwrap_or}
-use Rattle.std.specs.Map.{lookup, remove_entry}
-use Rattle.std.specs.BTreeMap.{is_at}
-use Rattle.qs_base.specs.Order.{tid_cmp}
-use Rattle.qs_base.specs.declared.identifiers.Tid.{Tid}
-use Rattle.qs_base.proofs.TidOrder.{tid_exact}
-use Rattle.qs_book_laws.proofs.Maps.{lookup_put_apart}
-use Rattle.qs_ops.specs.Server.{voted_in, noted_in}
-use Rattle.qs_ops.specs.Table.{TableValue, share_of, nothing_held, released, with_share, applied}
-use Rattle.qs_ops.specs.declared.share.Share.{Share}
-use Rattle.qs_ops.specs.declared.vote.Notice.{Notice}
+use Rattle.qs_world_lawful.proofs.Words.{◌≡◌, Bool, true, false, List, [], ◌∷◌, Option, refl, ap, unwrap_or, lookup, remove_entry, is_at, tid_cmp, Tid, tid_exact, lookup_put_apart, voted_in, noted_in, TableValue, share_of, nothing_held, released, with_share, applied, Share, Notice, Vote}
 use Rattle.qs_ops.specs.declared.vote.Notice.TheVariants as notices
-use Rattle.qs_ops.specs.declared.vote.Vote.{Vote}
 use Rattle.qs_ops.specs.declared.vote.Vote.TheVariants as votes
 use Rattle.qs_world_lawful.proofs.Apart.{Apart}
 

@@ -1,27 +1,8 @@
 -- The entries of one node leave what two others have on its way between them.
-use Rattle.std.proofs.Common.{◌≡◌, inl, inr, ℕ, ◌==◌, ◌&&◌, zero, suc, Bool, true, false, List, [], ◌∷◌, drop, length, map, Option, Some, None, refl, sym, ap, subst, ◌∙◌, arith, is_some, if◌then◌else◌}
-use Rattle.std.proofs.lemmas.Bool.Decides.{nat_tests}
-use Rattle.std.specs.List.{filter}
-use Rattle.qs_base.specs.Order.{same_tid}
-use Rattle.qs_base.proofs.Same.{same_tid-true}
-use Rattle.qs_base.specs.declared.identifiers.NodeNo.{NodeNo}
-use Rattle.qs_base.specs.declared.identifiers.ServerNo.{ServerNo}
-use Rattle.qs_base.specs.declared.identifiers.Tid.{Tid}
-use Rattle.qs_session_channels.specs.Channels.{Channels}
-use Rattle.qs_book_journal.specs.declared.entry.Entry.{Entry}
-use Rattle.qs_book_machine.specs.Book.{BookValue, find_transaction}
-use Rattle.qs_book_machine.specs.Lawful.{IsLawful, book_after, broken, effect}
-use Rattle.qs_book_machine.specs.Transaction.{TransactionValue, is_standing, requests_at}
-use Rattle.qs_book_machine.specs.declared.transaction.Request.{Request}
-use Rattle.qs_ops.specs.declared.operation.Op.{Op}
-use Rattle.qs_packet.specs.declared.message.Message.{Message}
+use Rattle.qs_world_lawful.proofs.Words.{◌≡◌, inl, inr, ℕ, ◌==◌, ◌&&◌, zero, suc, Bool, true, false, List, [], ◌∷◌, drop, length, map, Option, Some, None, refl, sym, ap, subst, ◌∙◌, is_some, if◌then◌else◌, filter, same_tid, same_tid-true, NodeNo, ServerNo, Tid, Channels, Entry, BookValue, find_transaction, IsLawful, book_after, broken, effect, TransactionValue, is_standing, requests_at, Request, Op, Message, Parcel, IsOfStep, at_server, Every, HoldsChannels, IsParcel, IsSaid, on_its_way, ops_of}
+use Rattle.qs_world_lawful.proofs.Words.{pending, pending_from, way_between, IsWithin, op_in, standing_ops, eqb-false}
 use Rattle.qs_packet.specs.declared.message.Message.TheVariants as messages
-use Rattle.qs_world.specs.World.{Parcel}
-use Rattle.qs_world_lawful.specs.Aside.{IsOfStep}
-use Rattle.qs_world_lawful.specs.Face.{at_server}
-use Rattle.qs_world_lawful.specs.Logs.{Every}
-use Rattle.qs_world_lawful.specs.Parcels.{HoldsChannels, IsParcel, IsSaid, is_asking_for, on_its_way, ops_of, pending, pending_from, way_between}
-use Rattle.qs_world_lawful.specs.Waits.{IsWithin, op_in, standing_ops}
+use Rattle.qs_world_lawful.specs.Parcels.{is_asking_for}
 use Rattle.qs_world_lawful.proofs.AsideBook.{Goes, goes_on}
 use Rattle.qs_world_lawful.proofs.LastsEntry.{lasts_on}
 use Rattle.qs_world_lawful.proofs.LastsWell.{LastsWell}
@@ -33,12 +14,6 @@ use Rattle.qs_world_lawful.proofs.TurnedRequests.{AtNumber, at_number}
 pub record HoldsOps (book : BookValue) (a b : ℕ) (ds : Tid → ServerNo → ℕ → List Op) : Type 0 where
   pub stands : (tid : Tid) (tx : TransactionValue) (server : ServerNo) (number : ℕ) → find_transaction book tid ≡ Some tx → IsWithin (ds tid server number) (standing_ops tx (way_between a b number) (record { 0 = b }) server)
   pub none : (tid : Tid) (server : ServerNo) (number : ℕ) → find_transaction book tid ≡ None → ds tid server number ≡ []
-
-itself : (k : ℕ) → (k == k) ≡ true
-itself k = grind (arith, nat_tests)
-
-apart_of : (k n : ℕ) → (k == n) ≡ false → k ≡ n → ⊥
-apart_of k n far same = cc (sym far ∙ (ap (λ (j : ℕ). j == n) same ∙ itself n))
 
 module _ (a b n : ℕ) (a_far : (a == n) ≡ false) (b_far : (b == n) ≡ false) (ds : Tid → ServerNo → ℕ → List Op) where
   entry_leaves : (book : BookValue) (entry : Entry) → LastsWell book → broken book entry ≡ None → entry.node.0 ≡ n → HoldsOps book a b ds → HoldsOps (effect book entry) a b ds
@@ -57,8 +32,8 @@ module _ (a b n : ℕ) (a_far : (a == n) ≡ false) (b_far : (b == n) ≡ false)
         where
           of : AtNumber entry.node.0 tx later (way_between a b number) → requests_at later (way_between a b number) ≡ requests_at tx (way_between a b number)
           of (inl same) = same
-          of (inr (inl more)) = absurd (apart_of a n a_far (more.from ∙ own))
-          of (inr (inr served)) = absurd (apart_of b n b_far (ap (λ (k : NodeNo). k.0) served.to ∙ (served.own ∙ own)))
+          of (inr (inl more)) = absurd (eqb-false a n a_far (more.from ∙ own))
+          of (inr (inr served)) = absurd (eqb-false b n b_far (ap (λ (k : NodeNo). k.0) served.to ∙ (served.own ∙ own)))
 
       stands : (tid : Tid) (later : TransactionValue) (server : ServerNo) (number : ℕ) → find_transaction (effect book entry) tid ≡ Some later → IsWithin (ds tid server number) (standing_ops later (way_between a b number) (record { 0 = b }) server)
       stands tid later server number found = by (find_transaction book tid) refl

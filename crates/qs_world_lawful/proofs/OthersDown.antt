@@ -1,26 +1,11 @@
 -- A restart of another node leaves what a node that is down will find as it restarts itself; and so all that is held of any other node.
-use Rattle.std.proofs.Common.{◌≡◌, ℕ, ◌≤◌, ◌==◌, ◌&&◌, ◌++◌, not, Bool, false, List, [], ◌∷◌, flat_map, Option, Some, None, fold, refl, sym, ap, subst, ◌∙◌, if◌then◌else◌}
-use Rattle.std.specs.Prelude.{slice_get}
-use Rattle.qs_base.specs.declared.identifiers.NodeNo.{NodeNo}
-use Rattle.qs_base.specs.declared.identifiers.Tid.{Tid}
-use Rattle.qs_book_journal.specs.declared.entry.Found.{Found}
-use Rattle.qs_book_laws.proofs.Maps.{changed_at_here}
-use Rattle.qs_book_machine.specs.Book.{BookValue, find_transaction, pending_in}
+use Rattle.qs_world_lawful.proofs.Words.{◌≡◌, ℕ, ◌≤◌, ◌==◌, ◌&&◌, ◌++◌, not, Bool, false, List, [], ◌∷◌, flat_map, Option, Some, None, fold, refl, sym, ap, subst, ◌∙◌, if◌then◌else◌, slice_get, NodeNo, Tid, Found, changed_at_here, BookValue, find_transaction, pending_in, add_commit, commits_found, could_vote, has_record, is_among, is_new_vote, is_on_record, member_at, new_vote, new_votes, record_at, with_votes, TransactionValue, OnRecord, Voter, Part, applied, Op, Recovery, recovery, Host}
+use Rattle.qs_world_lawful.proofs.Words.{StandsIn, found_votes, HoldsLeft, IsMadeBy, IsRecorded, IsToBeRecorded, book_found, HoldsDown, HoldsNodeOf, HoldsUp}
 use Rattle.qs_book_machine.specs.Nodes as machine
-use Rattle.qs_book_machine.specs.Restart.{add_commit, changes_at, commits_found, could_vote, has_record, is_among, is_new_vote, is_on_record, member_at, new_vote, new_votes, record_at, with_votes}
-use Rattle.qs_book_machine.specs.Transaction.{TransactionValue, part_of}
-use Rattle.qs_book_machine.specs.declared.state.OnRecord.{OnRecord}
-use Rattle.qs_book_machine.specs.declared.state.Voter.{Voter}
-use Rattle.qs_book_machine.specs.declared.transaction.Part.{Part}
+use Rattle.qs_book_machine.specs.Restart.{changes_at}
+use Rattle.qs_book_machine.specs.Transaction.{part_of}
 use Rattle.qs_ops.specs.Servers.{audit_no, files_no}
-use Rattle.qs_ops.specs.Table.{applied}
-use Rattle.qs_ops.specs.declared.operation.Op.{Op}
-use Rattle.qs_restart.specs.Recovery.{Recovery, recovery}
-use Rattle.qs_world.specs.World.{Host}
-use Rattle.qs_world_lawful.specs.Logged.{StandsIn}
-use Rattle.qs_world_lawful.specs.Logs.{found_votes}
-use Rattle.qs_world_lawful.specs.Said.{HoldsLeft, IsMadeBy, IsRecorded, IsToBeRecorded, IsUndone, book_found}
-use Rattle.qs_world_lawful.specs.Worlds.{HoldsDown, HoldsNodeOf, HoldsUp}
+use Rattle.qs_world_lawful.specs.Said.{IsUndone}
 use Rattle.qs_world_lawful.proofs.LogFrames.{every_on}
 use Rattle.qs_world_lawful.proofs.OthersLog.{could_same, host_on, kept_on, recorded_on, said_on, stands_on, stopped_on, undone_on}
 use Rattle.qs_world_lawful.proofs.OthersRise.{holds_on, nodes_same}

@@ -1,34 +1,11 @@
 -- A restart of another node leaves what the log of a node says, whether it runs or not, and what is kept for its clients.
-use Rattle.std.proofs.Common.{◌≡◌, ◌⊎◌, inl, inr, ℕ, ◌≤◌, ◌==◌, ◌&&◌, ◌||◌, ◌++◌, not, Bool, true, false, List, Option, Some, None, refl, sym, ap, subst, ◌∙◌, arith, is_some, nat_lt}
-use Rattle.std.proofs.lemmas.Bool.Decides.{nat_tests}
-use Rattle.std.specs.Prelude.{slice_get}
-use Rattle.std.specs.List.{list_all}
-use Rattle.std.specs.Map.{lookup}
-use Rattle.std.specs.BTreeMap.{is_at}
-use Rattle.qs_base.specs.Order.{member_cmp}
-use Rattle.qs_base.specs.declared.identifiers.ClientNo.{ClientNo}
-use Rattle.qs_base.specs.declared.identifiers.Member.{Member}
-use Rattle.qs_base.specs.declared.identifiers.NodeNo.{NodeNo}
-use Rattle.qs_base.specs.declared.identifiers.Tid.{Tid}
-use Rattle.qs_book_journal.specs.declared.entry.Found.{Found}
+use Rattle.qs_world_lawful.proofs.Words.{◌≡◌, ◌⊎◌, inl, inr, ℕ, ◌≤◌, ◌==◌, ◌&&◌, ◌||◌, ◌++◌, not, Bool, true, false, List, Option, Some, None, refl, sym, ap, subst, ◌∙◌, arith, is_some, nat_lt, nat_tests, slice_get, list_all, lookup, is_at, member_cmp, ClientNo, Member, NodeNo, Tid, Found, BookValue, cell_of_transaction, crossed_in, find_transaction, could_vote, is_among, is_committed, may_be_lost, member_at, TransactionValue, agrees, all_served, has_learnt, is_commit, is_empty, is_open}
+use Rattle.qs_world_lawful.proofs.Words.{is_unanimous, Owner, OnRecord, Voter, Cell, Record, Prepared, Recovery, names_transaction, recovery, Manager, IsOwner, HoldsHost, HoldsLogged, IsNamed, Later, HoldsStopped, IsCommitLogged, IsCutVote, IsRecordKept, IsVoteLogged, found_of, HoldsSaid, IsAsRecorded, IsRecorded, HoldsKept, IsLeftOpen, IsLoanOf, IsOpenStill, and_false, and_from, eqb-true}
 use Rattle.qs_node_kept.specs.declared.kept.Kept.{Kept}
-use Rattle.qs_book_machine.specs.Book.{BookValue, cell_of_transaction, crossed_in, find_transaction}
 use Rattle.qs_book_machine.specs.Nodes as machine
-use Rattle.qs_book_machine.specs.Restart.{could_vote, is_among, is_committed, may_be_lost, member_at}
-use Rattle.qs_book_machine.specs.Transaction.{TransactionValue, agrees, all_served, has_learnt, is_abort, is_before, is_commit, is_empty, is_open, is_unanimous, part_of, was_committed}
-use Rattle.qs_book_machine.specs.declared.state.Owner.{Owner}
-use Rattle.qs_book_machine.specs.declared.state.OnRecord.{OnRecord}
-use Rattle.qs_book_machine.specs.declared.state.Voter.{Voter}
-use Rattle.qs_book_machine.specs.declared.transaction.Cell.{Cell}
+use Rattle.qs_book_machine.specs.Transaction.{is_abort, is_before, part_of, was_committed}
 use Rattle.qs_book_machine.specs.declared.transaction.Cell.TheVariants as cells
-use Rattle.qs_record.specs.declared.record.Record.{Record}
-use Rattle.qs_restart.specs.Recovery.{Prepared, Recovery, names_transaction, recovery}
-use Rattle.qs_tm.specs.declared.manager.Manager.{Manager}
-use Rattle.qs_world_lawful.specs.Holds.{IsOwner}
-use Rattle.qs_world_lawful.specs.Logged.{HoldsHost, HoldsLogged, IsNamed, Later}
-use Rattle.qs_world_lawful.specs.Logs.{HoldsStopped, IsCommitLogged, IsCutVote, IsRecordKept, IsVoteLogged, found_of}
-use Rattle.qs_world_lawful.specs.Said.{HoldsSaid, IsAsRecorded, IsRecorded, IsUndone}
-use Rattle.qs_world_lawful.specs.Worlds.{HoldsKept, IsLeftOpen, IsLoanOf, IsOpenStill}
+use Rattle.qs_world_lawful.specs.Said.{IsUndone}
 use Rattle.qs_world_lawful.proofs.FoundMembers.{and_both}
 use Rattle.qs_world_lawful.proofs.LogFrames.{every_on, logged_on}
 use Rattle.qs_world_lawful.proofs.Marks.{knows_on, knows_self}
@@ -166,10 +143,6 @@ module _ (book : BookValue) (risen : NodeNo) (stamp inc : ℕ) (log : Recovery) 
       no_more : (a b : ℕ) → a ≤ b → nat_lt b a ≡ false
       no_more a b e = grind (arith, nat_tests, e)
 
-      and_false : (a : Bool) → (a && false) ≡ false
-      and_false true = refl
-      and_false false = refl
-
       late : later.decided ≡ Some book.place → was_committed stopped later ≡ false
       late at = subst (λ (o : Option ℕ). (is_commit later.cell && (not (is_some o) || is_before stopped o)) ≡ false) (sym at) (rw (no_more stopped book.place low) (and_false (is_commit later.cell)))
 
@@ -186,11 +159,8 @@ module _ (book : BookValue) (risen : NodeNo) (stamp inc : ℕ) (log : Recovery) 
   unanimous_on tid tx later g is =
       let one = and_both (is_some tx.asked && all_served tx) _ is in
       let two = and_both (list_all agrees tx.parts) (is_empty tx.refusals && is_empty tx.crossed) one.1 in
-      both (is_some later.asked && all_served later) (list_all agrees later.parts && (is_empty later.refusals && is_empty later.crossed)) (asked one.0) (both (list_all agrees later.parts) (is_empty later.refusals && is_empty later.crossed) (g.agree two.0) (rest two.1))
+      and_from (is_some later.asked && all_served later) (list_all agrees later.parts && (is_empty later.refusals && is_empty later.crossed)) (asked one.0) (and_from (list_all agrees later.parts) (is_empty later.refusals && is_empty later.crossed) (g.agree two.0) (rest two.1))
     where
-      both : (a b : Bool) → a ≡ true → b ≡ true → (a && b) ≡ true
-      both a b p q = rw (p, q) refl
-
       asked : (is_some tx.asked && all_served tx) ≡ true → (is_some later.asked && all_served later) ≡ true
       asked e = rw (g.asked, g.requests) e
 
@@ -218,11 +188,8 @@ module _ (book : BookValue) (risen : NodeNo) (stamp inc : ℕ) (log : Recovery) 
           let p = goes book risen stamp inc log state r v.tid c.tx c.found in
           inr (record { tx = p.0; found = p.1; could = could_same v.tid c.tx p.0 p.2 s low (found_of v) ∙ c.could })
 
-      no_is : (a b : ℕ) → (a == b) ≡ true → a ≡ b
-      no_is a b e = grind (arith, nat_tests, e)
-
       same_cell : (tid : Tid) (tx next : TransactionValue) → G tid tx next → (tid.home.0 == n) ≡ true → next.cell ≡ tx.cell
-      same_cell tid tx next g e = g.away (ap (λ (k : ℕ). k == risen.0) (no_is tid.home.0 n e) ∙ far)
+      same_cell tid tx next g e = g.away (ap (λ (k : ℕ). k == risen.0) (eqb-true tid.home.0 n e) ∙ far)
 
       lost_on : (tid : Tid) → may_be_lost n tid (find_transaction book tid) ≡ true → may_be_lost n tid (find_transaction now tid) ≡ true
       lost_on tid is = by (find_transaction book tid) refl is

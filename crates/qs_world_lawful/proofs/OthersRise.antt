@@ -1,35 +1,13 @@
 -- A restart of another node leaves all that is held of a node that runs, and of its log.
-use Rattle.std.proofs.Common.{◌≡◌, ◌⊎◌, inl, inr, ℕ, ◌==◌, not, Bool, true, false, List, [], ◌∷◌, Option, Some, None, fold, refl, sym, ap, subst, ◌∙◌, if◌then◌else◌, is_some, nat_lt}
-use Rattle.std.specs.Prelude.{slice_get}
-use Rattle.std.specs.Map.{lookup}
-use Rattle.std.specs.BTreeMap.{is_at}
-use Rattle.qs_base.specs.Order.{member_cmp}
-use Rattle.qs_base.specs.declared.identifiers.ClientNo.{ClientNo}
-use Rattle.qs_base.specs.declared.identifiers.NodeNo.{NodeNo}
-use Rattle.qs_base.specs.declared.identifiers.Outcome.{Outcome}
+use Rattle.qs_world_lawful.proofs.Words.{◌≡◌, ◌⊎◌, inl, inr, ℕ, ◌==◌, not, Bool, true, false, List, [], ◌∷◌, Option, Some, None, fold, refl, sym, ap, subst, ◌∙◌, if◌then◌else◌, is_some, nat_lt, slice_get, lookup, is_at, member_cmp, ClientNo, NodeNo, Outcome, Tid, Found, restart_nodes, elsewhere, ran_run, BookValue, find_transaction, owner_of, told, with_transaction, abort_begun, begun_tid, commit_found, count_of, is_among, is_open_here, learn_found, member_at, new_votes, put_new_votes, record_at}
+use Rattle.qs_world_lawful.proofs.Words.{reopened, restarted_node, up_to, vote_found, with_votes, TransactionValue, found_at, is_commit, is_empty, is_open, with_learnt, Owner, Cause, Recovery, entry_of, face_of, HoldsAt, HoldsClients, HoldsStill, IsBehind, IsOwner, found_votes, is_seen, seen_in, HoldsWaitsAt}
 use Rattle.qs_base.specs.declared.identifiers.Outcome.TheVariants as outcomes
-use Rattle.qs_base.specs.declared.identifiers.Tid.{Tid}
 use Rattle.qs_book_journal.specs.declared.entry.Act.TheVariants as acts
-use Rattle.qs_book_journal.specs.declared.entry.Found.{Found}
-use Rattle.qs_book_laws.proofs.Holding.{restart_nodes}
-use Rattle.qs_book_laws.proofs.Holds.{elsewhere}
-use Rattle.qs_book_laws.proofs.InRun.{ran_run}
-use Rattle.qs_book_machine.specs.Book.{BookValue, decide, find_transaction, owner_of, told, with_transaction}
+use Rattle.qs_book_machine.specs.Book.{decide}
 use Rattle.qs_book_machine.specs.Nodes as machine
-use Rattle.qs_book_machine.specs.Restart.{abort_begun, begun_tid, commit_found, count_of, is_among, is_open_here, learn_found, member_at, new_votes, put_new_votes, record_at, reopened, restarted_node, up_to, vote_found, with_votes}
-use Rattle.qs_book_machine.specs.Transaction.{TransactionValue, found_at, is_commit, is_empty, is_open, with_learnt}
-use Rattle.qs_book_machine.specs.declared.state.Owner.{Owner}
 use Rattle.qs_ops.specs.Servers.{audit_no, extra_no, files_no}
-use Rattle.qs_ops.specs.declared.answer.Cause.{Cause}
 use Rattle.qs_ops.specs.declared.answer.Cause.TheVariants as causes
-use Rattle.qs_restart.specs.Recovery.{Recovery}
 use Rattle.qs_node_step.specs.State.{NodeValue}
-use Rattle.qs_world.specs.Posting.{entry_of}
-use Rattle.qs_world_lawful.specs.Face.{face_of}
-use Rattle.qs_world_lawful.specs.Holds.{HoldsAt, HoldsClients, HoldsStill, IsBehind, IsOwner}
-use Rattle.qs_world_lawful.specs.Logs.{found_votes}
-use Rattle.qs_world_lawful.specs.Tables.{is_seen, seen_in}
-use Rattle.qs_world_lawful.specs.Waits.{HoldsWaitsAt}
 use Rattle.qs_world_lawful.proofs.CrossedTables.{servers_alike}
 use Rattle.qs_world_lawful.proofs.OthersTid.{tid_on, waits_on}
 use Rattle.qs_world_lawful.proofs.RestartGoes.{Goes, IsElsewhere}

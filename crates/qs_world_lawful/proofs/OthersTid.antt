@@ -1,33 +1,13 @@
 -- A restart of another node leaves what is held of each transaction at a node.
-use Rattle.std.proofs.Common.{◌≡◌, ℕ, ◌≤◌, ◌==◌, ◌||◌, not, Bool, true, false, List, length, map, refl, sym, ap, subst, ◌∙◌, is_some}
-use Rattle.std.specs.List.{filter, list_any}
-use Rattle.std.specs.Map.{lookup}
-use Rattle.std.specs.BTreeMap.{is_at}
-use Rattle.qs_base.specs.Order.{member_cmp}
-use Rattle.qs_base.specs.declared.identifiers.Member.{Member}
-use Rattle.qs_base.specs.declared.identifiers.NodeNo.{NodeNo}
-use Rattle.qs_base.specs.declared.identifiers.Outcome.{Outcome}
+use Rattle.qs_world_lawful.proofs.Words.{◌≡◌, ℕ, ◌≤◌, ◌==◌, ◌||◌, not, Bool, true, false, List, length, map, refl, sym, ap, subst, ◌∙◌, is_some, filter, list_any, lookup, is_at, member_cmp, Member, NodeNo, Outcome, ServerNo, Tid, Delivery, TransactionValue, is_commit, is_crossed, is_empty, is_open, is_outcome, is_standing, is_start, learnt_abort, requests_at, requests_in, sent_in, sent_on, Cell, Link, Noted, Part, Request, RequestNo, client_no, ServersValue, member_of, at_server, is_held, part_in}
+use Rattle.qs_world_lawful.proofs.Words.{HoldsHome, HoldsTid, AreFor, HoldsWaits, IsWithin, op_in, waiting_ops, or-true}
 use Rattle.qs_base.specs.declared.identifiers.Outcome.TheVariants as outcomes
-use Rattle.qs_base.specs.declared.identifiers.ServerNo.{ServerNo}
-use Rattle.qs_base.specs.declared.identifiers.Tid.{Tid}
-use Rattle.qs_ipc.specs.declared.delivery.Delivery.{Delivery}
 use Rattle.qs_book_machine.specs.Clauses.{note_text}
-use Rattle.qs_book_machine.specs.Transaction.{TransactionValue, is_commit, is_crossed, is_empty, is_open, is_outcome, is_standing, is_start, learnt_abort, part_of, requests_at, requests_in, sent_in, sent_on}
+use Rattle.qs_book_machine.specs.Transaction.{part_of}
 use Rattle.qs_book_machine.specs.Transaction as transaction
-use Rattle.qs_book_machine.specs.declared.transaction.Cell.{Cell}
 use Rattle.qs_book_machine.specs.declared.transaction.Cell.TheVariants as cells
-use Rattle.qs_book_machine.specs.declared.transaction.Link.{Link}
-use Rattle.qs_book_machine.specs.declared.transaction.Noted.{Noted}
-use Rattle.qs_book_machine.specs.declared.transaction.Part.{Part}
-use Rattle.qs_book_machine.specs.declared.transaction.Request.{Request}
-use Rattle.qs_book_machine.specs.declared.transaction.RequestNo.{RequestNo}
-use Rattle.qs_ops.specs.Servers.{client_no}
-use Rattle.qs_node_servers.specs.Servers.{ServersValue}
 use Rattle.qs_tm.specs.Members as rules
-use Rattle.qs_tm.specs.Participant.{member_of}
-use Rattle.qs_world_lawful.specs.Face.{Face, at_server, is_held, is_numbered, part_in}
-use Rattle.qs_world_lawful.specs.Holds.{HoldsHome, HoldsTid}
-use Rattle.qs_world_lawful.specs.Waits.{AreFor, HoldsWaits, IsWithin, op_in, waiting_ops}
+use Rattle.qs_world_lawful.specs.Face.{Face, is_numbered}
 use Rattle.qs_world_lawful.proofs.Parts.{member_like}
 use Rattle.qs_world_lawful.proofs.RestartGoes.{Goes, IsElsewhere}
 
@@ -59,12 +39,8 @@ module _ (risen inc place : ℕ) (here : NodeNo) (i : ℕ) (tid : Tid) (tx later
   held_back : (face : Face) → is_held later face ≡ true → is_held tx face ≡ true
   held_back face h = by (is_open tx.cell) refl
     where
-      or_true : (a : Bool) → (a || true) ≡ true
-      or_true true = refl
-      or_true false = refl
-
       by : (b : Bool) → is_open tx.cell ≡ b → is_held tx face ≡ true
-      by true e = rw (open_not tx.cell e) (or_true (is_some face.known))
+      by true e = rw (open_not tx.cell e) (or-true (is_some face.known))
       by false e = ap (λ (c : Cell). is_some face.known || not (is_commit c)) (sym (g.decided e)) ∙ h
 
   shut : (o : Outcome) (c : Cell) → is_outcome o c ≡ true → is_open c ≡ false

@@ -1,41 +1,20 @@
 -- The owner of a transaction commands commit or abort: each as a whole, from what the node itself holds.
-use Rattle.std.proofs.Common.{◌≡◌, ℕ, Bool, true, false, Option, Some, None, refl, sym, ap, subst, ◌∙◌}
-use Rattle.std.specs.Prelude.{is_none, is_some, slice_get, if◌then◌else◌}
-use Rattle.std.specs.BTreeMap.{is_at}
-use Rattle.std.specs.Map.{lookup}
-use Rattle.qs_base.specs.declared.identifiers.ClientNo.{ClientNo}
-use Rattle.qs_base.specs.declared.identifiers.Outcome.{Outcome}
+use Rattle.qs_world_lawful.proofs.Words.{◌≡◌, ℕ, Bool, true, false, Option, Some, None, refl, sym, ap, subst, ◌∙◌, is_some, slice_get, if◌then◌else◌, is_at, lookup, ClientNo, Outcome, Tid, BookValue, is_undecided, Participant, Begun, where_undecided, become_asked, open_command, ask, enter_ask, label_at, Work, client_cmp, OpenCommand, HoldsWork, book_at, HoldsFiles, IsAsking, IsOwner, none_is, some_same}
 use Rattle.qs_base.specs.declared.identifiers.Outcome.TheVariants as outcomes
-use Rattle.qs_base.specs.declared.identifiers.Tid.{Tid}
 use Rattle.qs_ops.specs.declared.answer.Cause.TheVariants as causes
 use Rattle.qs_book_journal.specs.declared.script_line.Command.TheVariants as commands
-use Rattle.qs_book_machine.specs.Book.{BookValue}
 use Rattle.qs_tm.specs.Manager as tm
-use Rattle.qs_tm.specs.Participant.{is_undecided}
-use Rattle.qs_tm.specs.declared.participant.Participant.{Participant}
-use Rattle.qs_node_kept.specs.declared.kept.KeptLabel.{KeptLabel}
-use Rattle.qs_node_step.specs.Asking.{where_undecided, become_asked}
-use Rattle.qs_node_step.specs.Commands.{open_command, ask, enter_ask}
 use Rattle.qs_node_step.specs.Deciding.{decide}
-use Rattle.qs_node_step.specs.Serving.{label_at}
-use Rattle.qs_node_step.specs.State.{Work, client_cmp}
-use Rattle.qs_node_step.specs.declared.state.OpenCommand.{OpenCommand}
-use Rattle.qs_world_lawful.specs.Entering.{HoldsWork, book_at}
-use Rattle.qs_world_lawful.specs.Filed.{HoldsFiles}
-use Rattle.qs_world_lawful.specs.Holds.{IsAsking, IsOwner}
 use Rattle.qs_world_lawful.proofs.Asking.{by_ask}
 use Rattle.qs_world_lawful.proofs.DecidingByRules.{by_asked_abort}
 
-of_some : {X : Type 0} {a b : X} → Some a ≡ Some b → a ≡ b
-of_some {a = a} e = ap (λ o. elim o [ None ↦ a | Some x ↦ x ]) e
-
 module _ (stamp : ℕ) (before : BookValue) (work : Work) (h : HoldsWork stamp before work) (client : ClientNo) (command : OpenCommand) (waits : lookup (is_at (client_cmp client)) work.node.commands ≡ Some command)
-    (begun : KeptLabel) (labelled : label_at command.line.label work.node ≡ Some begun) (tid : Tid) (of : begun.tid ≡ Some tid) (owned : begun.owner ≡ Some client) (home : tid.home ≡ work.node.setting.node) (inc : tid.inc ≡ work.node.setting.inc) where
+    (begun : Begun) (labelled : label_at command.line.label work.node ≡ Some begun) (tid : Tid) (of : begun.tid ≡ Some tid) (owned : begun.owner ≡ Some client) (home : tid.home ≡ work.node.setting.node) (inc : tid.inc ≡ work.node.setting.inc) where
   its : IsOwner (book_at stamp before work) tid client
   its = h.holds.clients.labels command.line.label begun tid client labelled of owned
 
   is_its : (c : ClientNo) → its.tx.owner ≡ Some c → client ≡ c
-  is_its c owns = of_some (sym its.owns ∙ owns)
+  is_its c owns = some_same (sym its.owns ∙ owns)
 
   slot : (c : ClientNo) → its.tx.owner ≡ Some c → is_some (slice_get (book_at stamp before work).owners c.0) ≡ true
   slot c owns = subst (λ (d : ClientNo). is_some (slice_get (book_at stamp before work).owners d.0) ≡ true) (is_its c owns)
@@ -45,12 +24,8 @@ module _ (stamp : ℕ) (before : BookValue) (work : Work) (h : HoldsWork stamp b
   undecided : (rule : Participant → Work → Work) → ((part : Participant) → tm.part_of tid work.node.manager ≡ Some part → part.outcome ≡ None → HoldsWork stamp before (rule part work)) → HoldsWork stamp before (where_undecided tid rule work)
   undecided rule each = by (tm.part_of tid work.node.manager) refl
     where
-      none : (o : Option Outcome) → is_none o ≡ true → o ≡ None
-      none None e = refl
-      none (Some outcome) e = absurd (cc e)
-
       inner : (part : Participant) → tm.part_of tid work.node.manager ≡ Some part → (b : Bool) → is_undecided part ≡ b → HoldsWork stamp before (if b then rule part work else work)
-      inner part known true is = each part known (none part.outcome is)
+      inner part known true is = each part known (none_is part.outcome is)
       inner part known false is = h
 
       by : (o : Option Participant) → tm.part_of tid work.node.manager ≡ o → HoldsWork stamp before (elim o [ None ↦ work | Some part ↦ if is_undecided part then rule part work else work ])
@@ -82,4 +57,4 @@ module _ (stamp : ℕ) (before : BookValue) (work : Work) (h : HoldsWork stamp b
       unasked part known unknown false e = e
       unasked part known unknown true e =
           let a : IsAsking work.node tid client = h.holds.clients.asking tid client part home known unknown e its in
-          absurd (differ (sym aborts ∙ (ap (λ (c : OpenCommand). c.line.command) (of_some (sym waits ∙ a.waits)) ∙ a.commits)))
+          absurd (differ (sym aborts ∙ (ap (λ (c : OpenCommand). c.line.command) (some_same (sym waits ∙ a.waits)) ∙ a.commits)))

@@ -1,16 +1,8 @@
 -- What channels hold is so after each thing that happens to them, where what is new in them is so.
-use Rattle.std.proofs.Common.{◌≡◌, ℕ, ◌==◌, ◌≤◌, Bool, true, false, List, [], ◌∷◌, ◌++◌, refl, sym, subst, arith}
-use Rattle.std.specs.Prelude.{if◌then◌else◌}
+use Rattle.qs_world_lawful.proofs.Words.{◌≡◌, ℕ, ◌==◌, ◌≤◌, Bool, true, false, List, [], ◌∷◌, ◌++◌, refl, sym, subst, arith, if◌then◌else◌, Channels, with_at, with_at2, BookValue, Sending, post_all, post_next, Parcel, Every, HoldsChannels, IsParcel, eqb-true}
 use Rattle.qs_session_channels.specs.Channels as channel
-use Rattle.qs_session_channels.specs.Channels.{Channels, with_at4}
-use Rattle.qs_session_channels.specs.Network.{with_at, with_at2}
-use Rattle.qs_book_machine.specs.Book.{BookValue}
-use Rattle.qs_node_step.specs.declared.event.Sending.{Sending}
-use Rattle.qs_world.specs.Posting.{post_all, post_next}
-use Rattle.qs_world.specs.World.{Parcel}
-use Rattle.qs_world_lawful.specs.Logs.{Every}
-use Rattle.qs_world_lawful.specs.Parcels.{FitsChannels, HoldsChannels, IsParcel}
-use Rattle.qs_world_lawful.proofs.Truths.{number_is}
+use Rattle.qs_session_channels.specs.Channels.{with_at4}
+use Rattle.qs_world_lawful.specs.Parcels.{FitsChannels}
 
 pub every_more : {A : Type 0} (P : A → Type 0) (xs ys : List A) → Every P xs → Every P ys → Every P (xs ++ ys)
 every_more P [] ys a b = b
@@ -21,14 +13,14 @@ pub at_one : {A : Type 0} (P : ℕ → A → Type 0) (f : ℕ → A) (n : ℕ) (
 at_one P f n x new old k = by (k == n) refl
   where
     by : (b : Bool) → (k == n) ≡ b → P k (if b then x else f k)
-    by true is = subst (λ (i : ℕ). P i x) (sym (number_is k n is)) new
+    by true is = subst (λ (i : ℕ). P i x) (sym (eqb-true k n is)) new
     by false is = old k
 
 pub at_two : {A : Type 0} (P : ℕ → ℕ → A → Type 0) (f : ℕ → ℕ → A) (n m : ℕ) (x : A) → P n m x → ((p q : ℕ) → P p q (f p q)) → (p q : ℕ) → P p q (with_at2 f n m x p q)
 at_two P f n m x new old p q = by (p == n) refl (q == m) refl
   where
     by : (a : Bool) → (p == n) ≡ a → (b : Bool) → (q == m) ≡ b → P p q (if a then (if b then x else f p q) else f p q)
-    by true is true too = subst (λ (i : ℕ). P i q x) (sym (number_is p n is)) (subst (λ (j : ℕ). P n j x) (sym (number_is q m too)) new)
+    by true is true too = subst (λ (i : ℕ). P i q x) (sym (eqb-true p n is)) (subst (λ (j : ℕ). P n j x) (sym (eqb-true q m too)) new)
     by true is false too = old p q
     by false is b too = old p q
 

@@ -1,23 +1,10 @@
 -- What a member did is changed: what is held of every other member is held on.
-use Rattle.std.proofs.Common.{◌≡◌, ◌≢◌, ◌⊎◌, inl, inr, ℕ, ◌+◌, ◌==◌, ◌≤◌, ◌<◌, Bool, true, List, [], ◌∷◌, Option, zero, suc, refl, sym, ap, subst, ◌∙◌, arith, length, nat_lt}
-use Rattle.std.proofs.lemmas.Bool.Decides.{nat_tests}
-use Rattle.std.specs.Prelude.{unwrap_or, ◌||◌, slice_index_or, slice_set}
-use Rattle.std.specs.List.{list_any}
-use Rattle.std.specs.Map.{lookup}
-use Rattle.std.specs.BTreeMap.{insert_entry, is_at}
-use Rattle.qs_base.specs.declared.identifiers.Member.{Member}
-use Rattle.qs_base.specs.declared.identifiers.NodeNo.{NodeNo}
-use Rattle.qs_base.specs.declared.identifiers.ServerNo.{ServerNo}
-use Rattle.qs_book_laws.proofs.Maps.{lookup_put_apart, changed_apart}
-use Rattle.qs_book_machine.specs.Transaction.{TransactionValue, part_of, no_part, life, life_cmp, is_start, may_learn_still, learnt_abort, changed_value}
-use Rattle.qs_book_machine.specs.declared.transaction.Life.{Life}
-use Rattle.qs_book_machine.specs.declared.transaction.Part.{Part}
-use Rattle.qs_ops.specs.Servers.{files_no, audit_no, names_no, windows_no, scratch_no, extra_no}
+use Rattle.qs_world_lawful.proofs.Words.{◌≡◌, ◌≢◌, ◌⊎◌, inl, inr, ℕ, ◌+◌, ◌==◌, ◌≤◌, ◌<◌, Bool, true, List, [], ◌∷◌, Option, zero, suc, refl, sym, ap, subst, ◌∙◌, arith, length, nat_lt, nat_tests, unwrap_or, ◌||◌, slice_index_or, slice_set, list_any, lookup, insert_entry, is_at, Member, NodeNo, ServerNo, lookup_put_apart, changed_apart, TransactionValue, no_part, life, life_cmp, is_start, may_learn_still, learnt_abort, changed_value, Life, Part, names_no, windows_no, scratch_no, member_of}
+use Rattle.qs_world_lawful.proofs.Words.{with_member, MemberPart, Participant, HoldsVoter, HoldsMember}
+use Rattle.qs_book_machine.specs.Transaction.{part_of}
+use Rattle.qs_ops.specs.Servers.{files_no, audit_no, extra_no}
 use Rattle.qs_tm.specs.Members as rules
-use Rattle.qs_tm.specs.Participant.{member_of, with_member}
-use Rattle.qs_tm.specs.declared.members.MemberPart.{MemberPart}
-use Rattle.qs_tm.specs.declared.participant.Participant.{Participant}
-use Rattle.qs_world_lawful.specs.Holds.{HoldsVoter, HoldsMember, is_kept}
+use Rattle.qs_world_lawful.specs.Holds.{is_kept}
 use Rattle.qs_world_lawful.proofs.Keys.{KeyApart, same_key_or, life_exact, life_itself}
 
 -- ---- a member that is left

@@ -1,40 +1,20 @@
 -- The vote pass: timers are told that the transaction ends, files issue their note or vote, and each other server votes whose vote is due.
-use Rattle.std.proofs.Common.{◌≡◌, ◌≢◌, ℕ, ◌<◌, Bool, true, false, List, Option, Some, None, refl, sym, ap, ◌∙◌, nat_lt, length, [], ◌∷◌, ◌++◌}
-use Rattle.std.specs.Prelude.{not, ◌&&◌, is_some, if◌then◌else◌}
-use Rattle.qs_base.specs.declared.identifiers.Member.{Member}
-use Rattle.qs_base.specs.declared.identifiers.NodeNo.{NodeNo}
-use Rattle.qs_base.specs.declared.identifiers.ServerNo.{ServerNo}
-use Rattle.qs_base.specs.declared.identifiers.Tid.{Tid}
-use Rattle.qs_engage.specs.Nodes.{same_node}
+use Rattle.qs_world_lawful.proofs.Words.{◌≡◌, ◌≢◌, ℕ, ◌<◌, Bool, true, false, List, Option, Some, None, refl, sym, ap, ◌∙◌, nat_lt, length, [], ◌∷◌, ◌++◌, not, ◌&&◌, is_some, if◌then◌else◌, Member, NodeNo, ServerNo, Tid, same_node, BookValue, find_transaction, TransactionValue, class_of, is_two_phase, changes_in, vote_of, Op, Note, Vote, Record, server_at, member_here, send, ask_on, enter_issue, is_asked, issue_as, issue_away, issue_here, label_of, next_number, with_local, Work, here, with_manager}
+use Rattle.qs_world_lawful.proofs.Words.{with_queues, change_count, enter_vote, issue_note, log_vote, owes_note, served_count, vote_frame, vote_next, vote_with, awaits_note, has_noted, is_due_at, member_of, servers_due, with_causes_of, MemberPart, Outstanding, Participant, HoldsWork, book_at, IsUncommitted, crosses, inc_at, with_transaction, with_waiting, link_to, changed_value, issued, voted, Request, RequestNo, tid_cmp, is_at}
 use Rattle.qs_ipc.specs.Ipc as ipc
 use Rattle.qs_ipc.specs.Queue.{is_for}
-use Rattle.qs_book_machine.specs.Book.{BookValue, find_transaction}
-use Rattle.qs_book_machine.specs.Transaction.{TransactionValue}
-use Rattle.qs_ops.specs.Members.{class_of, is_two_phase}
-use Rattle.qs_ops.specs.Server.{changes_in, vote_of}
-use Rattle.qs_ops.specs.declared.operation.Op.{Op}
-use Rattle.qs_ops.specs.declared.operation.Op.TheVariants.{Note}
-use Rattle.qs_ops.specs.declared.vote.Vote.{Vote}
 use Rattle.qs_ops.specs.declared.vote.Vote.TheVariants as votes
 use Rattle.qs_packet.specs.declared.message.Message.TheVariants as messages
-use Rattle.qs_record.specs.declared.record.Record.{Record}
 use Rattle.qs_record.specs.declared.record.Record.TheVariants as records
-use Rattle.qs_node_servers.specs.Servers.{audit_no, server_at}
-use Rattle.qs_node_step.specs.Bringing.{member_here, send}
-use Rattle.qs_node_step.specs.Requests.{ask_on, enter_issue, is_asked, issue, issue_as, issue_away, issue_here, label_of, next_number, with_local}
-use Rattle.qs_node_step.specs.State.{NodeValue, Work, here, with_manager, with_queues}
-use Rattle.qs_node_step.specs.Voting.{change_count, enter_vote, issue_note, log_vote, note_text, owes_note, served_count, vote_frame, vote_next, vote_with}
+use Rattle.qs_node_servers.specs.Servers.{audit_no}
+use Rattle.qs_node_step.specs.Requests.{issue}
+use Rattle.qs_node_step.specs.State.{NodeValue}
+use Rattle.qs_node_step.specs.Voting.{note_text}
 use Rattle.qs_tm.specs.Manager as tm
 use Rattle.qs_tm.specs.Members as rules
 use Rattle.qs_tm.specs.Members.{all_servers}
 use Rattle.qs_tm.specs.Outcomes as outcome_rules
 use Rattle.qs_tm.specs.Participant as participant
-use Rattle.qs_tm.specs.Participant.{awaits_note, has_noted, is_due_at, member_of, servers_due, with_causes_of}
-use Rattle.qs_tm.specs.declared.members.MemberPart.{MemberPart}
-use Rattle.qs_tm.specs.declared.participant.Outstanding.{Outstanding}
-use Rattle.qs_tm.specs.declared.participant.Participant.{Participant}
-use Rattle.qs_world_lawful.specs.Entering.{HoldsWork, book_at}
-use Rattle.qs_world_lawful.specs.Given.{IsUncommitted}
 use Rattle.qs_world_lawful.specs.Holds.{is_kept}
 use Rattle.qs_world_lawful.proofs.Asking.{sent_entries, sent_node}
 use Rattle.qs_world_lawful.proofs.ByRules.{by_own_vote}
@@ -46,14 +26,7 @@ use Rattle.qs_world_lawful.proofs.Crossing.{crossing_txs, waiting_txs}
 use Rattle.qs_world_lawful.proofs.Growing.{book_with}
 use Rattle.qs_world_lawful.proofs.Parts.{with_other}
 use Rattle.qs_world_lawful.proofs.Uncommitted.{uncommitted_on}
-use Rattle.qs_book_machine.specs.Book.{crosses, inc_at, with_transaction, with_waiting}
-use Rattle.qs_book_machine.specs.Clauses.{link_to}
-use Rattle.qs_book_machine.specs.Transaction.{changed_value, issued, voted}
-use Rattle.qs_book_machine.specs.declared.transaction.Request.{Request}
-use Rattle.qs_book_machine.specs.declared.transaction.RequestNo.{RequestNo}
 use Rattle.qs_book_journal.specs.declared.entry.Act.TheVariants as acts
-use Rattle.qs_base.specs.Order.{tid_cmp}
-use Rattle.std.specs.BTreeMap.{is_at}
 
 -- a work in the middle of a pass
 pub record Passing (stamp : ℕ) (before : BookValue) (tid : Tid) (work : Work) : Type 0 where

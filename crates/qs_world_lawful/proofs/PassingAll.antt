@@ -1,34 +1,17 @@
 -- All servers of a node whose votes are due vote in a pass, once timers were told: the rule as a whole.
-use Rattle.std.proofs.Common.{◌≡◌, ◌≢◌, ℕ, ◌==◌, ◌<◌, Bool, true, false, List, [], ◌∷◌, Option, Some, None, refl, sym, ap, subst, ◌∙◌, fold, arith, nat_lt, length}
-use Rattle.std.proofs.lemmas.Bool.Decides.{nat_tests}
-use Rattle.std.specs.Prelude.{not, ◌&&◌, ◌||◌, ⊤, is_some, if◌then◌else◌}
-use Rattle.std.specs.List.{filter}
-use Rattle.qs_base.specs.declared.identifiers.NodeNo.{NodeNo}
-use Rattle.qs_base.specs.declared.identifiers.ServerNo.{ServerNo}
-use Rattle.qs_base.specs.declared.identifiers.Tid.{Tid}
-use Rattle.qs_book_machine.specs.Book.{BookValue, find_transaction}
+use Rattle.qs_world_lawful.proofs.Words.{◌≡◌, ◌≢◌, ℕ, ◌==◌, ◌<◌, Bool, true, false, List, [], ◌∷◌, Option, Some, None, refl, sym, ap, subst, ◌∙◌, fold, nat_lt, length, not, ◌&&◌, ◌||◌, ⊤, is_some, if◌then◌else◌, filter, NodeNo, ServerNo, Tid, BookValue, find_transaction, inc_at, member_here, TransactionValue, end_member, is_lent, is_pass_due, is_put_off, pass_rule, Work, doings_of, here, due_votes, vote_next, vote_pass, awaits_note, is_due_at, member_of, needs_pass, servers_due, Participant}
+use Rattle.qs_world_lawful.proofs.Words.{HoldsWork, book_at, face_of, MayPass, HoldsTid, or_left, eqb-false}
 use Rattle.qs_book_journal.specs.declared.entry.Act.TheVariants as acts
-use Rattle.qs_book_machine.specs.Book.{inc_at}
-use Rattle.qs_node_step.specs.Bringing.{member_here}
-use Rattle.qs_book_machine.specs.Transaction.{TransactionValue, is_abort}
+use Rattle.qs_book_machine.specs.Transaction.{is_abort}
 use Rattle.qs_book_machine.specs.Transaction as machine
 use Rattle.qs_world_lawful.proofs.Uncommitted.{uncommitted_on}
 use Rattle.qs_ipc.specs.Ipc as ipc
-use Rattle.qs_node_step.specs.Deciding.{end_member}
-use Rattle.qs_node_step.specs.Settling.{is_lent, is_pass_due, is_put_off, pass_rule}
-use Rattle.qs_node_step.specs.State.{Work, doings_of, here}
-use Rattle.qs_node_step.specs.Voting.{due_votes, vote_next, vote_pass}
 use Rattle.qs_tm.specs.Manager as tm
 use Rattle.qs_tm.specs.Members as rules
 use Rattle.qs_tm.specs.Members.{all_servers}
 use Rattle.qs_tm.specs.Outcomes as outcome_rules
-use Rattle.qs_tm.specs.Participant.{awaits_note, is_due_at, member_of, needs_pass, servers_due}
 use Rattle.qs_tm.specs.declared.participant.Due.TheVariants as dues
-use Rattle.qs_tm.specs.declared.participant.Participant.{Participant}
-use Rattle.qs_world_lawful.specs.Entering.{HoldsWork, book_at}
-use Rattle.qs_world_lawful.specs.Face.{face_of}
-use Rattle.qs_world_lawful.specs.Given.{MayPass}
-use Rattle.qs_world_lawful.specs.Holds.{HoldsTid, is_kept}
+use Rattle.qs_world_lawful.specs.Holds.{is_kept}
 use Rattle.qs_world_lawful.proofs.Casting.{told_all}
 use Rattle.qs_world_lawful.proofs.Clauses.{of_tid}
 use Rattle.qs_world_lawful.proofs.Endings.{end_if, ended_held, endings_are}
@@ -47,9 +30,6 @@ abbrev pub AreOthers : List ServerNo → Type 0
 AreOthers [] = ⊤
 AreOthers (s ∷ ss) = (is_kept s ≡ true) × (rules.same_server s rules.files_no ≡ false) × IsApartFrom s ss × AreOthers ss
 
-apart : (a b : ℕ) → (a == b) ≡ false → a ≢ b
-apart a b e s = grind (arith, nat_tests, e, s)
-
 module _ (stamp : ℕ) (before : BookValue) (tid : Tid) (start : Participant) where
   abbrev due : ServerNo → Bool
   due s = is_due_at dues.Vote start s
@@ -62,7 +42,7 @@ module _ (stamp : ℕ) (before : BookValue) (tid : Tid) (start : Participant) wh
   pub due_on : (s : ServerNo) (work new : Work) (m : Passing stamp before tid work) (after : Passing stamp before tid new) → ((x : ServerNo) → s.0 ≢ x.0 → left stamp before tid after x ≡ left stamp before tid m x)
       → (ss : List ServerNo) → IsApartFrom s ss → AreDue m ss → AreDue after ss
   due_on s work new m after others [] far same = tt
-  due_on s work new m after others (x ∷ xs) far same = (others x (apart s.0 x.0 far.0) ∙ same.0, due_on s work new m after others xs far.1 same.1)
+  due_on s work new m after others (x ∷ xs) far same = (others x (eqb-false s.0 x.0 far.0) ∙ same.0, due_on s work new m after others xs far.1 same.1)
 
   others_pass : (ss : List ServerNo) → AreOthers ss → (work : Work) (m : Passing stamp before tid work) → AreDue m ss → HoldsWork stamp before (fold (vote_next tid) work (filter due ss))
   others_pass [] ok work m same = m.held
@@ -112,9 +92,6 @@ module _ (stamp : ℕ) (before : BookValue) (tid : Tid) (work : Work) (h : Holds
   pub in_commit : (is_some in_machine.0.asked || is_abort in_machine.0.cell) ≡ true
   in_commit = or_left _ _ (held.asked asked)
     where
-      or_left : (a b : Bool) → a ≡ true → (a || b) ≡ true
-      or_left a b e = rw e refl
-
       held : HoldsTid work.node.setting.node work.node.setting.inc tid in_machine.0 (record (face_of work.node tid) { known = Some part })
       held = subst (λ (o : Option Participant). HoldsTid work.node.setting.node work.node.setting.inc tid in_machine.0 (record (face_of work.node tid) { known = o })) known (of_tid stamp (book_at stamp before work) work.node h.holds tid in_machine.0 in_machine.1)
 
@@ -141,7 +118,7 @@ module _ (stamp : ℕ) (before : BookValue) (tid : Tid) (work : Work) (h : Holds
     other x far = ap (rules.is_vote_due x) (with_other (no 3) x (told_all (member_of part (no 3))) part far)
 
     pub ended_due : Due ended_passing
-    ended_due = (other (no 0) (apart 3 0 refl), (other (no 1) (apart 3 1 refl), (other (no 2) (apart 3 2 refl), (refl, (other (no 4) (apart 3 4 refl), (other (no 5) (apart 3 5 refl), (other (no 6) (apart 3 6 refl), tt)))))))
+    ended_due = (other (no 0) (eqb-false 3 0 refl), (other (no 1) (eqb-false 3 1 refl), (other (no 2) (eqb-false 3 2 refl), (refl, (other (no 4) (eqb-false 3 4 refl), (other (no 5) (eqb-false 3 5 refl), (other (no 6) (eqb-false 3 6 refl), tt)))))))
 
   ended : (b : Bool) → (member_of part (no 3)).fresh ≡ b → HoldsWork stamp before (fold (vote_next tid) (end_if b tid work) (servers_due dues.Vote part))
   ended false fresh = all_pass stamp before tid part work plain_passing plain_due idle given.audit

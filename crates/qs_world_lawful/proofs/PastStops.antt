@@ -1,33 +1,14 @@
 -- A node stopped at an earlier place of the history, whatever was entered since.
-use Rattle.std.proofs.Common.{◌≡◌, ◌⊎◌, inl, inr, ℕ, ◌≤◌, ◌==◌, ◌&&◌, Bool, true, false, List, [], ◌∷◌, Option, Some, None, fold, refl, sym, ap, subst, ◌∙◌, arith, if◌then◌else◌}
-use Rattle.std.specs.Prelude.{slice_get, slice_set}
-use Rattle.qs_base.specs.declared.identifiers.Member.{Member}
-use Rattle.qs_base.specs.declared.identifiers.Outcome.{Outcome}
+use Rattle.qs_world_lawful.proofs.Words.{◌≡◌, ◌⊎◌, inl, inr, ℕ, ◌≤◌, ◌==◌, ◌&&◌, Bool, true, false, List, [], ◌∷◌, Option, Some, None, fold, refl, sym, ap, subst, ◌∙◌, if◌then◌else◌, le_refl, slice_get, slice_set, Member, Outcome, Tid, Act, either_way, vote_by, restart_nodes, changed_at_either, BookValue, changed_at, crash_node, crosses, doubts_after, end_node, find_transaction, hear, inc_at, learn_node, serve_node, server_serve, tick_node, vote_node, waiting_of, with_crossing, with_owner}
+use Rattle.qs_world_lawful.proofs.Words.{with_transaction, with_waiting, borrower_at, link_to, effect_act, crossed_names, crossed_node, crossed_server, crossed_table, with_table, new_votes, put_new_votes, reopened, restarted_node, with_votes, without_records, TransactionValue, is_crossed, issued, standing_request, OnRecord, Owner, Voter, Request, RequestNo, names_no, scratch_no, windows_no, TableValue, committed, released, served, timer_served, timers_ended, Op, Reply, Vote, some_same}
 use Rattle.qs_base.specs.declared.identifiers.Outcome.TheVariants as outcomes
-use Rattle.qs_base.specs.declared.identifiers.Tid.{Tid}
-use Rattle.qs_book_journal.specs.declared.entry.Act.{Act}
 use Rattle.qs_book_journal.specs.declared.entry.Act.TheVariants as acts
-use Rattle.qs_book_laws.proofs.Faces.{either_way, vote_by}
-use Rattle.qs_book_laws.proofs.Holding.{fold_nodes, loan_nodes, restart_nodes, waiting_nodes, yield_nodes}
-use Rattle.qs_book_laws.proofs.Maps.{changed_at_either}
-use Rattle.qs_book_machine.specs.Book.{BookValue, changed_at, crash_node, crosses, doubts_after, end_node, find_transaction, hear, inc_at, is_done, learn_node, serve_node, server_serve, tick_node, vote_node, waiting_of, with_crossing, with_owner, with_transaction, with_waiting}
-use Rattle.qs_book_machine.specs.Clauses.{borrower_at, link_to}
-use Rattle.qs_book_machine.specs.Lawful.{effect_act}
+use Rattle.qs_book_laws.proofs.Holding.{fold_nodes, loan_nodes, waiting_nodes, yield_nodes}
+use Rattle.qs_book_machine.specs.Book.{is_done}
 use Rattle.qs_book_machine.specs.Nodes as machine
-use Rattle.qs_book_machine.specs.Nodes.{crossed_names, crossed_node, crossed_server, crossed_table, with_table}
-use Rattle.qs_book_machine.specs.Restart.{new_votes, put_new_votes, reopened, restarted_node, with_vote, with_votes, without_records}
-use Rattle.qs_book_machine.specs.Transaction.{TransactionValue, is_crossed, issued, standing_request}
-use Rattle.qs_book_machine.specs.declared.state.OnRecord.{OnRecord}
-use Rattle.qs_book_machine.specs.declared.state.Owner.{Owner}
-use Rattle.qs_book_machine.specs.declared.state.Voter.{Voter}
-use Rattle.qs_book_machine.specs.declared.transaction.Request.{Request}
-use Rattle.qs_book_machine.specs.declared.transaction.RequestNo.{RequestNo}
-use Rattle.qs_ops.specs.Servers.{audit_no, files_no, names_no, scratch_no, timers_no, windows_no}
-use Rattle.qs_ops.specs.Table.{TableValue, committed, released, served, with_vote as voted_table}
-use Rattle.qs_ops.specs.Timers.{timer_served, timers_ended}
-use Rattle.qs_ops.specs.declared.operation.Op.{Op}
-use Rattle.qs_ops.specs.declared.reply.Reply.{Reply}
-use Rattle.qs_ops.specs.declared.vote.Vote.{Vote}
+use Rattle.qs_book_machine.specs.Restart.{with_vote}
+use Rattle.qs_ops.specs.Servers.{audit_no, files_no, timers_no}
+use Rattle.qs_ops.specs.Table.{with_vote as voted_table}
 use Rattle.qs_ops.specs.declared.vote.Vote.TheVariants as votes
 
 abbrev at : machine.NodeValue → ℕ
@@ -98,11 +79,8 @@ module _ (place : ℕ) where
   changed : (here : ℕ) (f : machine.NodeValue → machine.NodeValue) → ((v : machine.NodeValue) → v.stopped ≤ place → (f v).stopped ≤ place) → (nodes : List machine.NodeValue) → HaveStopped place nodes → HaveStopped place (changed_at here f nodes)
   changed here f keeps nodes all n node is = by (slice_get nodes here) refl
     where
-      some_of : {x y : machine.NodeValue} → Some x ≡ Some y → x ≡ y
-      some_of e = cc e
-
       one : (u : machine.NodeValue) → ((n ≡ here) × (slice_get nodes n ≡ Some u) × (slice_get (changed_at here f nodes) n ≡ Some (f u))) ⊎ (slice_get (changed_at here f nodes) n ≡ slice_get nodes n) → node.stopped ≤ place
-      one u (inl h) = subst (λ (v : machine.NodeValue). v.stopped ≤ place) (some_of (sym h.2 ∙ is)) (keeps u (all n u h.1))
+      one u (inl h) = subst (λ (v : machine.NodeValue). v.stopped ≤ place) (some_same (sym h.2 ∙ is)) (keeps u (all n u h.1))
       one u (inr h) = all n node (sym h ∙ is)
 
       by : (o : Option machine.NodeValue) → slice_get nodes here ≡ o → node.stopped ≤ place
@@ -155,10 +133,7 @@ act_stopped book stamp here (acts.Answer client line said) all =
 act_stopped book stamp here (acts.Loan t client) all = alike book.place book.nodes (effect_act stamp here (acts.Loan t client) book).nodes (loan_nodes (inc_at book (record { 0 = here })) t (borrower_at client here) book) all
 act_stopped book stamp here (acts.Yield t client) all = alike book.place book.nodes (effect_act stamp here (acts.Yield t client) book).nodes (yield_nodes (inc_at book (record { 0 = here })) t (borrower_at client here) book) all
 act_stopped book stamp here acts.Tick all = changed book.place here (tick_node stamp) (λ v h. h) book.nodes all
-act_stopped book stamp here (acts.Crash cause) all = changed book.place here (crash_node book.place) (λ v h. itself book.place) book.nodes all
-  where
-    itself : (n : ℕ) → n ≤ n
-    itself n = omega arith
+act_stopped book stamp here (acts.Crash cause) all = changed book.place here (crash_node book.place) (λ v h. le_refl book.place) book.nodes all
 act_stopped book stamp here (acts.Restart inc pend done) all =
     subst (HaveStopped book.place) (sym (restart_nodes here inc pend done book))
     (changed book.place here g (same book.place g (λ v. forgot_at done v)) (changed_at here (with_votes (new_votes here book pend)) book.nodes)

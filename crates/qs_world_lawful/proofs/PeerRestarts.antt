@@ -1,44 +1,24 @@
 -- Another node restarted: what waits here of its dead incarnation is marked, and each transaction that has to do with it is looked
 -- at. Nothing is entered, and nothing is held of what that changes.
-use Rattle.std.proofs.Common.{◌≡◌, ℕ, ◌==◌, ◌≤◌, Bool, true, false, List, [], ◌∷◌, Option, Some, None, suc, refl, sym, ap, subst, ◌∙◌, arith, length, map, fold}
-use Rattle.std.specs.Prelude.{not, ◌&&◌, unwrap_or, if◌then◌else◌}
-use Rattle.std.specs.List.{filter}
-use Rattle.std.specs.Map.{lookup}
-use Rattle.std.specs.BTreeMap.{is_at}
-use Rattle.qs_base.specs.declared.identifiers.NodeNo.{NodeNo}
-use Rattle.qs_base.specs.declared.identifiers.Outcome.{Outcome}
-use Rattle.qs_base.specs.declared.identifiers.ServerNo.{ServerNo}
-use Rattle.qs_base.specs.declared.identifiers.Tid.{Tid}
-use Rattle.qs_engage.specs.Engage.{with_last}
-use Rattle.qs_engage.specs.Nodes.{listed, same_node}
+use Rattle.qs_world_lawful.proofs.Words.{◌≡◌, ℕ, ◌==◌, Bool, true, false, List, [], ◌∷◌, Option, Some, None, suc, refl, sym, ap, subst, ◌∙◌, length, map, fold, not, ◌&&◌, unwrap_or, if◌then◌else◌, filter, lookup, is_at, NodeNo, Outcome, ServerNo, Tid, with_last, listed, same_node, IpcValue, queue_at, server_cmp, no_queue, Delivery, BookValue, find_transaction, TransactionValue, RequestNo, Op, block, send, find_gone, inquire, is_orphaned_by, name_again, notice_decided, notice_part, notice_tid}
+use Rattle.qs_world_lawful.proofs.Words.{peer_restarted, tell_again, Work, with_manager, with_queues, is_told_again, named_by, is_owed_by, Participant, HoldsWork, book_at, face_of, HoldsWaitsAt, IsWithin, standing_ops, waiting_ops}
 use Rattle.qs_ipc.specs.Ipc as ipc
-use Rattle.qs_ipc.specs.Ipc.{IpcValue, mark_queue, queue_at, server_cmp}
-use Rattle.qs_ipc.specs.Queue.{is_of, mark_stale, no_queue}
-use Rattle.qs_ipc.specs.declared.delivery.Delivery.{Delivery}
-use Rattle.qs_book_machine.specs.Book.{BookValue, find_transaction}
-use Rattle.qs_book_machine.specs.Transaction.{TransactionValue}
-use Rattle.qs_book_machine.specs.declared.transaction.RequestNo.{RequestNo}
+use Rattle.qs_ipc.specs.Ipc.{mark_queue}
+use Rattle.qs_ipc.specs.Queue.{is_of, mark_stale}
 use Rattle.qs_ops.specs.declared.answer.Cause.TheVariants as causes
-use Rattle.qs_ops.specs.declared.operation.Op.{Op}
 use Rattle.qs_packet.specs.declared.message.Message.TheVariants as messages
-use Rattle.qs_node_step.specs.Asking.{block}
-use Rattle.qs_node_step.specs.Bringing.{send}
-use Rattle.qs_node_step.specs.Restarts.{find_gone, inquire, is_orphaned_by, name_again, notice_decided, notice_part, notice_tid, peer_restarted, tell_again}
-use Rattle.qs_node_step.specs.State.{NodeValue, Work, with_manager, with_queues}
+use Rattle.qs_node_step.specs.State.{NodeValue}
 use Rattle.qs_tm.specs.Manager as tm
-use Rattle.qs_tm.specs.Outcomes.{is_abort, is_told_again, named_by}
+use Rattle.qs_tm.specs.Outcomes.{is_abort}
 use Rattle.qs_tm.specs.Participant as participant
-use Rattle.qs_tm.specs.Participant.{is_owed_by}
-use Rattle.qs_tm.specs.declared.participant.Participant.{Participant}
-use Rattle.qs_world_lawful.specs.Entering.{HoldsWork, book_at}
-use Rattle.qs_world_lawful.specs.Face.{face_of, is_numbered}
-use Rattle.qs_world_lawful.specs.Waits.{HoldsWaitsAt, IsWithin, standing_ops, waiting_ops}
+use Rattle.qs_world_lawful.specs.Face.{is_numbered}
 use Rattle.qs_world_lawful.proofs.Asking.{by_send}
 use Rattle.qs_world_lawful.proofs.Bare.{by_bare}
 use Rattle.qs_world_lawful.proofs.Engaging.{by_engaged, last_sent}
 use Rattle.qs_world_lawful.proofs.Frames.{clients_on, held_on}
 use Rattle.qs_world_lawful.proofs.Growing.{kept_on}
 use Rattle.qs_world_lawful.proofs.Silent.{Fewer, NoneMore, at_fewer}
+use Rattle.qs_base_lemmas.proofs.Tests.{eq_le}
 
 -- ---- what waits is marked
 
@@ -104,11 +84,8 @@ module _ (stamp : ℕ) (before : BookValue) (peer : NodeNo) where
     waits_marked t server = ap (filter (is_of t)) (marked_at peer (is_at (server_cmp server)) node.queues) ∙ filter_marked peer (is_of t) (marked_of peer t) (queue_at node.queues server).waiting
 
     fewer : (t : Tid) → Fewer (face_of new t).waiting (face_of node t).waiting
-    fewer t server at = most _ _ (ap (λ (ds : List Delivery). length (filter (is_numbered at) ds)) (waits_marked t server)
+    fewer t server at = eq_le _ _ (ap (λ (ds : List Delivery). length (filter (is_numbered at) ds)) (waits_marked t server)
         ∙ (ap length (filter_marked peer (is_numbered at) (marked_number peer at) ((face_of node t).waiting server)) ∙ length_marked peer (filter (is_numbered at) ((face_of node t).waiting server))))
-      where
-        most : (a b : ℕ) → a ≡ b → a ≤ b
-        most a b e = grind (arith, e)
 
     none : (t : Tid) → NoneMore (face_of new t).waiting (face_of node t).waiting
     none t server is = waits_marked t server ∙ ap (map (mark_stale peer)) is

@@ -1,23 +1,6 @@
 -- Of a transaction a client's answer changes only what is open towards its peers, of which nothing is held.
-use Rattle.std.proofs.Common.{◌≡◌, ℕ, List, [], ◌∷◌, Option, Some, None, refl, sym, subst, ◌∙◌, fold}
-use Rattle.std.specs.Option.{option_map}
-use Rattle.std.specs.BTreeMap.{is_at}
-use Rattle.qs_base.specs.Order.{tid_cmp}
-use Rattle.qs_base.specs.declared.identifiers.Member.{Member}
-use Rattle.qs_base.specs.declared.identifiers.NodeNo.{NodeNo}
-use Rattle.qs_base.specs.declared.identifiers.Tid.{Tid}
-use Rattle.qs_book_machine.specs.Transaction.{TransactionValue, heard}
-use Rattle.qs_book_machine.specs.Book.{BookValue, find_transaction, hear, inc_at}
-use Rattle.qs_book_machine.specs.declared.state.Asking.{Asking}
-use Rattle.qs_tm.specs.declared.members.MemberPart.{MemberPart}
-use Rattle.qs_tm.specs.declared.participant.Participant.{Participant}
-use Rattle.qs_book_laws.proofs.Maps.{changed_alike}
-use Rattle.qs_base.specs.declared.identifiers.ServerNo.{ServerNo}
-use Rattle.qs_ipc.specs.declared.delivery.Delivery.{Delivery}
-use Rattle.qs_node_servers.specs.Servers.{ServersValue}
-use Rattle.qs_world_lawful.specs.Waits.{HoldsWaits, HoldsWaitsAt}
+use Rattle.qs_world_lawful.proofs.Words.{◌≡◌, ℕ, List, [], ◌∷◌, Option, Some, None, refl, sym, subst, ◌∙◌, fold, option_map, is_at, tid_cmp, Member, NodeNo, Tid, TransactionValue, heard, BookValue, find_transaction, hear, inc_at, Asking, MemberPart, Participant, changed_alike, ServerNo, Delivery, ServersValue, HoldsWaits, HoldsWaitsAt, HoldsMember, HoldsHome, HoldsTid, HoldsAt, same_Some}
 use Rattle.qs_world_lawful.specs.Face.{Face}
-use Rattle.qs_world_lawful.specs.Holds.{HoldsMember, HoldsHome, HoldsTid, HoldsAt}
 
 -- without what is open towards its peers
 abbrev pub quiet : TransactionValue → TransactionValue
@@ -74,10 +57,7 @@ pub at_quiet : (here : NodeNo) (inc : ℕ) (tid : Tid) (o new : Option Transacti
 at_quiet here inc tid None None face same h = h
 at_quiet here inc tid None (Some y) face same h = absurd (cc same)
 at_quiet here inc tid (Some x) None face same h = absurd (cc same)
-at_quiet here inc tid (Some x) (Some y) face same h = tid_heard here inc tid y face (subst (λ (tx : TransactionValue). HoldsTid here inc tid tx face) (sym (same_some (quiet y) (quiet x) same)) (tid_quiet here inc tid x face h))
-  where
-    same_some : (a b : TransactionValue) → Some a ≡ Some b → a ≡ b
-    same_some a b e = cc e
+at_quiet here inc tid (Some x) (Some y) face same h = tid_heard here inc tid y face (subst (λ (tx : TransactionValue). HoldsTid here inc tid tx face) (sym (same_Some (quiet y) (quiet x) same)) (tid_quiet here inc tid x face h))
 
 -- and so of what waits
 pub waits_quiet : (here : NodeNo) (inc : ℕ) (tid : Tid) (o new : Option TransactionValue) (waiting : ServerNo → List Delivery) (servers : ServersValue) → option_map quiet new ≡ option_map quiet o → HoldsWaitsAt here inc tid o waiting servers → HoldsWaitsAt here inc tid new waiting servers
@@ -85,11 +65,8 @@ waits_quiet here inc tid None None waiting servers same h = h
 waits_quiet here inc tid None (Some y) waiting servers same h = absurd (cc same)
 waits_quiet here inc tid (Some x) None waiting servers same h = absurd (cc same)
 waits_quiet here inc tid (Some x) (Some y) waiting servers same h =
-    heard_waits y (subst (λ (tx : TransactionValue). HoldsWaits here inc tid tx waiting servers) (sym (same_some (quiet y) (quiet x) same)) (quiet_waits x h))
+    heard_waits y (subst (λ (tx : TransactionValue). HoldsWaits here inc tid tx waiting servers) (sym (same_Some (quiet y) (quiet x) same)) (quiet_waits x h))
   where
-    same_some : (a b : TransactionValue) → Some a ≡ Some b → a ≡ b
-    same_some a b e = cc e
-
     quiet_waits : (tx : TransactionValue) → HoldsWaits here inc tid tx waiting servers → HoldsWaits here inc tid (quiet tx) waiting servers
     quiet_waits tx k = record { whole = k.whole; due = k.due; within = k.within; once = k.once; fits = k.fits }
 

@@ -1,39 +1,18 @@
 -- What is asked, counted, refused and inquired, and what clients command: none of these rules makes a record.
-use Rattle.std.proofs.Common.{◌≡◌, ℕ, true, List, Option, Some, None, refl, ◌∙◌, if◌then◌else◌}
-use Rattle.std.specs.Prelude.{not, ◌&&◌}
-use Rattle.std.specs.List.{list_any}
-use Rattle.qs_base.specs.declared.identifiers.ClientNo.{ClientNo}
-use Rattle.qs_base.specs.declared.identifiers.Member.{Member}
-use Rattle.qs_base.specs.declared.identifiers.NodeNo.{NodeNo}
-use Rattle.qs_base.specs.declared.identifiers.Outcome.{Outcome}
+use Rattle.qs_world_lawful.proofs.Words.{◌≡◌, ℕ, true, List, Option, Some, None, refl, ◌∙◌, if◌then◌else◌, not, ◌&&◌, list_any, ClientNo, Member, NodeNo, Outcome, Tid, uncovered, is_node, same_node, listed, Command, ScriptLine, Cause, Op, first_untaken, take_first, last_taken, Lent, client_server, Participant, answer_unknown, answer_known, inquiry_came, become_asked, asked_by, ask_came, closer_came, block, refusal_came, is_void, take, take_command, yield, lent_command, loan_command}
+use Rattle.qs_world_lawful.proofs.Words.{borrower_command, enter, send, refuse_begin, with_issued, request_as, request_command, enter_ask, ask, next_number, put_label, Work, with_manager, with_kept, with_doings, here, keep_abort_told, learn_unknown, take_names, is_other_node, told_unknown}
 use Rattle.qs_base.specs.declared.identifiers.Outcome.TheVariants as outcomes
-use Rattle.qs_base.specs.declared.identifiers.Tid.{Tid}
-use Rattle.qs_engage.specs.Engage.{uncovered, is_node}
-use Rattle.qs_engage.specs.Nodes.{same_node, listed}
 use Rattle.qs_book_journal.specs.declared.entry.Act.TheVariants as acts
-use Rattle.qs_book_journal.specs.declared.script_line.Command.{Command}
 use Rattle.qs_book_journal.specs.declared.script_line.Command.TheVariants as commands
-use Rattle.qs_book_journal.specs.declared.script_line.ScriptLine.{ScriptLine}
 use Rattle.qs_ops.specs.declared.answer.Answer.TheVariants as answers
-use Rattle.qs_ops.specs.declared.answer.Cause.{Cause}
-use Rattle.qs_ops.specs.declared.operation.Op.{Op}
 use Rattle.qs_packet.specs.declared.message.Message.TheVariants as messages
-use Rattle.qs_node_kept.specs.Loans.{first_untaken, take_first, last_taken, give_back}
-use Rattle.qs_node_kept.specs.declared.kept.Lent.{Lent}
-use Rattle.qs_node_servers.specs.Servers.{client_server}
+use Rattle.qs_node_kept.specs.Loans.{give_back}
 use Rattle.qs_tm.specs.Manager as tm
 use Rattle.qs_tm.specs.Outcomes as outcome_rules
 use Rattle.qs_tm.specs.Participant as participant
-use Rattle.qs_tm.specs.declared.participant.Participant.{Participant}
-use Rattle.qs_node_step.specs.Answering.{was_committed, answer_unknown, answer_known, inquiry_came}
-use Rattle.qs_node_step.specs.Asking.{become_asked, asked_by, ask_came, count, closer_came, block, refusal_came}
-use Rattle.qs_node_step.specs.Borrowing.{is_void, take, take_command, yield, lent_command, loan_command, borrower_command}
-use Rattle.qs_node_step.specs.Bringing.{enter, send}
-use Rattle.qs_node_step.specs.Commands.{refuse_begin, with_issued, request_as, request_command, enter_ask, ask}
-use Rattle.qs_node_step.specs.Requests.{next_number}
-use Rattle.qs_node_step.specs.Serving.{put_label}
-use Rattle.qs_node_step.specs.State.{Work, with_manager, with_kept, with_doings, part_of, here}
-use Rattle.qs_node_step.specs.Telling.{keep_abort_told, learn_unknown, take_names, is_other_node, told_unknown}
+use Rattle.qs_node_step.specs.Answering.{was_committed}
+use Rattle.qs_node_step.specs.Asking.{count}
+use Rattle.qs_node_step.specs.State.{part_of}
 use Rattle.qs_world_lawful.proofs.Marks.{SameMarks}
 use Rattle.qs_world_lawful.proofs.Recordless.{Quiet, quiet_self, quiet_then, quiet_if, quiet_elim, quiet_enter, quiet_part, quiet_send, quiet_sends, quiet_answer, quiet_where, quiet_keep}
 use Rattle.qs_world_lawful.proofs.QuietRequests.{quiet_node, quiet_issue_as, quiet_label}

@@ -1,36 +1,17 @@
 -- Requests that are issued, come, wait and are served, and replies: none of these rules makes a record.
-use Rattle.std.proofs.Common.{◌≡◌, ℕ, ◌==◌, Bool, true, false, List, [], ◌∷◌, ◌++◌, Option, Some, None, refl, sym, ap, subst, ◌+◌, if◌then◌else◌}
-use Rattle.std.specs.Prelude.{◌||◌, is_none}
-use Rattle.std.specs.Map.{lookup}
-use Rattle.std.specs.BTreeMap.{is_at}
-use Rattle.qs_base.specs.declared.identifiers.ClientNo.{ClientNo}
-use Rattle.qs_base.specs.declared.identifiers.Member.{Member}
-use Rattle.qs_base.specs.declared.identifiers.NodeNo.{NodeNo}
-use Rattle.qs_base.specs.declared.identifiers.ServerNo.{ServerNo}
-use Rattle.qs_base.specs.declared.identifiers.Tid.{Tid}
-use Rattle.qs_engage.specs.Nodes.{same_node}
-use Rattle.qs_engage.specs.declared.engage.Engaged.{Engaged}
+use Rattle.qs_world_lawful.proofs.Words.{◌≡◌, ℕ, ◌==◌, Bool, true, false, List, [], ◌∷◌, ◌++◌, Option, Some, None, refl, sym, ap, subst, ◌+◌, if◌then◌else◌, ◌||◌, is_none, lookup, is_at, ClientNo, Member, NodeNo, ServerNo, Tid, same_node, Engaged, is_client, Delivery, Op, Reply, Begun, is_told_class, class_here, member_of, Outstanding, Participant, last_number, enter, send, member_here, enqueue, enter_issue, with_local, issue_here, ask_on, issue_away, issue_as, next_number, is_asked, label_of}
+use Rattle.qs_world_lawful.proofs.Words.{answer_issuer, waits_as, take_reply, reply_came, label_at, put_label, learn_label, met, cover_from, engage, take_in, is_dropped, request_came, reply_here, enter_serve, lent_to, make_loan, give_reply, may_serve, serve_or_drop, serve_next, serve_all, Work, with_manager, with_queues, with_kept, with_doings, here, client_cmp, or_left}
 use Rattle.qs_engage.specs.declared.engage.Engaged.TheVariants as engagements
 use Rattle.qs_ipc.specs.Ipc as ipc
 use Rattle.qs_ipc.specs.Queue.{is_for}
-use Rattle.qs_node_servers.specs.Servers.{is_client}
-use Rattle.qs_ipc.specs.declared.delivery.Delivery.{Delivery}
 use Rattle.qs_book_journal.specs.declared.entry.Act.TheVariants as acts
-use Rattle.qs_ops.specs.declared.operation.Op.{Op}
-use Rattle.qs_ops.specs.declared.reply.Reply.{Reply}
 use Rattle.qs_packet.specs.declared.message.Message.TheVariants as messages
-use Rattle.qs_node_kept.specs.declared.kept.KeptLabel.{KeptLabel}
 use Rattle.qs_tm.specs.Manager as tm
-use Rattle.qs_tm.specs.Members.{is_told_class, class_here}
 use Rattle.qs_tm.specs.Participant as participant
-use Rattle.qs_tm.specs.Participant.{member_of, is_by_files}
-use Rattle.qs_tm.specs.declared.participant.Outstanding.{Outstanding}
-use Rattle.qs_tm.specs.declared.participant.Participant.{Participant}
-use Rattle.qs_engage.specs.Engage.{last_number}
-use Rattle.qs_node_step.specs.Bringing.{enter, send, member_here}
-use Rattle.qs_node_step.specs.Requests.{enqueue, enter_issue, with_local, issue_here, ask_on, issue_away, issue_as, issue, next_number, is_asked, label_of, answer_issuer, waits_as, take_reply, reply_came, waiting_at}
-use Rattle.qs_node_step.specs.Serving.{label_at, put_label, learn_label, met, cover_from, engage, take_in, is_dropped, request_came, reply_here, change_served, enter_serve, lent_to, make_loan, give_reply, serve, may_serve, serve_or_drop, serve_next, serve_all}
-use Rattle.qs_node_step.specs.State.{Work, with_manager, with_queues, with_kept, with_doings, part_of, here, client_cmp}
+use Rattle.qs_tm.specs.Participant.{is_by_files}
+use Rattle.qs_node_step.specs.Requests.{issue, waiting_at}
+use Rattle.qs_node_step.specs.Serving.{change_served, serve}
+use Rattle.qs_node_step.specs.State.{part_of}
 use Rattle.qs_world_lawful.proofs.Marks.{SameMarks, KnowsOn, knows_self}
 use Rattle.qs_world_lawful.proofs.Recordless.{Quiet, quiet_of, quiet_self, quiet_then, quiet_if, quiet_elim, quiet_fold, quiet_enter, quiet_part, quiet_send, quiet_answer, quiet_meet}
 
@@ -95,7 +76,7 @@ quiet_reply tid member number reply work =
 
 -- ---- a request comes
 
-pub quiet_label : (b : KeptLabel) (work : Work) → Quiet work (put_label b work)
+pub quiet_label : (b : Begun) (work : Work) → Quiet work (put_label b work)
 quiet_label b work = quiet_node work (put_label b work) refl refl refl
 
 quiet_learn_label : (label : List ℕ) (tid : Tid) (work : Work) → Quiet work (learn_label label tid work)
@@ -130,9 +111,6 @@ quiet_request peer tid label member number op work =
 
 -- ---- serving
 
-or_kept : (a b : Bool) → a ≡ true → (a || b) ≡ true
-or_kept a b is = ap (λ (x : Bool). x || b) is
-
 served_marks : (server : ServerNo) (part : Participant) → SameMarks part (participant.served server part)
 served_marks server part = by ((member_of part server).served == last_number)
   where
@@ -141,7 +119,7 @@ served_marks server part = by ((member_of part server).served == last_number)
           involved = part.involved || is_told_class (class_here server);
         })
     by true = record { log = refl; outcome = refl; involved = λ is. is }
-    by false = record { log = refl; outcome = refl; involved = or_kept part.involved (is_told_class (class_here server)) }
+    by false = record { log = refl; outcome = refl; involved = or_left part.involved (is_told_class (class_here server)) }
 
 quiet_changed : (server : ServerNo) (tid : Tid) (op : Op) (reply : Reply) (work : Work) → Quiet work (change_served server tid op reply work)
 quiet_changed server tid op reply work = quiet_if (is_client server) work work _ (quiet_self work) (quiet_node work _ refl refl refl)

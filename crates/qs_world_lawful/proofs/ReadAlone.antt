@@ -1,32 +1,13 @@
 -- What only read of a transaction is held of a node that knows nothing of it: so it may be forgotten.
-use Rattle.std.proofs.Common.{◌≡◌, ◌≢◌, ℕ, ◌==◌, Bool, true, false, Option, Some, None, refl, sym, ap, subst, ◌∙◌, arith, nat_lt}
-use Rattle.std.proofs.lemmas.Bool.Decides.{nat_tests}
-use Rattle.std.specs.Prelude.{not, ◌&&◌, ◌||◌, is_none, if◌then◌else◌}
-use Rattle.qs_base.specs.declared.identifiers.Class.{Class}
+use Rattle.qs_world_lawful.proofs.Words.{◌≡◌, ◌≢◌, ℕ, ◌==◌, Bool, true, false, Option, Some, None, refl, sym, ap, subst, ◌∙◌, arith, nat_lt, true≢false, nat_tests, not, ◌&&◌, ◌||◌, is_none, if◌then◌else◌, Class, NodeNo, Outcome, ServerNo, Tid, BookValue, TransactionValue, class_of, is_two_phase, forget_rule, Work, forget, is_no_node, is_forgotten, is_undecided, member_of, only_read, MemberPart, Participant, HoldsWork, book_at, at_server, face_of, HoldsMember, HoldsTid, eqb-true, and_last}
 use Rattle.qs_base.specs.declared.identifiers.Class.TheVariants as classes
-use Rattle.qs_base.specs.declared.identifiers.NodeNo.{NodeNo}
-use Rattle.qs_base.specs.declared.identifiers.Outcome.{Outcome}
-use Rattle.qs_base.specs.declared.identifiers.ServerNo.{ServerNo}
-use Rattle.qs_base.specs.declared.identifiers.Tid.{Tid}
-use Rattle.qs_book_machine.specs.Book.{BookValue}
-use Rattle.qs_book_machine.specs.Transaction.{TransactionValue}
-use Rattle.qs_ops.specs.Members.{class_of, is_two_phase}
-use Rattle.qs_node_step.specs.Settling.{forget_rule}
-use Rattle.qs_node_step.specs.State.{Work}
-use Rattle.qs_node_step.specs.Telling.{forget}
-use Rattle.qs_engage.specs.Nodes.{is_no_node}
 use Rattle.qs_tm.specs.Manager as tm
 use Rattle.qs_tm.specs.Members as rules
 use Rattle.qs_tm.specs.Members.{all_servers}
-use Rattle.qs_tm.specs.Participant.{is_forgotten, is_undecided, member_of, only_read}
 use Rattle.qs_tm.specs.declared.members.Cast.{Cast}
-use Rattle.qs_tm.specs.declared.members.MemberPart.{MemberPart}
-use Rattle.qs_tm.specs.declared.participant.Participant.{Participant}
-use Rattle.qs_world_lawful.specs.Entering.{HoldsWork, book_at}
-use Rattle.qs_world_lawful.specs.Face.{Face, at_server, face_of}
+use Rattle.qs_world_lawful.specs.Face.{Face}
 use Rattle.qs_world_lawful.specs.Given.{HasOnlyRead, MayForget}
-use Rattle.qs_world_lawful.specs.Holds.{HoldsMember, HoldsTid, is_kept}
-use Rattle.qs_world_lawful.proofs.Alike.{same}
+use Rattle.qs_world_lawful.specs.Holds.{is_kept}
 use Rattle.qs_world_lawful.proofs.Begins.{new_member, new_peer}
 use Rattle.qs_world_lawful.proofs.Clauses.{of_tid}
 use Rattle.qs_world_lawful.proofs.Forgetting.{by_unheard}
@@ -35,10 +16,6 @@ use Rattle.qs_world_lawful.proofs.LearningAll.{stands}
 read_covers : (server : ServerNo) (m : MemberPart) → is_two_phase (class_of server.0) ≡ true → rules.has_read server m ≡ true → rules.is_covering m ≡ true
 read_covers server m two read = by (rules.votes_here server) two read
   where
-    last : (a b : Bool) → (a && b) ≡ true → b ≡ true
-    last true b e = e
-    last false b e = absurd (cc e)
-
     voted : (o : Option Cast) → (((m.served == 0) && is_none o) || (elim o [ None ↦ false | Some cast ↦ rules.is_read_only cast.ballot && (cast.covers == m.served) ])) ≡ true
         → (elim o [ None ↦ m.served == 0 | Some cast ↦ cast.covers == m.served ]) ≡ true
     voted None e = of (m.served == 0) e
@@ -49,8 +26,8 @@ read_covers server m two read = by (rules.votes_here server) two read
     voted (Some cast) e = of (m.served == 0) (rules.is_read_only cast.ballot) (cast.covers == m.served) e
       where
         of : (a b c : Bool) → ((a && false) || (b && c)) ≡ true → c ≡ true
-        of true b c e = last b c e
-        of false b c e = last b c e
+        of true b c e = and_last b c e
+        of false b c e = and_last b c e
 
     by : (b : Bool) → b ≡ true → (not b || (((m.served == 0) && is_none m.vote) || rules.is_let_go m)) ≡ true → rules.is_covering m ≡ true
     by true e is = voted m.vote is
@@ -76,7 +53,7 @@ unfolding all_servers
 all_read part read server kept two = by (server.0 == 0) (server.0 == 1) (server.0 == 2) (server.0 == 3) (server.0 == 4) (server.0 == 5) refl refl refl refl refl refl
   where
     at : (n : ℕ) → rules.has_read (record { 0 = n }) (member_of part (record { 0 = n })) ≡ true → (server.0 == n) ≡ true → rules.has_read server (member_of part server) ≡ true
-    at n is e = subst (λ (k : ℕ). rules.has_read (record { 0 = k }) (member_of part (record { 0 = k })) ≡ true) (sym (same server.0 n e)) is
+    at n is e = subst (λ (k : ℕ). rules.has_read (record { 0 = k }) (member_of part (record { 0 = k })) ≡ true) (sym (eqb-true server.0 n e)) is
 
     each : (a b c d e f g : Bool) → (a && (b && (c && (d && (e && (f && (g && true))))))) ≡ true → (a ≡ true) × (b ≡ true) × (c ≡ true) × (d ≡ true) × (e ≡ true) × (f ≡ true) × (g ≡ true)
     each true true true true true true true e = (refl, refl, refl, refl, refl, refl, refl)
@@ -123,7 +100,7 @@ module _ (here : NodeNo) (inc : ℕ) (tid : Tid) (tx : TransactionValue) (face :
     local = h.local;
     sent = λ held peer far. only.sent peer far ∙ sym (ap (λ p. p.sent) (new_peer false peer));
     pending = h.pending;
-    noted = λ held count some is. absurd (clash (sym is ∙ only.noted count some));
+    noted = λ held count some is. absurd (true≢false (sym is ∙ only.noted count some));
     queued = h.queued;
     made = h.made;
     yielded = h.yielded;
@@ -132,9 +109,6 @@ module _ (here : NodeNo) (inc : ℕ) (tid : Tid) (tx : TransactionValue) (face :
     where
       nothing : {o : Outcome} → None ≡ Some o → ⊥
       nothing e = cc e
-
-      clash : true ≡ false → ⊥
-      clash e = cc e
 
 -- ---- the rule
 

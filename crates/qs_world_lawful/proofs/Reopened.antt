@@ -1,37 +1,10 @@
 -- What a node has of each transaction as an incarnation of it begins with what its log says.
-use Rattle.std.proofs.Common.{◌≡◌, ◌⊎◌, inl, inr, ℕ, ◌<◌, ◌==◌, ◌&&◌, not, Bool, true, false, List, [], ◌∷◌, length, Option, Some, None, fold, refl, sym, ap, subst, ◌∙◌, if◌then◌else◌, unwrap_or}
-use Rattle.std.proofs.lemmas.List.Sums.{fold-append}
-use Rattle.std.specs.Global.{Global}
-use Rattle.std.specs.List.{list_all}
-use Rattle.std.specs.Map.{lookup}
-use Rattle.std.specs.BTreeMap.{insert_entry, is_at}
-use Rattle.qs_base.specs.Order.{same_tid, tid_cmp}
-use Rattle.qs_base.proofs.Same.{same_tid-self, same_tid-true}
-use Rattle.qs_base.specs.declared.identifiers.NodeNo.{NodeNo}
-use Rattle.qs_base.specs.declared.identifiers.Outcome.{Outcome}
+use Rattle.qs_world_lawful.proofs.Words.{◌≡◌, ◌⊎◌, inl, inr, ℕ, ◌<◌, ◌==◌, ◌&&◌, Bool, true, false, List, [], ◌∷◌, length, Option, Some, None, fold, refl, sym, ap, subst, ◌∙◌, if◌then◌else◌, unwrap_or, fold-append, Global, list_all, lookup, insert_entry, is_at, same_tid, tid_cmp, same_tid-self, same_tid-true, NodeNo, Outcome, Tid, new_engage, no_peer, peer_of, same_node, at_exact, tid_itself, lookup_put, lookup_put_apart, is_recoverable, is_among, TableValue, kept, nothing_held, share_of, Share}
+use Rattle.qs_world_lawful.proofs.Words.{Record, Prepared, Recovery, in_doubt, is_in_doubt, names_transaction, untold, new_manager, recovered_as, take_up, Setting, no_member, committed_before, member_of, Manager, Participant, doubt_at, last_doubt, member_as, share_as, part_or_new, Every, and_parts, not-true, same_Some}
 use Rattle.qs_base.specs.declared.identifiers.Outcome.TheVariants as outcomes
-use Rattle.qs_base.specs.declared.identifiers.Tid.{Tid}
-use Rattle.qs_engage.specs.Engage.{new_engage, no_peer, peer_of}
-use Rattle.qs_engage.specs.Nodes.{same_node}
-use Rattle.qs_book_laws.proofs.Alikes.{at_exact, tid_itself}
-use Rattle.qs_book_laws.proofs.Maps.{lookup_put, lookup_put_apart}
-use Rattle.qs_book_machine.specs.Nodes.{is_recoverable}
-use Rattle.qs_book_machine.specs.Restart.{is_among}
-use Rattle.qs_ops.specs.Table.{TableValue, kept, nothing_held, share_of}
-use Rattle.qs_ops.specs.declared.share.Share.{Share}
-use Rattle.qs_record.specs.declared.record.Record.{Record}
-use Rattle.qs_restart.specs.Recovery.{Prepared, Recovery, in_doubt, is_in_doubt, names_transaction, untold}
-use Rattle.qs_node_step.specs.Opening.{new_manager, opened_manager, recovered_as, take_up}
-use Rattle.qs_node_step.specs.declared.setting.Setting.{Setting}
+use Rattle.qs_node_step.specs.Opening.{opened_manager}
 use Rattle.qs_tm.specs.Manager as tm
-use Rattle.qs_tm.specs.Members.{no_member}
-use Rattle.qs_tm.specs.Outcomes.{committed_before}
-use Rattle.qs_tm.specs.Participant.{member_of}
-use Rattle.qs_tm.specs.declared.manager.Manager.{Manager}
-use Rattle.qs_tm.specs.declared.participant.Participant.{Participant}
-use Rattle.qs_world_lawful.specs.Doubtful.{doubt_at, is_doubt_at, last_doubt, member_as, share_as}
-use Rattle.qs_world_lawful.specs.Face.{part_or_new}
-use Rattle.qs_world_lawful.specs.Logs.{Every}
+use Rattle.qs_world_lawful.specs.Doubtful.{is_doubt_at}
 use Rattle.qs_world_lawful.proofs.Apart.{Apart, same_or_apart}
 use Rattle.qs_world_lawful.proofs.RestartTables.{take_changes}
 use Rattle.qs_world_lawful.proofs.RestartVotes.{IsSorted}
@@ -46,21 +19,13 @@ doubt_none done tid s votes among sorted = from votes sorted
     clear : (v : Prepared) → IsSorted done v → is_doubt_at tid s v ≡ false
     clear v is = by (is_doubt_at tid s v) refl
       where
-        and_both : (a b : Bool) → (a && b) ≡ true → (a ≡ true) × (b ≡ true)
-        and_both true b e = (refl, e)
-        and_both false b e = absurd (cc e)
-
-        not_true : (b : Bool) → not b ≡ true → b ≡ false
-        not_true false e = refl
-        not_true true e = absurd (cc e)
-
         by : (b : Bool) → is_doubt_at tid s v ≡ b → is_doubt_at tid s v ≡ false
         by false e = e
         by true e =
-            let both = and_both (is_in_doubt v) _ e in
-            let doubt = and_both (names_transaction v.tid) _ both.0 in
-            let same : v.tid ≡ tid = same_tid-true v.tid tid (and_both (same_tid v.tid tid) _ both.1).0 in
-            absurd (cc (sym (subst (λ (t : Tid). is_among done t ≡ true) (sym same) among) ∙ (is doubt.0 ∙ not_true v.committed doubt.1)))
+            let both = and_parts (is_in_doubt v) _ e in
+            let doubt = and_parts (names_transaction v.tid) _ both.0 in
+            let same : v.tid ≡ tid = same_tid-true v.tid tid (and_parts (same_tid v.tid tid) _ both.1).0 in
+            absurd (cc (sym (subst (λ (t : Tid). is_among done t ≡ true) (sym same) among) ∙ (is doubt.0 ∙ not-true v.committed doubt.1)))
 
     from : (vs : List Prepared) → Every (IsSorted done) vs → fold (last_doubt tid s) None vs ≡ None
     from [] all = refl
@@ -96,9 +61,6 @@ pub record IsReopened (home : Bool) (done : List Tid) (tid : Tid) (Q : Type 0) (
 nothing_sent : (home : Bool) (peer : NodeNo) → (peer_of (new_engage home) peer).sent ≡ 0
 nothing_sent home peer = ap (λ p. p.sent) (all_alike 16 peer.0 no_peer)
 
-one_part : (p q : Participant) → Some p ≡ Some q → p ≡ q
-one_part p q e = ap (λ (o : Option Participant). elim o [ None ↦ p | Some x ↦ x ]) e
-
 taken_reopened : (home : Bool) (done : List Tid) (tid : Tid) (Q : Type 0) (votes : ℕ → Option Prepared) (o : Option Participant) → ((part : Participant) → o ≡ Some part → Q) → Taken home votes o → IsReopened home done tid Q votes o
 taken_reopened home done tid Q votes None q none = record {
   sized = refl;
@@ -114,7 +76,7 @@ taken_reopened home done tid Q votes (Some part) q h = record {
   members = h.members;
   sent = λ peer. ap (λ e. (peer_of e peer).sent) h.engage ∙ nothing_sent home peer;
   outcome = λ o is. inl (of home h.outcome o is);
-  marks = λ p is. subst (IsMarkedAs home done tid Q) (one_part part p is) (inl (record { involved = h.involved; prepared = h.prepared; unlisted = h.unlisted; outcome = h.outcome; so = q part refl }));
+  marks = λ p is. subst (IsMarkedAs home done tid Q) (same_Some part p is) (inl (record { involved = h.involved; prepared = h.prepared; unlisted = h.unlisted; outcome = h.outcome; so = q part refl }));
 }
   where
     of : (b : Bool) → part.outcome ≡ outcome_before b → (o : Outcome) → part.outcome ≡ Some o → (o ≡ outcomes.Abort) × (b ≡ true) × Q
@@ -128,7 +90,7 @@ told_reopened home done tid Q votes none o t = subst (IsReopened home done tid Q
   members = λ s low. all_alike 7 s no_member ∙ ap member_as (sym (none s));
   sent = λ peer. nothing_sent home peer;
   outcome = λ x is. inr (ap (λ (y : Option Outcome). elim y [ None ↦ x | Some z ↦ z ]) (sym is), t.listed);
-  marks = λ p is. subst (IsMarkedAs home done tid Q) (one_part (committed_before home t.told) p is) (inr (record { unprepared = refl; outcome = refl; among = t.listed }));
+  marks = λ p is. subst (IsMarkedAs home done tid Q) (same_Some (committed_before home t.told) p is) (inr (record { unprepared = refl; outcome = refl; among = t.listed }));
 })
 
 module _ (alloc : Global) (setting : Setting) (log : Recovery) (kinds : list_all (λ (v : Prepared). is_recoverable v.server.0) log.prepared ≡ true) (sorted : Every (IsSorted log.committed) log.prepared) (listed : Every (IsListed log.committed) log.untold) (tid : Tid) where

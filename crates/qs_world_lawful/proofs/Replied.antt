@@ -1,30 +1,11 @@
 -- A reply comes, to a client's request or to a note of files, which is noted then: the rule as a whole; and all that waits is served.
-use Rattle.std.proofs.Common.{◌≡◌, ℕ, Bool, true, false, List, [], ◌∷◌, Option, Some, None, refl, sym, ap, subst, ◌∙◌}
-use Rattle.std.specs.Prelude.{cond, if◌then◌else◌}
-use Rattle.std.specs.Map.{lookup, set_value}
-use Rattle.std.specs.BTreeMap.{is_at}
-use Rattle.qs_base.specs.Order.{tid_cmp}
-use Rattle.qs_base.specs.declared.identifiers.Member.{Member}
-use Rattle.qs_base.specs.declared.identifiers.ServerNo.{ServerNo}
-use Rattle.qs_base.specs.declared.identifiers.Tid.{Tid}
-use Rattle.qs_book_laws.proofs.Maps.{lookup_set}
-use Rattle.qs_ops.specs.declared.reply.Reply.{Reply}
-use Rattle.qs_book_machine.specs.Book.{BookValue, find_transaction}
-use Rattle.qs_book_machine.specs.Transaction.{TransactionValue}
+use Rattle.qs_world_lawful.proofs.Words.{◌≡◌, ℕ, Bool, true, false, List, [], ◌∷◌, Option, Some, None, refl, sym, ap, subst, ◌∙◌, cond, if◌then◌else◌, lookup, set_value, is_at, tid_cmp, Member, ServerNo, Tid, lookup_set, Reply, BookValue, find_transaction, TransactionValue, client_of, answer_issuer, reply_came, take_reply, serve_all, serve_next, Work, with_manager, waiting_for, Manager, Outstanding, Participant, HoldsWork, book_at, AreNoted, AtEach, MayServe}
 use Rattle.qs_ipc.specs.Ipc as ipc
-use Rattle.qs_node_servers.specs.Servers.{client_of}
 use Rattle.qs_node_step.specs.Requests as requests
-use Rattle.qs_node_step.specs.Requests.{answer_issuer, reply_came, take_reply}
-use Rattle.qs_node_step.specs.Serving.{serve_all, serve_next}
-use Rattle.qs_node_step.specs.State.{Work, with_manager}
 use Rattle.qs_tm.specs.Manager as tm
 use Rattle.qs_tm.specs.Participant as participant
-use Rattle.qs_tm.specs.Participant.{is_by_files, waiting_for}
-use Rattle.qs_tm.specs.declared.manager.Manager.{Manager}
-use Rattle.qs_tm.specs.declared.participant.Outstanding.{Outstanding}
-use Rattle.qs_tm.specs.declared.participant.Participant.{Participant}
-use Rattle.qs_world_lawful.specs.Entering.{HoldsWork, book_at}
-use Rattle.qs_world_lawful.specs.Given.{AreNoted, AtEach, MayReply, MayServe}
+use Rattle.qs_tm.specs.Participant.{is_by_files}
+use Rattle.qs_world_lawful.specs.Given.{MayReply}
 use Rattle.qs_world_lawful.proofs.FilesHeld.{files_held}
 use Rattle.qs_world_lawful.proofs.Replying.{by_issuer, by_notes}
 use Rattle.qs_world_lawful.proofs.ServingNext.{by_next_served, found_of}

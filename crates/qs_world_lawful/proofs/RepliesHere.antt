@@ -1,18 +1,9 @@
 -- A server replies by the rules of its kind: the machine's table gives the same reply, or it is busy with one that is crossed.
-use Rattle.std.proofs.Common.{◌≡◌, ◌⊎◌, inl, inr, ℕ, Bool, true, false, Option, Some, None, refl, sym, ap, ◌∙◌, arith, nat_lt, nat_le}
-use Rattle.std.proofs.lemmas.Bool.Decides.{nat_tests}
-use Rattle.std.specs.Prelude.{if◌then◌else◌}
-use Rattle.std.specs.Option.{option_map}
-use Rattle.qs_base.specs.declared.identifiers.Tid.{Tid}
-use Rattle.qs_base.proofs.Same.{same_bytes-self, same_lists-self, same_tid-self}
-use Rattle.qs_book_machine.specs.Clauses.{takes_lock}
+use Rattle.qs_world_lawful.proofs.Words.{◌≡◌, ◌⊎◌, inl, inr, ℕ, Bool, true, false, Option, Some, None, refl, sym, ap, ◌∙◌, arith, nat_lt, nat_le, nat_tests, if◌then◌else◌, option_map, Tid, same_bytes-self, same_tid-self, takes_lock, TableValue, share_of, holder, reply_to, Op, Reply, Share, HoldsTable, some_same}
+use Rattle.qs_base.proofs.Same.{same_lists-self}
 use Rattle.qs_ops.specs.Alike.{same_reply}
-use Rattle.qs_ops.specs.Table.{TableValue, share_of, holder, unless_refused, free_reply, reply_to}
-use Rattle.qs_ops.specs.declared.operation.Op.{Op}
-use Rattle.qs_ops.specs.declared.reply.Reply.{Reply}
+use Rattle.qs_ops.specs.Table.{unless_refused, free_reply}
 use Rattle.qs_ops.specs.declared.reply.Reply.TheVariants as replies
-use Rattle.qs_ops.specs.declared.share.Share.{Share}
-use Rattle.qs_world_lawful.specs.Tables.{HoldsTable}
 use Rattle.qs_world_lawful.proofs.Holders.{IsHiding, Back, holds_back, same_free}
 use Rattle.qs_world_lawful.proofs.Tables.{own_share}
 
@@ -51,9 +42,6 @@ module _ (seen : Tid → Bool) (kept held : TableValue) (h : HoldsTable seen kep
   pub table_reply : (op : Op) (reply : Reply) → reply_to held me op ≡ Some reply → (reply_to kept me op ≡ Some reply) ⊎ ((t : Tid) × IsBusyWith op reply t)
   table_reply op reply is = by (free_reply held me op) refl (holds_back seen kept held h me mine op)
     where
-      of_some : {x y : Reply} → Some x ≡ Some y → x ≡ y
-      of_some e = cc e
-
       few : (n : ℕ) → nat_le 1024 n ≡ false → nat_lt n 1024 ≡ true
       few n less = grind (arith, nat_tests, less)
 
@@ -74,7 +62,7 @@ module _ (seen : Tid → Bool) (kept held : TableValue) (h : HoldsTable seen kep
           inr (t, record { hides = hides; locks = locks; few = few _ (ap (nat_le 1024) counts ∙ many); busy = sym so ∙ ap (λ (o : Option Tid). chosen false o free) holds })
 
       said : (free : Reply) → free_reply held me op ≡ Some free → unless_refused held me op free ≡ reply
-      said free at = of_some (sym (ap (option_map (unless_refused held me op)) at) ∙ is)
+      said free at = some_same (sym (ap (option_map (unless_refused held me op)) at) ∙ is)
 
       nothing : free_reply held me op ≡ None → None ≡ Some reply
       nothing at = sym (ap (option_map (unless_refused held me op)) at) ∙ is

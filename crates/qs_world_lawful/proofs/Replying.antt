@@ -1,42 +1,20 @@
 -- A reply comes to the node that issued the request: the rule as a whole.
-use Rattle.std.proofs.Common.{◌≡◌, ◌⊎◌, inl, inr, ℕ, Bool, true, false, List, [], ◌∷◌, Option, Some, None, refl, sym, ap, subst, ◌∙◌, length}
-use Rattle.std.specs.Prelude.{not, ◌&&◌, ◌||◌, if◌then◌else◌}
-use Rattle.std.specs.List.{filter, find, list_any}
-use Rattle.std.specs.Map.{lookup}
-use Rattle.std.specs.BTreeMap.{is_at}
-use Rattle.qs_base.specs.Order.{tid_cmp}
-use Rattle.qs_base.specs.declared.identifiers.ClientNo.{ClientNo}
-use Rattle.qs_base.specs.declared.identifiers.Member.{Member}
-use Rattle.qs_base.specs.declared.identifiers.NodeNo.{NodeNo}
-use Rattle.qs_base.specs.declared.identifiers.Tid.{Tid}
-use Rattle.qs_ops.specs.Operations.{answer_of}
-use Rattle.qs_ops.specs.declared.reply.Reply.{Reply}
+use Rattle.qs_world_lawful.proofs.Words.{◌≡◌, ◌⊎◌, inl, inr, ℕ, Bool, true, false, List, [], ◌∷◌, Option, Some, None, refl, sym, ap, subst, ◌∙◌, length, not, ◌&&◌, if◌then◌else◌, filter, find, list_any, lookup, is_at, tid_cmp, ClientNo, Member, NodeNo, Tid, answer_of, Reply, changed_alike, TransactionValue, BookValue, find_transaction, is_known, Owner, member_of, has_noted, awaits_note, is_answered_by, waiting_for, Outstanding, Participant, client_of, reply_came, take_reply, answer_issuer}
+use Rattle.qs_world_lawful.proofs.Words.{waits_as, Issued, Work, with_manager, client_cmp, peer_of, face_of, part_in, part_or_new, is_held, at_server, AreNoted, HoldsHome, HoldsMember, HoldsTid, HoldsAt, IsAsking, HoldsWork, book_at, some_same, or_last}
 use Rattle.qs_ops.specs.declared.reply.Reply.TheVariants as replies
-use Rattle.qs_book_laws.proofs.Maps.{changed_alike}
-use Rattle.qs_book_machine.specs.Transaction.{TransactionValue}
-use Rattle.qs_book_machine.specs.Book.{BookValue, find_transaction}
-use Rattle.qs_book_machine.specs.Clauses.{is_known}
-use Rattle.qs_book_machine.specs.declared.state.Owner.{Owner}
 use Rattle.qs_tm.specs.Manager as tm
 use Rattle.qs_tm.specs.Participant as participant
-use Rattle.qs_tm.specs.Participant.{member_of, has_noted, awaits_note, is_answered_by, is_by_files, waiting_for}
-use Rattle.qs_tm.specs.declared.participant.Outstanding.{Outstanding}
-use Rattle.qs_tm.specs.declared.participant.Participant.{Participant}
-use Rattle.qs_node_servers.specs.Servers.{client_of}
-use Rattle.qs_node_step.specs.Requests.{reply_came, waiting_at, take_reply, answer_issuer, waits_as, is_issued_as}
+use Rattle.qs_tm.specs.Participant.{is_by_files}
+use Rattle.qs_node_step.specs.Requests.{waiting_at, is_issued_as}
 use Rattle.qs_node_step.specs.Bringing.{answer}
-use Rattle.qs_node_step.specs.declared.state.Issued.{Issued}
-use Rattle.qs_node_step.specs.State.{Work, NodeValue, with_manager, client_cmp}
-use Rattle.qs_engage.specs.Engage.{peer_of}
-use Rattle.qs_world_lawful.specs.Face.{Face, face_of, part_in, part_or_new, is_held, at_server}
-use Rattle.qs_world_lawful.specs.Given.{AreNoted}
-use Rattle.qs_world_lawful.specs.Holds.{HoldsHome, HoldsMember, HoldsTid, HoldsAt, IsAsking}
-use Rattle.qs_world_lawful.specs.Entering.{HoldsWork, book_at}
+use Rattle.qs_node_step.specs.State.{NodeValue}
+use Rattle.qs_world_lawful.specs.Face.{Face}
 use Rattle.qs_world_lawful.proofs.Answers.{by_answer}
 use Rattle.qs_world_lawful.proofs.Clauses.{of_tid}
 use Rattle.qs_world_lawful.proofs.Faces.{part_apart, part_changed}
 use Rattle.qs_world_lawful.proofs.Frames.{held_on, at_each, clients_on, told_of}
 use Rattle.qs_world_lawful.proofs.Growing.{kept_on}
+use Rattle.qs_base_lemmas.proofs.Tests.{or_first}
 
 -- the participant but for its notes
 abbrev unnoted : Participant → Participant
@@ -60,14 +38,11 @@ noted_tid here inc tid tx face part after same notes h = record {
   home = λ near in_inc. home_on (h.home near in_inc);
 }
   where
-    of_some : {X : Type 0} {x y : X} → Some x ≡ Some y → x ≡ y
-    of_some e = cc e
-
     home_on : HoldsHome tx (Some part) → HoldsHome tx (Some after)
     home_on k = record {
       runs = λ is. refl;
-      undecided = λ p is none. k.undecided part refl (sym (ap (λ (q : Participant). q.outcome) same) ∙ (ap (λ (q : Participant). q.outcome) (of_some is) ∙ none));
-      asked = λ p is still. k.asked part refl still ∙ (sym (ap (λ (q : Participant). q.asked) same) ∙ ap (λ (q : Participant). q.asked) (of_some is));
+      undecided = λ p is none. k.undecided part refl (sym (ap (λ (q : Participant). q.outcome) same) ∙ (ap (λ (q : Participant). q.outcome) (some_same is) ∙ none));
+      asked = λ p is still. k.asked part refl still ∙ (sym (ap (λ (q : Participant). q.asked) same) ∙ ap (λ (q : Participant). q.asked) (some_same is));
     }
 
 -- where what the node waits for of a transaction changes, or what it noted
@@ -171,20 +146,9 @@ by_reply stamp before work tid member number reply part tx h known found no_note
     not_files [] request is out = absurd (cc is)
     not_files (r ∷ waiting) request is out = at (is_answered_by member number r) refl (not_files waiting request)
       where
-        of_some : {X : Type 0} {x y : X} → Some x ≡ Some y → x ≡ y
-        of_some e = cc e
-
-        or_left : (a b : Bool) → (a || b) ≡ false → a ≡ false
-        or_left false b e = refl
-        or_left true b e = absurd (cc e)
-
-        or_right : (a b : Bool) → (a || b) ≡ false → b ≡ false
-        or_right false b e = e
-        or_right true b e = absurd (cc e)
-
         at : (b : Bool) → is_answered_by member number r ≡ b → (find (is_answered_by member number) waiting ≡ Some request → list_any (λ (s : Outstanding). is_answered_by member number s && is_by_files s) waiting ≡ false → is_by_files request ≡ false) → is_by_files request ≡ false
-        at true so more = subst (λ (x : Outstanding). is_by_files x ≡ false) (of_some (rw so at is)) (or_left _ _ (rw so at out))
-        at false so more = more (rw so at is) (or_right _ _ out)
+        at true so more = subst (λ (x : Outstanding). is_by_files x ≡ false) (some_same (rw so at is)) (or_first _ _ (rw so at out))
+        at false so more = more (rw so at is) (or_last _ _ out)
 
     by : (o : Option Outstanding) → waiting_for member number part ≡ o → HoldsWork stamp before (reply_came tid member number reply work)
     by None is = subst (λ (o : Option Outstanding). HoldsWork stamp before (elim o [ None ↦ work | Some request ↦ take_reply tid reply request (with_manager (tm.drop_waiting tid member number) work) ])) (sym (waits_is ∙ is)) h

@@ -1,40 +1,11 @@
 -- A client commands a request to a server of its own node: the rule as a whole, of the owner and of a borrower.
-use Rattle.std.proofs.Common.{◌≡◌, ◌≢◌, ◌⊎◌, inl, inr, ℕ, ◌+◌, ◌==◌, Bool, true, false, List, [], ◌∷◌, Option, Some, None, zero, suc, refl, sym, ap, subst, ◌∙◌, arith, length, nat_lt}
-use Rattle.std.proofs.lemmas.Bool.Decides.{nat_tests}
-use Rattle.std.specs.Prelude.{not, ◌&&◌, slice_get, cond, if◌then◌else◌}
-use Rattle.std.specs.List.{list_any}
-use Rattle.std.specs.Map.{lookup, set_value}
-use Rattle.std.specs.BTreeMap.{is_at}
-use Rattle.std.specs.declared.cmp.Ordering.{Ordering}
-use Rattle.qs_base.specs.declared.identifiers.ClientNo.{ClientNo}
-use Rattle.qs_base.specs.declared.identifiers.Member.{Member}
-use Rattle.qs_base.specs.declared.identifiers.NodeNo.{NodeNo}
+use Rattle.qs_world_lawful.proofs.Words.{◌≡◌, ◌≢◌, ◌⊎◌, inl, inr, ℕ, ◌+◌, ◌==◌, Bool, true, false, List, [], ◌∷◌, Option, Some, None, zero, suc, refl, sym, ap, subst, ◌∙◌, arith, length, nat_lt, nat_tests, not, ◌&&◌, slice_get, cond, if◌then◌else◌, list_any, lookup, set_value, is_at, Ordering, ClientNo, Member, NodeNo, Tid, last_number, same_node, Op, lookup_changed, changed_apart, IsBelow, IsRising, TransactionValue, is_commit, BookValue, find_transaction, Outstanding, Participant, Begun, Lent}
+use Rattle.qs_world_lawful.proofs.Words.{client_server, with_issued, request_as, request_command, issue_here, local_count, next_local, next_number, label_at, Work, client_cmp, Issued, OpenCommand, face_of, is_loan_here, HoldsClients, IsBehind, IsOwner, IsAsking, HoldsWork, book_at, eq-eqb, some_same}
 use Rattle.qs_base.specs.declared.identifiers.Outcome.TheVariants as outcomes
-use Rattle.qs_base.specs.declared.identifiers.Tid.{Tid}
-use Rattle.qs_engage.specs.Engage.{last_number}
-use Rattle.qs_engage.specs.Nodes.{same_node}
 use Rattle.qs_ipc.specs.Queue as queues
-use Rattle.qs_ops.specs.declared.operation.Op.{Op}
 use Rattle.qs_book_journal.specs.declared.script_line.Command.TheVariants as commands
-use Rattle.qs_book_laws.proofs.Maps.{lookup_changed, changed_apart}
-use Rattle.qs_book_laws.proofs.Rising.{IsBelow, IsRising}
-use Rattle.qs_book_machine.specs.Transaction.{TransactionValue, is_commit}
-use Rattle.qs_book_machine.specs.Book.{BookValue, find_transaction}
 use Rattle.qs_tm.specs.Manager as tm
-use Rattle.qs_tm.specs.declared.participant.Outstanding.{Outstanding}
-use Rattle.qs_tm.specs.declared.participant.Participant.{Participant}
-use Rattle.qs_node_kept.specs.declared.kept.KeptLabel.{KeptLabel}
-use Rattle.qs_node_kept.specs.declared.kept.Lent.{Lent}
-use Rattle.qs_node_servers.specs.Servers.{client_server}
-use Rattle.qs_node_step.specs.Commands.{with_issued, request_as, request_command}
-use Rattle.qs_node_step.specs.Requests.{issue_here, local_count, next_local, next_number}
-use Rattle.qs_node_step.specs.Serving.{label_at}
-use Rattle.qs_node_step.specs.State.{Work, NodeValue, client_cmp}
-use Rattle.qs_node_step.specs.declared.state.Issued.{Issued}
-use Rattle.qs_node_step.specs.declared.state.OpenCommand.{OpenCommand}
-use Rattle.qs_world_lawful.specs.Face.{face_of, is_loan_here}
-use Rattle.qs_world_lawful.specs.Holds.{HoldsClients, IsBehind, IsOwner, IsAsking}
-use Rattle.qs_world_lawful.specs.Entering.{HoldsWork, book_at}
+use Rattle.qs_node_step.specs.State.{NodeValue}
 use Rattle.qs_world_lawful.proofs.Answers.{AreApart, same_client_or}
 use Rattle.qs_world_lawful.proofs.Commanding.{not_asking}
 use Rattle.qs_world_lawful.proofs.Frames.{SameFace, held_on, at_none}
@@ -108,16 +79,13 @@ module _ (stamp : ℕ) (before : BookValue) (work : Work) (h : HoldsWork stamp b
       apart : (c : ClientNo) → AreApart client c → lookup (is_at (client_cmp c)) new.commands ≡ lookup (is_at (client_cmp c)) node.commands
       apart c far = changed_apart its (is_at (client_cmp c)) far (λ (v : OpenCommand). record v { issued = Some issued }) node.commands
 
-      of_some : {X : Type 0} {x y : X} → Some x ≡ Some y → x ≡ y
-      of_some e = cc e
-
       lines_on : (c : ClientNo) (o : OpenCommand) → lookup (is_at (client_cmp c)) new.commands ≡ Some o → IsBehind book c o.line.line
       lines_on c o is = by (same_client_or client c)
         where
           by : (client ≡ c) ⊎ ((client ≢ c) × AreApart client c) → IsBehind book c o.line.line
           by (inl same) =
               let it : Some (record command { issued = Some issued }) ≡ Some o = sym there ∙ subst (λ (x : ClientNo). lookup (is_at (client_cmp x)) new.commands ≡ Some o) (sym same) is in
-              subst (λ (x : ClientNo). IsBehind book x o.line.line) same (subst (λ (n : ℕ). IsBehind book client n) (ap (λ (x : OpenCommand). x.line.line) (of_some it)) (h.holds.clients.lines client command waits))
+              subst (λ (x : ClientNo). IsBehind book x o.line.line) same (subst (λ (n : ℕ). IsBehind book client n) (ap (λ (x : OpenCommand). x.line.line) (some_same it)) (h.holds.clients.lines client command waits))
           by (inr far) = h.holds.clients.lines c o (sym (apart c far.1) ∙ is)
 
       asking_on : (t : Tid) (c : ClientNo) → IsAsking node t c → IsAsking new t c
@@ -138,24 +106,18 @@ module _ (stamp : ℕ) (before : BookValue) (work : Work) (h : HoldsWork stamp b
 
   module _ (tid : Tid) (member : Member) (op : Op) (near : member.node ≡ node.setting.node) (fits : queues.is_for member.server op ≡ true) where
     is_near : same_node member.node node.setting.node ≡ true
-    is_near = at_same member.node.0 node.setting.node.0 (ap (λ (n : NodeNo). n.0) near)
-      where
-        at_same : (a b : ℕ) → a ≡ b → (a == b) ≡ true
-        at_same a b e = grind (arith, nat_tests, e)
+    is_near = eq-eqb member.node.0 node.setting.node.0 (ap (λ (n : NodeNo). n.0) near)
 
     -- the number, where there is one more
     numbered : (number : ℕ) → next_number tid member.node work ≡ Some number → number ≡ local_count tid node + 1
     numbered number is = by (local_count tid node == last_number) (sym local ∙ is)
       where
-        of_some : {X : Type 0} {x y : X} → Some x ≡ Some y → x ≡ y
-        of_some e = cc e
-
         local : next_number tid member.node work ≡ next_local tid node
         local = rw is_near refl
 
         by : (b : Bool) → (if b then None else Some (local_count tid node + 1)) ≡ Some number → number ≡ local_count tid node + 1
         by true e = absurd (cc e)
-        by false e = sym (of_some e)
+        by false e = sym (some_same e)
 
     abbrev as_issued : ℕ → Work
     as_issued number = with_issued client (record { tid = tid; member = member; number = number }) work
@@ -177,7 +139,7 @@ module _ (stamp : ℕ) (before : BookValue) (work : Work) (h : HoldsWork stamp b
 
     -- ---- of the owner, at the home, where no outcome is known
 
-    module _ (part : Participant) (known : tm.part_of tid node.manager ≡ Some part) (begun : KeptLabel) (labelled : label_at command.line.label node ≡ Some begun) (of : begun.tid ≡ Some tid) (owned : begun.owner ≡ Some client) where
+    module _ (part : Participant) (known : tm.part_of tid node.manager ≡ Some part) (begun : Begun) (labelled : label_at command.line.label node ≡ Some begun) (of : begun.tid ≡ Some tid) (owned : begun.owner ≡ Some client) where
       pub by_owners_request : tid.home ≡ node.setting.node → tid.inc ≡ node.setting.inc → part.outcome ≡ None → HoldsWork stamp before (request_command client tid member op work)
       by_owners_request home inc unknown = command_by (λ number next. by_owner stamp before (as_issued number) tid (request number) op part its.tx (by_issued (record { tid = tid; member = member; number = number })) known its.found client refl near next fits runs its.owns home inc (unasked part.asked refl) unknown)
         where

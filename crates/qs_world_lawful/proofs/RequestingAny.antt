@@ -1,42 +1,11 @@
 -- A client commands a request to any server of the run: of the node itself, or of another node.
-use Rattle.std.proofs.Common.{◌≡◌, ◌≢◌, ℕ, ◌==◌, ◌+◌, Bool, true, false, Option, Some, None, refl, sym, ap, subst, ◌∙◌, arith, nat_lt}
-use Rattle.std.proofs.lemmas.Bool.Decides.{nat_tests}
-use Rattle.std.specs.Prelude.{not, ◌&&◌, ◌||◌, if◌then◌else◌}
-use Rattle.std.specs.List.{list_any}
-use Rattle.std.specs.Map.{lookup}
-use Rattle.std.specs.BTreeMap.{is_at}
-use Rattle.qs_base.specs.declared.identifiers.ClientNo.{ClientNo}
-use Rattle.qs_base.specs.declared.identifiers.Member.{Member}
-use Rattle.qs_base.specs.declared.identifiers.NodeNo.{NodeNo}
+use Rattle.qs_world_lawful.proofs.Words.{◌≡◌, ◌≢◌, ℕ, ◌==◌, ◌+◌, Bool, true, false, Option, Some, None, refl, sym, ap, subst, ◌∙◌, nat_lt, not, ◌&&◌, ◌||◌, if◌then◌else◌, list_any, lookup, is_at, ClientNo, Member, NodeNo, Tid, last_number, peer_of, same_node, last_taken, Begun, Lent, BookValue, find_transaction, broken, TransactionValue, is_commit, Op, client_server, is_aborted, is_void, request_command, with_issued, issue_away, issue_here, next_local, label_at, Work, client_cmp, OpenCommand}
+use Rattle.qs_world_lawful.proofs.Words.{Outstanding, Participant, entry_of, HoldsWork, book_at, at_server, face_of, is_loan_here, part_or_new, MayRequest, IsOwner, eqb-true, eqb-false}
 use Rattle.qs_base.specs.declared.identifiers.Outcome.TheVariants as outcomes
-use Rattle.qs_base.specs.declared.identifiers.Tid.{Tid}
-use Rattle.qs_engage.specs.Engage.{last_number, peer_of}
-use Rattle.qs_engage.specs.Nodes.{same_node}
 use Rattle.qs_book_journal.specs.declared.entry.Act.TheVariants as acts
 use Rattle.qs_book_journal.specs.declared.script_line.Command.TheVariants as commands
-use Rattle.qs_node_kept.specs.Loans.{last_taken}
-use Rattle.qs_node_kept.specs.declared.kept.KeptLabel.{KeptLabel}
-use Rattle.qs_node_kept.specs.declared.kept.Lent.{Lent}
-use Rattle.qs_book_machine.specs.Book.{BookValue, find_transaction}
-use Rattle.qs_book_machine.specs.Lawful.{broken}
-use Rattle.qs_book_machine.specs.Transaction.{TransactionValue, is_commit}
-use Rattle.qs_ops.specs.declared.operation.Op.{Op}
-use Rattle.qs_node_servers.specs.Servers.{client_server}
-use Rattle.qs_node_step.specs.Borrowing.{is_aborted, is_void}
-use Rattle.qs_node_step.specs.Commands.{request_command, with_issued}
-use Rattle.qs_node_step.specs.Requests.{issue_away, issue_here, next_local}
-use Rattle.qs_node_step.specs.Serving.{label_at}
-use Rattle.qs_node_step.specs.State.{Work, client_cmp}
-use Rattle.qs_node_step.specs.declared.state.OpenCommand.{OpenCommand}
 use Rattle.qs_tm.specs.Manager as tm
 use Rattle.qs_tm.specs.Outcomes.{is_abort}
-use Rattle.qs_tm.specs.declared.participant.Outstanding.{Outstanding}
-use Rattle.qs_tm.specs.declared.participant.Participant.{Participant}
-use Rattle.qs_world.specs.Posting.{entry_of}
-use Rattle.qs_world_lawful.specs.Entering.{HoldsWork, book_at}
-use Rattle.qs_world_lawful.specs.Face.{at_server, face_of, is_loan_here, part_or_new}
-use Rattle.qs_world_lawful.specs.GivenStep.{MayRequest}
-use Rattle.qs_world_lawful.specs.Holds.{IsOwner}
 use Rattle.qs_world_lawful.proofs.BorrowersCommands.{present_stands}
 use Rattle.qs_world_lawful.proofs.Commanding.{not_asking}
 use Rattle.qs_world_lawful.proofs.Issuing.{borrower_issues}
@@ -45,16 +14,10 @@ use Rattle.qs_world_lawful.proofs.LearningAll.{stands}
 use Rattle.qs_world_lawful.proofs.Requesting.{by_borrowers_request, by_issued, by_owners_request}
 
 node_is : (a b : NodeNo) → same_node a b ≡ true → a ≡ b
-node_is a b e = ap (λ (n : ℕ). record { 0 = n }) (number_is a.0 b.0 e)
-  where
-    number_is : (m n : ℕ) → (m == n) ≡ true → m ≡ n
-    number_is m n is = grind (arith, nat_tests, is)
+node_is a b e = ap (λ (n : ℕ). record { 0 = n }) (eqb-true a.0 b.0 e)
 
 node_far : (a b : NodeNo) → same_node a b ≡ false → a.0 ≢ b.0
-node_far a b e = number_far a.0 b.0 e
-  where
-    number_far : (m n : ℕ) → (m == n) ≡ false → m ≢ n
-    number_far m n is same = grind (arith, nat_tests, is, same)
+node_far a b e = eqb-false a.0 b.0 e
 
 module _ (stamp : ℕ) (before : BookValue) (work : Work) (h : HoldsWork stamp before work) (client : ClientNo) (command : OpenCommand) (waits : lookup (is_at (client_cmp client)) work.node.commands ≡ Some command)
     (other : command.line.command ≡ commands.Commit → ⊥) (tid : Tid) (member : Member) (op : Op) (may : MayRequest work tid member op) (part : Participant) (known : tm.part_of tid work.node.manager ≡ Some part) where
@@ -90,7 +53,7 @@ module _ (stamp : ℕ) (before : BookValue) (work : Work) (h : HoldsWork stamp b
 
   -- ---- of the owner
 
-  module _ (begun : KeptLabel) (labelled : label_at command.line.label work.node ≡ Some begun) (of : begun.tid ≡ Some tid) (owned : begun.owner ≡ Some client) (home : tid.home ≡ work.node.setting.node) (inc : tid.inc ≡ work.node.setting.inc) (unknown : part.outcome ≡ None) where
+  module _ (begun : Begun) (labelled : label_at command.line.label work.node ≡ Some begun) (of : begun.tid ≡ Some tid) (owned : begun.owner ≡ Some client) (home : tid.home ≡ work.node.setting.node) (inc : tid.inc ≡ work.node.setting.inc) (unknown : part.outcome ≡ None) where
     its : IsOwner (book_at stamp before work) tid client
     its = h.holds.clients.labels command.line.label begun tid client labelled of owned
 

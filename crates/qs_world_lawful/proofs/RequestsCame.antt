@@ -1,40 +1,14 @@
 -- A request comes from another node: its transaction is met, its sender is noted, and it waits at its server.
-use Rattle.std.proofs.Common.{◌≡◌, ◌⊎◌, inl, inr, ◌==◌, arith, ℕ, Bool, true, false, List, [], ◌∷◌, ◌++◌, Option, Some, None, refl, sym, ap, subst, ◌∙◌}
-use Rattle.std.proofs.lemmas.Bool.Decides.{nat_tests}
-use Rattle.std.specs.Prelude.{not, ◌||◌, is_none, is_some, if◌then◌else◌}
-use Rattle.qs_base.specs.Order.{tid_cmp}
-use Rattle.qs_base.specs.declared.identifiers.ClientNo.{ClientNo}
-use Rattle.qs_base.specs.declared.identifiers.Member.{Member}
-use Rattle.qs_base.specs.declared.identifiers.NodeNo.{NodeNo}
-use Rattle.qs_base.specs.declared.identifiers.Tid.{Tid}
+use Rattle.qs_world_lawful.proofs.Words.{◌≡◌, ◌⊎◌, inl, inr, ℕ, Bool, true, false, List, [], ◌∷◌, ◌++◌, Option, Some, None, refl, sym, ap, subst, ◌∙◌, not, ◌||◌, is_none, is_some, if◌then◌else◌, tid_cmp, ClientNo, Member, NodeNo, Tid, same_node, Engaged, IpcValue, queue_at, filter, Entry, tid_itself, lookup_put, BookValue, find_transaction, book_after, TransactionValue, is_commit, Op, send, cover_from, engage, is_dropped, label_at, learn_label, met, put_label, request_came, take_in, Work}
+use Rattle.qs_world_lawful.proofs.Words.{with_manager, Setting, new_participant, Participant, entries_of, HoldsWork, book_at, face_of, HoldsAt, HoldsTid, IsAsking, IsOwner, IsWithin, standing_ops, waiting_ops, false≢true, eqb-self, some_same, none-some}
 use Rattle.qs_engage.specs.Engage as engaging
-use Rattle.qs_engage.specs.Nodes.{same_node}
-use Rattle.qs_engage.specs.declared.engage.Engaged.{Engaged}
 use Rattle.qs_engage.specs.declared.engage.Engaged.TheVariants as engagements
-use Rattle.qs_ipc.specs.Ipc.{IpcValue, queue_at}
 use Rattle.qs_ipc.specs.Queue.{is_of}
-use Rattle.std.specs.List.{filter}
-use Rattle.qs_book_journal.specs.declared.entry.Entry.{Entry}
-use Rattle.qs_book_laws.proofs.Alikes.{tid_itself}
-use Rattle.qs_book_laws.proofs.Maps.{lookup_put}
-use Rattle.qs_book_machine.specs.Book.{BookValue, find_transaction}
-use Rattle.qs_book_machine.specs.Lawful.{book_after}
-use Rattle.qs_book_machine.specs.Transaction.{TransactionValue, is_commit}
-use Rattle.qs_ops.specs.declared.operation.Op.{Op}
 use Rattle.qs_packet.specs.declared.message.Message.TheVariants as messages
-use Rattle.qs_node_step.specs.Bringing.{send}
-use Rattle.qs_node_step.specs.Serving.{cover_from, engage, is_dropped, label_at, learn_label, met, put_label, request_came, take_in}
 use Rattle.qs_node_step.specs.State as state
-use Rattle.qs_node_step.specs.State.{NodeValue, Work, with_manager}
-use Rattle.qs_node_step.specs.declared.setting.Setting.{Setting}
+use Rattle.qs_node_step.specs.State.{NodeValue}
 use Rattle.qs_tm.specs.Manager as tm
-use Rattle.qs_tm.specs.Participant.{new_participant}
-use Rattle.qs_tm.specs.declared.participant.Participant.{Participant}
-use Rattle.qs_world.specs.Posting.{entries_of}
-use Rattle.qs_world_lawful.specs.Entering.{HoldsWork, book_at}
-use Rattle.qs_world_lawful.specs.Face.{Face, face_of, waiting_at}
-use Rattle.qs_world_lawful.specs.Holds.{HoldsAt, HoldsTid, IsAsking, IsOwner}
-use Rattle.qs_world_lawful.specs.Waits.{IsWithin, standing_ops, waiting_ops}
+use Rattle.qs_world_lawful.specs.Face.{Face, waiting_at}
 use Rattle.qs_world_lawful.proofs.Apart.{Apart, same_or_apart}
 use Rattle.qs_world_lawful.proofs.Asking.{by_send, sent_entries, sent_node}
 use Rattle.qs_world_lawful.proofs.Clauses.{of_tid}
@@ -44,9 +18,6 @@ use Rattle.qs_world_lawful.proofs.Faces.{put_apart}
 use Rattle.qs_world_lawful.proofs.Frames.{asking_on, at_each, clients_with, held_on}
 use Rattle.qs_world_lawful.proofs.Growing.{kept_on}
 use Rattle.qs_world_lawful.proofs.Silent.{by_label}
-
-of_some : {X : Type 0} {x y : X} → Some x ≡ Some y → x ≡ y
-of_some e = cc e
 
 -- ---- a transaction is met, elsewhere than at its home
 
@@ -96,13 +67,10 @@ module _ (stamp : ℕ) (before : BookValue) (work : Work) (h : HoldsWork stamp b
     asking : (t : Tid) (c : ClientNo) (p : Participant) → t.home ≡ node.setting.node → tm.part_of t new.manager ≡ Some p → p.outcome ≡ None → p.asked ≡ true → IsOwner book t c → IsAsking new t c
     asking t c p at is none asked owns = by (same_or_apart tid t)
       where
-        clash : false ≡ true → ⊥
-        clash e = cc e
-
         by : (tid ≡ t) ⊎ Apart tid t → IsAsking new t c
         by (inl same) =
             let it : Some part ≡ Some p = sym known_now ∙ subst (λ (u : Tid). tm.part_of u new.manager ≡ Some p) (sym same) is in
-            absurd (clash (ap (λ (q : Participant). q.asked) (of_some it) ∙ asked))
+            absurd (false≢true (ap (λ (q : Participant). q.asked) (some_same it) ∙ asked))
         by (inr far) = asking_on node new (record { commands = refl; labels = refl; outcomes = refl }) t c (h.holds.clients.asking t c p at (sym (put_apart tid t part node.manager far) ∙ is) none asked owns)
 
     by_put : HoldsWork stamp before (with_manager (λ manager. tm.put_part tid part manager) work)
@@ -117,13 +85,7 @@ module _ (stamp : ℕ) (before : BookValue) (work : Work) (h : HoldsWork stamp b
   by_met = by (same_node tid.home (state.here work)) refl
     where
       away_from : (b : Bool) → same_node tid.home (state.here work) ≡ b → b ≡ false → tid.home ≡ work.node.setting.node → ⊥
-      away_from b is no_home at = clash (sym (is ∙ no_home) ∙ (ap (λ (n : NodeNo). same_node n work.node.setting.node) at ∙ itself work.node.setting.node.0))
-        where
-          clash : false ≡ true → ⊥
-          clash e = cc e
-
-          itself : (n : ℕ) → (n == n) ≡ true
-          itself n = grind (arith, nat_tests)
+      away_from b is no_home at = false≢true (sym (is ∙ no_home) ∙ (ap (λ (n : NodeNo). same_node n work.node.setting.node) at ∙ eqb-self work.node.setting.node.0))
 
       of : same_node tid.home (state.here work) ≡ false → (o : Option Participant) → tm.part_of tid work.node.manager ≡ o
           → HoldsWork stamp before (record work { node = record work.node { manager = if is_some o then work.node.manager else tm.put_part tid (new_participant (tm.is_home tid work.node.manager)) work.node.manager } })
@@ -147,10 +109,7 @@ module _ (stamp : ℕ) (before : BookValue) (work : Work) (tid : Tid) (tx : Tran
   labelled h label = by (is_none (label_at label work.node))
     where
       by : (b : Bool) → Arrived stamp before work (if b then put_label (record { label = label; tid = Some tid; owner = None }) work else work)
-      by true = record { held = by_label stamp before work h (record { label = label; tid = Some tid; owner = None }) (λ t c of owned. nothing c owned); setting = refl; queues = refl; book = refl }
-        where
-          nothing : (c : ClientNo) → None ≡ Some c → ⊥
-          nothing c e = cc e
+      by true = record { held = by_label stamp before work h (record { label = label; tid = Some tid; owner = None }) (λ t c of owned. none-some c owned); setting = refl; queues = refl; book = refl }
       by false = record { held = h; setting = refl; queues = refl; book = refl }
 
   met_on : (w : Work) → Arrived stamp before work w → Arrived stamp before work (met tid w)

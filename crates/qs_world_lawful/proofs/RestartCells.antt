@@ -1,28 +1,12 @@
 -- What a restart decides: what its log has committed is committed, and of what began in the incarnation that ended the rest is aborted.
-use Rattle.std.proofs.Common.{◌≡◌, ◌⊎◌, inl, inr, ℕ, ◌==◌, ◌&&◌, ◌≤◌, zero, suc, Bool, true, false, List, [], ◌∷◌, Option, Some, None, fold, refl, sym, ap, subst, ◌∙◌, arith, if◌then◌else◌, is_some}
-use Rattle.std.proofs.lemmas.Bool.Decides.{nat_tests}
-use Rattle.std.proofs.lemmas.List.Sums.{fold-append}
-use Rattle.std.specs.Map.{lookup, set_value}
-use Rattle.std.specs.Prelude.{slice_get}
-use Rattle.std.specs.BTreeMap.{is_at}
-use Rattle.qs_base.specs.Order.{same_tid, tid_cmp}
-use Rattle.qs_base.proofs.Same.{same_tid-true}
-use Rattle.qs_base.specs.declared.identifiers.Member.{Member}
-use Rattle.qs_base.specs.declared.identifiers.Outcome.{Outcome}
+use Rattle.qs_world_lawful.proofs.Words.{◌≡◌, ◌⊎◌, inl, inr, ℕ, ◌==◌, ◌&&◌, ◌≤◌, zero, suc, Bool, true, false, List, [], ◌∷◌, Option, Some, None, fold, refl, sym, ap, subst, ◌∙◌, arith, if◌then◌else◌, is_some, nat_tests, fold-append, lookup, set_value, slice_get, is_at, same_tid, tid_cmp, same_tid-true, Member, Outcome, Tid, changed_either, changed_none, lookup_changed, BookValue, cell_of_transaction, find_transaction, with_transaction, is_recoverable, abort_begun, begun_tid, commit_found}
+use Rattle.qs_world_lawful.proofs.Words.{is_among, is_open_here, learn_found, member_at, record_at, up_to, TransactionValue, cell_of, decided_at, has_learnt, is_open, with_learnt, Cell, Cause, Every, eqb_turned, eqb-true, and_right}
 use Rattle.qs_base.specs.declared.identifiers.Outcome.TheVariants as outcomes
-use Rattle.qs_base.specs.declared.identifiers.Tid.{Tid}
-use Rattle.qs_book_laws.proofs.Maps.{changed_either, changed_none, lookup_changed}
-use Rattle.qs_book_machine.specs.Book.{BookValue, cell_of_transaction, decide, find_transaction, with_transaction}
+use Rattle.qs_book_machine.specs.Book.{decide}
 use Rattle.qs_book_machine.specs.Nodes as machine
-use Rattle.qs_book_machine.specs.Nodes.{is_recoverable}
-use Rattle.qs_book_machine.specs.Restart.{abort_begun, begun_tid, commit_found, is_among, is_open_here, learn_found, member_at, record_at, up_to}
-use Rattle.qs_book_machine.specs.Transaction.{TransactionValue, cell_of, decided_at, has_learnt, is_open, with_learnt}
 use Rattle.qs_book_machine.specs.Transaction as transaction
-use Rattle.qs_book_machine.specs.declared.transaction.Cell.{Cell}
 use Rattle.qs_book_machine.specs.declared.transaction.Cell.TheVariants as cells
 use Rattle.qs_ops.specs.Servers.{audit_no, extra_no, files_no}
-use Rattle.qs_ops.specs.declared.answer.Cause.{Cause}
-use Rattle.qs_world_lawful.specs.Logs.{Every}
 use Rattle.qs_world_lawful.proofs.LearntOn.{has_learnt_now}
 use Rattle.qs_world_lawful.proofs.RestartGoes.{Goes, Onward, on_self, on_then, on_fold, on_if, commit_on, abort_on, learn_on, decide_on}
 
@@ -52,10 +36,6 @@ decided_shut : (outcome : Outcome) → is_open (cell_of outcome) ≡ false
 decided_shut outcomes.Commit = refl
 decided_shut outcomes.Abort = refl
 
-and_right_false : (a b : Bool) → b ≡ false → (a && b) ≡ false
-and_right_false true b h = h
-and_right_false false b h = refl
-
 -- once it is decided
 shut_now : (here : ℕ) (tid : Tid) (outcome : Outcome) (cause : Option Cause) (book : BookValue) → Shut here tid (if is_open_here here tid (find_transaction book tid) then decide tid outcome cause book else book)
 shut_now here tid outcome cause book = by (is_open_here here tid (find_transaction book tid)) refl (find_transaction book tid) refl
@@ -66,7 +46,7 @@ shut_now here tid outcome cause book = by (is_open_here here tid (find_transacti
       where
         none : is_open_here here tid (find_transaction book tid) ≡ true → ⊥
         none e = cc (sym (ap (is_open_here here tid) found) ∙ e)
-    by true is (Some tx) found = ap (is_open_here here tid) (lookup_changed (is_at (tid_cmp tid)) (decided_at book.place outcome cause) book.transactions tx found) ∙ and_right_false (tid.home.0 == here) _ (decided_shut outcome)
+    by true is (Some tx) found = ap (is_open_here here tid) (lookup_changed (is_at (tid_cmp tid)) (decided_at book.place outcome cause) book.transactions tx found) ∙ and_right (tid.home.0 == here) _ (decided_shut outcome)
 
 commit_shut : (here : ℕ) (P : Member → ℕ → Type 0) (tid : Tid) (book : BookValue) → Shut here tid (commit_found here book tid)
 commit_shut here P tid book = shut_now here tid outcomes.Commit None (learn_found here tid extra_no (learn_found here tid audit_no (learn_found here tid files_no book)))
@@ -110,9 +90,6 @@ aborts_shut here P old tid (suc n) book home is_old low high =
     mid : BookValue
     mid = fold (abort_begun here old) book (up_to n)
 
-    is_last : (k m : ℕ) → (k == m) ≡ true → m ≡ k
-    is_last k m e = grind (arith, nat_tests, e)
-
     is_less : (k m : ℕ) → k ≤ suc m → (k == suc m) ≡ false → k ≤ m
     is_less k m e f = grind (arith, nat_tests, e, f)
 
@@ -120,7 +97,7 @@ aborts_shut here P old tid (suc n) book home is_old low high =
     own m same = rw (same, sym home, sym is_old) refl
 
     by : (b : Bool) → (tid.seq == suc n) ≡ b → (tid.seq ≤ n → Shut here tid mid) → Shut here tid (abort_begun here old mid (suc n))
-    by true last more = subst (λ (t : Tid). Shut here t (abort_begun here old mid (suc n))) (own (suc n) (is_last tid.seq (suc n) last)) (shut_now here (begun_tid here old (suc n)) outcomes.Abort _ mid)
+    by true last more = subst (λ (t : Tid). Shut here t (abort_begun here old mid (suc n))) (own (suc n) (eqb_turned tid.seq (suc n) last)) (shut_now here (begun_tid here old (suc n)) outcomes.Abort _ mid)
     by false other more = shut_on here P tid mid (abort_begun here old mid (suc n)) (abort_on here P old mid (suc n)) (more (is_less tid.seq n high other))
 
 -- ---- which outcome
@@ -250,19 +227,16 @@ commit_learns here P tid server book kept some = by (server == files_no) (server
     last : Onward here P c (commit_found here book tid)
     last = on_if (is_open_here here tid (find_transaction c tid)) here P c (decide tid outcomes.Commit None c) c (decide_on here P tid outcomes.Commit None c) (on_self here P c)
 
-    no_is : (n m : ℕ) → (n == m) ≡ true → n ≡ m
-    no_is n m e = grind (arith, nat_tests, e)
-
     extra : (n : ℕ) → is_recoverable n ≡ true → (n == files_no) ≡ false → (n == audit_no) ≡ false → n ≡ extra_no
     extra n k e f = grind (arith, nat_tests, k, e, f)
 
     by : (p q : Bool) → (server == files_no) ≡ p → (server == audit_no) ≡ q → Learnt tid (member_at here server) (commit_found here book tid)
-    by true q is _ = subst (λ (n : ℕ). Learnt tid (member_at here n) (commit_found here book tid)) (sym (no_is server files_no is))
+    by true q is _ = subst (λ (n : ℕ). Learnt tid (member_at here n) (commit_found here book tid)) (sym (eqb-true server files_no is))
         (learnt_stays here P tid (member_at here files_no) a (commit_found here book tid) (on_then here P a b (commit_found here book tid) to_b (on_then here P b c (commit_found here book tid) to_c last))
-        (learn_now here tid files_no book (subst (λ (n : ℕ). is_some (record_at here book tid n) ≡ true) (no_is server files_no is) some)))
-    by false true _ is = subst (λ (n : ℕ). Learnt tid (member_at here n) (commit_found here book tid)) (sym (no_is server audit_no is))
+        (learn_now here tid files_no book (subst (λ (n : ℕ). is_some (record_at here book tid n) ≡ true) (eqb-true server files_no is) some)))
+    by false true _ is = subst (λ (n : ℕ). Learnt tid (member_at here n) (commit_found here book tid)) (sym (eqb-true server audit_no is))
         (learnt_stays here P tid (member_at here audit_no) b (commit_found here book tid) (on_then here P b c (commit_found here book tid) to_c last)
-        (learn_now here tid audit_no a (ap is_some (record_same here tid audit_no book a to_a.nodes) ∙ subst (λ (n : ℕ). is_some (record_at here book tid n) ≡ true) (no_is server audit_no is) some)))
+        (learn_now here tid audit_no a (ap is_some (record_same here tid audit_no book a to_a.nodes) ∙ subst (λ (n : ℕ). is_some (record_at here book tid n) ≡ true) (eqb-true server audit_no is) some)))
     by false false not_files not_audit = subst (λ (n : ℕ). Learnt tid (member_at here n) (commit_found here book tid)) (sym (extra server kept not_files not_audit))
         (learnt_stays here P tid (member_at here extra_no) c (commit_found here book tid) last
         (learn_now here tid extra_no b (ap is_some (record_same here tid extra_no a b to_b.nodes ∙ record_same here tid extra_no book a to_a.nodes) ∙ subst (λ (n : ℕ). is_some (record_at here book tid n) ≡ true) (extra server kept not_files not_audit) some)))

@@ -1,32 +1,13 @@
 -- What a restart leaves of each transaction of the machine, and what it changes: members of its node learn commit, its votes are found, and
 -- what is open at its home is decided.
-use Rattle.std.proofs.Common.{◌≡◌, ◌⊎◌, inl, inr, ℕ, ◌==◌, ◌&&◌, Bool, true, false, List, [], ◌∷◌, Option, Some, None, fold, refl, sym, ap, subst, ◌∙◌, arith, if◌then◌else◌, is_some}
-use Rattle.std.proofs.lemmas.Bool.Decides.{nat_tests}
-use Rattle.std.specs.List.{list_all}
-use Rattle.std.specs.Map.{lookup}
-use Rattle.std.specs.BTreeMap.{insert_entry, is_at}
-use Rattle.qs_base.specs.Order.{tid_cmp}
-use Rattle.std.specs.declared.cmp.Ordering.{Ordering}
-use Rattle.std.specs.declared.cmp.Ordering.TheVariants.{Less, Equal, Greater}
-use Rattle.qs_base.specs.declared.identifiers.Class.{Class}
+use Rattle.qs_world_lawful.proofs.Words.{◌≡◌, ◌⊎◌, inl, inr, ℕ, ◌==◌, ◌&&◌, Bool, true, false, List, [], ◌∷◌, Option, Some, None, fold, refl, sym, ap, subst, ◌∙◌, if◌then◌else◌, is_some, list_all, lookup, insert_entry, is_at, tid_cmp, Ordering, Less, Equal, Greater, Class, Member, Outcome, Tid, Found, changed_apart, changed_none, lookup_changed, BookValue, find_transaction, with_transaction, is_recoverable, abort_begun, begun_tid, commit_found, count_of, is_among, is_open_here, learn_found}
+use Rattle.qs_world_lawful.proofs.Words.{member_at, record_at, vote_found, class_of, TransactionValue, agrees, decided_at, found_at, has_learnt, is_open, life, with_learnt, Life, Part, Cause, Every, eqb-self, and_last, and_parts}
 use Rattle.qs_base.specs.declared.identifiers.Class.TheVariants as classes
-use Rattle.qs_base.specs.declared.identifiers.Member.{Member}
-use Rattle.qs_base.specs.declared.identifiers.Outcome.{Outcome}
 use Rattle.qs_base.specs.declared.identifiers.Outcome.TheVariants as outcomes
-use Rattle.qs_base.specs.declared.identifiers.Tid.{Tid}
-use Rattle.qs_book_journal.specs.declared.entry.Found.{Found}
-use Rattle.qs_book_laws.proofs.Maps.{changed_apart, changed_none, lookup_changed}
-use Rattle.qs_book_machine.specs.Book.{BookValue, decide, find_transaction, with_transaction}
-use Rattle.qs_book_machine.specs.Nodes.{is_recoverable}
-use Rattle.qs_book_machine.specs.Restart.{abort_begun, begun_tid, commit_found, count_of, is_among, is_open_here, learn_found, member_at, record_at, vote_found}
-use Rattle.qs_ops.specs.Members.{class_of}
-use Rattle.qs_book_machine.specs.Transaction.{TransactionValue, agrees, agrees_in, decided_at, found_at, has_learnt, is_open, life, part_of, with_learnt}
+use Rattle.qs_book_machine.specs.Book.{decide}
+use Rattle.qs_book_machine.specs.Transaction.{agrees_in, part_of}
 use Rattle.qs_book_machine.specs.Transaction as transaction
-use Rattle.qs_book_machine.specs.declared.transaction.Life.{Life}
-use Rattle.qs_book_machine.specs.declared.transaction.Part.{Part}
 use Rattle.qs_ops.specs.Servers.{audit_no, extra_no, files_no}
-use Rattle.qs_ops.specs.declared.answer.Cause.{Cause}
-use Rattle.qs_world_lawful.specs.Logs.{Every}
 use Rattle.qs_world_lawful.proofs.Apart.{Apart, same_or_apart}
 use Rattle.qs_world_lawful.proofs.LearntOn.{more_learnt}
 use Rattle.qs_world_lawful.proofs.Parts.{LivesApart, put_part_apart}
@@ -39,19 +20,15 @@ IsElsewhere here inc member i = ((member.node.0 == here) && ((i == inc) && is_re
 -- a part that agrees is put in among parts that do
 agree_put : (l : Life) (part : Part) → agrees_in (class_of l.member.server.0) part ≡ true → (parts : List (Life × Part)) → list_all agrees parts ≡ true → list_all agrees (insert_entry transaction.life_cmp parts l part) ≡ true
 agree_put l part own [] all = rw own refl
-agree_put l part own (e ∷ parts) all = by (transaction.life_cmp l e.0) refl (agree_put l part own parts (and_both (agrees e) _ all).1)
+agree_put l part own (e ∷ parts) all = by (transaction.life_cmp l e.0) refl (agree_put l part own parts (and_parts (agrees e) _ all).1)
   where
-    and_both : (a b : Bool) → (a && b) ≡ true → (a ≡ true) × (b ≡ true)
-    and_both true b e = (refl, e)
-    and_both false b e = absurd (cc e)
-
     same : transaction.life_cmp l e.0 ≡ Equal → agrees_in (class_of e.0.member.server.0) part ≡ true
     same is = subst (λ (x : Life). agrees_in (class_of x.member.server.0) part ≡ true) (life_exact l e.0 (rw is refl)) own
 
     by : (o : Ordering) → transaction.life_cmp l e.0 ≡ o → list_all agrees (insert_entry transaction.life_cmp parts l part) ≡ true → list_all agrees (insert_entry transaction.life_cmp (e ∷ parts) l part) ≡ true
     by Less is more = rw (is, own) all
-    by Equal is more = rw (is, same is) (and_both (agrees e) _ all).1
-    by Greater is more = rw (is, (and_both (agrees e) _ all).0) more
+    by Equal is more = rw (is, same is) (and_parts (agrees e) _ all).1
+    by Greater is more = rw (is, (and_parts (agrees e) _ all).0) more
 
 agrees_found : (c : Class) (covers changes : ℕ) → agrees_in c (transaction.found_part covers changes) ≡ true
 agrees_found classes.Recoverable covers changes = refl
@@ -119,17 +96,13 @@ goes_decided here P tid place outcome cause tx is = record {
   starts = refl;
   refusals = refl;
   agree = λ all. all;
-  when = inr (open_of (tid.home.0 == here) (is_open tx.cell) is, refl);
+  when = inr (and_last (tid.home.0 == here) (is_open tx.cell) is, refl);
   parts = λ member i far. refl;
   decided = λ shut. absurd (clash (tid.home.0 == here) (is_open tx.cell) is (inr shut));
   away = λ far. absurd (clash (tid.home.0 == here) (is_open tx.cell) is (inl far));
   learnt = λ member is. is;
 }
   where
-    open_of : (a b : Bool) → (a && b) ≡ true → b ≡ true
-    open_of true b e = e
-    open_of false b e = absurd (cc e)
-
     clash : (a b : Bool) → (a && b) ≡ true → (a ≡ false) ⊎ (b ≡ false) → ⊥
     clash true true e (inl f) = cc f
     clash true true e (inr f) = cc f
@@ -154,11 +127,8 @@ goes_found here P inc place apart tid server covers changes kept tx = record { r
             number_of : i ≡ inc
             number_of = sym (ap (λ (l : Life). l.inc) same)
 
-            self : (n : ℕ) → (n == n) ≡ true
-            self n = grind (arith, nat_tests)
-
             at : ((member.node.0 == here) && ((i == inc) && is_recoverable member.server.0)) ≡ true
-            at = rw (node, number_of, number, self here, self inc) kept
+            at = rw (node, number_of, number, eqb-self here, eqb-self inc) kept
 
         by : (life (member_at here server) inc ≡ life member i) ⊎ LivesApart (life (member_at here server) inc) (life member i) → part_of (found_at (member_at here server) inc covers changes tx) member i ≡ part_of tx member i
         by (inl same) = absurd (clash same)

@@ -1,29 +1,12 @@
 -- As a restart decides a transaction its owner may be told so; and what an owner could be told it can be told still.
-use Rattle.std.proofs.Common.{◌≡◌, ◌⊎◌, inl, inr, ℕ, true, List, [], ◌∷◌, Option, Some, None, fold, refl, sym, ap, subst, ◌∙◌, is_some}
-use Rattle.std.specs.Prelude.{slice_get, slice_set}
-use Rattle.std.specs.Map.{lookup}
-use Rattle.std.specs.BTreeMap.{is_at}
-use Rattle.qs_base.specs.Order.{tid_cmp}
-use Rattle.qs_base.specs.declared.identifiers.ClientNo.{ClientNo}
-use Rattle.qs_base.specs.declared.identifiers.Outcome.{Outcome}
-use Rattle.qs_base.specs.declared.identifiers.Tid.{Tid}
-use Rattle.qs_node_kept.specs.declared.kept.Decided.{Decided}
-use Rattle.qs_book_laws.proofs.Maps.{changed_apart, changed_at_either, changed_at_here, changed_none, lookup_changed}
-use Rattle.qs_book_machine.specs.Book.{BookValue, changed_at, decide, find_transaction, owner_of, told, told_owner, with_transaction}
-use Rattle.qs_book_machine.specs.Clauses.{is_known}
-use Rattle.qs_book_machine.specs.Transaction.{TransactionValue, cell_of, decided_at, is_outcome}
+use Rattle.qs_world_lawful.proofs.Words.{◌≡◌, ◌⊎◌, inl, inr, ℕ, true, List, [], ◌∷◌, Option, Some, None, fold, refl, sym, ap, subst, ◌∙◌, is_some, slice_get, slice_set, lookup, is_at, tid_cmp, ClientNo, Outcome, Tid, Decided, changed_apart, changed_at_either, changed_at_here, changed_none, lookup_changed, BookValue, changed_at, find_transaction, owner_of, told, told_owner, with_transaction, is_known, TransactionValue, cell_of, decided_at, is_outcome, Owner, Cause, outcome_answer, MayBeTold}
+use Rattle.qs_world_lawful.proofs.Words.{same_Some}
+use Rattle.qs_book_machine.specs.Book.{decide}
 use Rattle.qs_book_machine.specs.Transaction as transaction
-use Rattle.qs_book_machine.specs.declared.state.Owner.{Owner}
-use Rattle.qs_ops.specs.declared.answer.Cause.{Cause}
-use Rattle.qs_node_step.specs.Commands.{outcome_answer}
-use Rattle.qs_world_lawful.specs.Holds.{MayBeTold}
 use Rattle.qs_world_lawful.proofs.Apart.{Apart, same_or_apart}
 use Rattle.qs_world_lawful.proofs.Told.{known_now, known_still}
 
 -- ---- owners
-
-some_same : {X : Type 0} (x y : X) → Some x ≡ Some y → x ≡ y
-some_same x y e = ap (λ (o : Option _). elim o [ None ↦ x | Some z ↦ z ]) e
 
 pub told_still : (o : Option ClientNo) (outcome : Outcome) (cause : Option Cause) (owners : List Owner) (client : ℕ) (owner : Owner) → slice_get owners client ≡ Some owner
     → (now : Owner) × (slice_get (told_owner o outcome cause owners) client ≡ Some now) × ((now ≡ owner) ⊎ (now ≡ told outcome cause owner))
@@ -36,7 +19,7 @@ told_still (Some c) outcome cause owners client owner there = by (slice_get owne
       where
         of : ((client ≡ c.0) × (slice_get owners client ≡ Some v) × (slice_get (changed_at c.0 (told outcome cause) owners) client ≡ Some (told outcome cause v))) ⊎ (slice_get (changed_at c.0 (told outcome cause) owners) client ≡ slice_get owners client)
             → (now : Owner) × (slice_get (changed_at c.0 (told outcome cause) owners) client ≡ Some now) × ((now ≡ owner) ⊎ (now ≡ told outcome cause owner))
-        of (inl own) = (told outcome cause v, own.2, inr (ap (told outcome cause) (some_same v owner (sym own.1 ∙ there))))
+        of (inl own) = (told outcome cause v, own.2, inr (ap (told outcome cause) (same_Some v owner (sym own.1 ∙ there))))
         of (inr same) = (owner, same ∙ there, inl refl)
 
 pub may_still : (tid : Tid) (outcome : Outcome) (cause : Option Cause) (book : BookValue) (client : ClientNo) (d : Decided) → MayBeTold book client d → MayBeTold (decide tid outcome cause book) client d
@@ -78,7 +61,7 @@ owner_changed tid t d f cells owners book h = record {
         own : (o : Option TransactionValue) → find_transaction book tid ≡ o → find_transaction (with_transaction tid f book) tid ≡ Some tx → (old : TransactionValue) × (find_transaction book tid ≡ Some old) × ((tx.cell ≡ old.cell) × (tx.owner ≡ old.owner))
         own None none at = absurd (cc (sym (changed_none (is_at (tid_cmp tid)) f book.transactions none) ∙ at))
         own (Some old) there at =
-            let same : f old ≡ tx = some_same (f old) tx (sym (lookup_changed (is_at (tid_cmp tid)) f book.transactions old there) ∙ at) in
+            let same : f old ≡ tx = same_Some (f old) tx (sym (lookup_changed (is_at (tid_cmp tid)) f book.transactions old there) ∙ at) in
             (old, there, (ap (λ (x : TransactionValue). x.cell) (sym same) ∙ cells old, ap (λ (x : TransactionValue). x.owner) (sym same) ∙ owners old))
 
         by : (t ≡ tid) ⊎ Apart t tid → (old : TransactionValue) × (find_transaction book tid ≡ Some old) × ((tx.cell ≡ old.cell) × (tx.owner ≡ old.owner))
@@ -107,7 +90,7 @@ owner_decided tid t d outcome cause book fits h = record { has = has; told_as = 
       where
         by : (o : Option TransactionValue) → find_transaction book tid ≡ o → lookup (is_at (tid_cmp tid)) (transaction.changed_value (is_at (tid_cmp tid)) f book.transactions) ≡ Some tx → (old : TransactionValue) × (find_transaction book tid ≡ Some old) × (f old ≡ tx)
         by None none at = absurd (cc (sym (changed_none (is_at (tid_cmp tid)) f book.transactions none) ∙ at))
-        by (Some old) there at = (old, there, some_same (f old) tx (sym (lookup_changed (is_at (tid_cmp tid)) f book.transactions old there) ∙ at))
+        by (Some old) there at = (old, there, same_Some (f old) tx (sym (lookup_changed (is_at (tid_cmp tid)) f book.transactions old there) ∙ at))
 
     has : HasOwner tid (decide t outcome cause book)
     has tx client found owned = by (same_or_apart t tid)

@@ -1,24 +1,11 @@
 -- What is in doubt in a log is pending again at files and audit of the node, and at the machine's tables of them where it is not crossed.
-use Rattle.std.proofs.Common.{◌≡◌, ℕ, ◌==◌, ◌&&◌, ◌||◌, not, Bool, true, false, List, [], ◌∷◌, map, flat_map, fold, refl, sym, ap, subst, ◌∙◌, arith, if◌then◌else◌}
-use Rattle.std.proofs.lemmas.Bool.Decides.{nat_tests}
-use Rattle.std.proofs.lemmas.List.Sums.{fold-append}
-use Rattle.std.specs.List.{filter, list_all}
-use Rattle.qs_base.specs.declared.identifiers.Tid.{Tid}
-use Rattle.qs_book_machine.specs.Book.{BookValue, crossed_in, find_transaction}
-use Rattle.qs_book_machine.specs.Nodes.{is_recoverable}
-use Rattle.qs_book_machine.specs.Restart.{changes_at, is_among, keep_found, member_at}
-use Rattle.qs_ops.specs.Server.{ServerValue}
+use Rattle.qs_world_lawful.proofs.Words.{◌≡◌, ℕ, ◌==◌, ◌&&◌, ◌||◌, not, Bool, true, false, List, [], ◌∷◌, map, flat_map, fold, refl, sym, ap, subst, ◌∙◌, arith, if◌then◌else◌, nat_tests, fold-append, filter, list_all, Tid, BookValue, crossed_in, find_transaction, is_recoverable, is_among, member_at, ServerValue, TableValue, kept, Op, Prepared, is_in_doubt, names_transaction, open_vote, prepare_of, ServersValue, Every, HoldsTable, eqb-true, and_parts}
+use Rattle.qs_book_machine.specs.Restart.{changes_at, keep_found}
 use Rattle.qs_ops.specs.Servers.{audit_no, extra_no, files_no}
-use Rattle.qs_ops.specs.Table.{TableValue, kept}
-use Rattle.qs_ops.specs.declared.operation.Op.{Op}
 use Rattle.qs_ops.specs.declared.server.ServerKind.TheVariants as kinds
 use Rattle.qs_ops.specs.declared.share.KeptChanges.{KeptChanges}
-use Rattle.qs_restart.specs.Recovery.{Prepared, is_in_doubt, names_transaction, open_vote, prepare_of}
-use Rattle.qs_node_servers.specs.Servers.{ServersValue}
 use Rattle.qs_node_step.specs.Opening.{keep_changes}
 use Rattle.qs_world.specs.Moves as moves
-use Rattle.qs_world_lawful.specs.Logs.{Every}
-use Rattle.qs_world_lawful.specs.Tables.{HoldsTable}
 use Rattle.qs_world_lawful.proofs.RestartVotes.{IsSorted}
 use Rattle.qs_world_lawful.proofs.Tables.{hide_table, put_table}
 
@@ -61,11 +48,8 @@ module _ (servers : ServersValue) (h : HasLogged servers) (v : Prepared) where
       extra_is : (n : ℕ) → is_recoverable n ≡ true → (n == files_no) ≡ false → (n == audit_no) ≡ false → n ≡ extra_no
       extra_is n e f g = grind (arith, nat_tests, e, f, g)
 
-      no_is : (n m : ℕ) → (n == m) ≡ true → n ≡ m
-      no_is n m e = grind (arith, nat_tests, e)
-
       by : (f a : Bool) → (v.server.0 == files_no) ≡ f → (v.server.0 == audit_no) ≡ a → One f a
-      by true true f a = absurd (cc (rw (no_is v.server.0 files_no f) at a))
+      by true true f a = absurd (cc (rw (eqb-true v.server.0 files_no f) at a))
       by true false f a = rw f (record { files_are = rw (h.files) refl; audit_is = refl; names_same = refl; timers_same = refl; windows_same = refl; scratch_same = refl; extra_same = refl })
       by false true f a = rw (f, a) (record { files_are = refl; audit_is = rw (h.audit) refl; names_same = refl; timers_same = refl; windows_same = refl; scratch_same = refl; extra_same = refl })
       by false false f a = rw (extra_is v.server.0 recoverable f a) (record { files_are = refl; audit_is = refl; names_same = refl; timers_same = refl; windows_same = refl; scratch_same = refl; extra_same = rw (h.extra) refl })
@@ -95,12 +79,8 @@ logged_then old new f a t h = record {
 pub tables_kept : (votes : List Prepared) (servers : ServersValue) → HasLogged servers → list_all (λ (v : Prepared). is_recoverable v.server.0) votes ≡ true
     → HaveTables servers (fold keep_changes servers (map prepare_of (filter is_in_doubt votes))) (fold (take_changes files_no) servers.files.table votes) (fold (take_changes audit_no) servers.audit.table votes)
 tables_kept [] servers h may = tables_self servers
-tables_kept (v ∷ votes) servers h may = by (is_in_doubt v) refl (λ s t. tables_kept votes s t (and_both (is_recoverable v.server.0) _ may).1)
+tables_kept (v ∷ votes) servers h may = by (is_in_doubt v) refl (λ s t. tables_kept votes s t (and_parts (is_recoverable v.server.0) _ may).1)
   where
-    and_both : (a b : Bool) → (a && b) ≡ true → (a ≡ true) × (b ≡ true)
-    and_both true b e = (refl, e)
-    and_both false b e = absurd (cc e)
-
     by : (b : Bool) → is_in_doubt v ≡ b
         → ((s : ServersValue) → HasLogged s → HaveTables s (fold keep_changes s (map prepare_of (filter is_in_doubt votes))) (fold (take_changes files_no) s.files.table votes) (fold (take_changes audit_no) s.audit.table votes))
         → HaveTables servers (fold keep_changes servers (map prepare_of (if b then v ∷ filter is_in_doubt votes else filter is_in_doubt votes))) (fold (take_changes files_no) (take_changes files_no servers.files.table v) votes) (fold (take_changes audit_no) (take_changes audit_no servers.audit.table v) votes)
@@ -117,7 +97,7 @@ tables_kept (v ∷ votes) servers h may = by (is_in_doubt v) refl (λ s t. table
         audit = if v.server.0 == audit_no then kept servers.audit.table (record { tid = v.tid; changes = v.changes }) else servers.audit.table
 
         first : HaveTables servers mid files audit
-        first = kept_one servers h v (and_both (is_recoverable v.server.0) _ may).0
+        first = kept_one servers h v (and_parts (is_recoverable v.server.0) _ may).0
 
         rest : HaveTables mid (fold keep_changes mid (map prepare_of (filter is_in_doubt votes))) (fold (take_changes files_no) files votes) (fold (take_changes audit_no) audit votes)
         rest = subst (λ (t : TableValue). HaveTables mid (fold keep_changes mid (map prepare_of (filter is_in_doubt votes))) (fold (take_changes files_no) t votes) (fold (take_changes audit_no) audit votes)) (ap (λ (s : ServerValue). s.table) first.files_are)

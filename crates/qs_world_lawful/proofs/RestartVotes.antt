@@ -1,24 +1,10 @@
 -- A vote that a restart finds in doubt is its member's part in the new incarnation; of every other member nothing stands in it.
-use Rattle.std.proofs.Common.{◌≡◌, ◌≢◌, ◌⊎◌, inl, inr, ℕ, ◌==◌, ◌&&◌, not, Bool, true, false, List, [], ◌∷◌, map, Option, Some, None, fold, refl, sym, ap, subst, ◌∙◌, arith, if◌then◌else◌, unwrap_or}
-use Rattle.std.proofs.lemmas.Bool.Decides.{nat_tests}
-use Rattle.std.specs.List.{filter}
-use Rattle.std.specs.Prelude.{slice_get}
-use Rattle.std.specs.BTreeMap.{is_at}
-use Rattle.qs_base.specs.Order.{same_tid, tid_cmp}
-use Rattle.qs_base.proofs.Same.{same_tid-self}
-use Rattle.qs_base.specs.declared.identifiers.Tid.{Tid}
-use Rattle.qs_book_laws.proofs.Maps.{changed_apart, changed_none, lookup_changed, lookup_put}
-use Rattle.qs_book_machine.specs.Book.{BookValue, find_transaction, with_transaction}
+use Rattle.qs_world_lawful.proofs.Words.{◌≡◌, ◌⊎◌, inl, inr, ℕ, ◌==◌, ◌&&◌, not, Bool, true, false, List, [], ◌∷◌, map, Option, Some, None, fold, refl, sym, ap, subst, ◌∙◌, if◌then◌else◌, unwrap_or, filter, slice_get, is_at, same_tid, tid_cmp, same_tid-self, Tid, changed_apart, changed_none, lookup_changed, lookup_put, BookValue, find_transaction, with_transaction, count_of, is_among, member_at, record_at, vote_found, TransactionValue, found_at, found_part, life, no_part, Life, Part, Prepared}
+use Rattle.qs_world_lawful.proofs.Words.{names_transaction, open_vote, last_doubt, Every, found_of, eqb-true, eqb-false, same_Some}
 use Rattle.qs_book_machine.specs.Nodes as machine
-use Rattle.qs_book_machine.specs.Restart.{count_of, is_among, member_at, record_at, vote_found}
-use Rattle.qs_book_machine.specs.Transaction.{TransactionValue, found_at, found_part, life, no_part, part_of}
+use Rattle.qs_book_machine.specs.Transaction.{part_of}
 use Rattle.qs_book_machine.specs.Transaction as transaction
-use Rattle.qs_book_machine.specs.declared.transaction.Life.{Life}
-use Rattle.qs_book_machine.specs.declared.transaction.Part.{Part}
-use Rattle.qs_restart.specs.Recovery.{Prepared, names_transaction, open_vote}
 use Rattle.qs_world.specs.Moves as moves
-use Rattle.qs_world_lawful.specs.Doubtful.{last_doubt}
-use Rattle.qs_world_lawful.specs.Logs.{Every, found_of}
 use Rattle.qs_world_lawful.proofs.Apart.{Apart, same_or_apart}
 use Rattle.qs_world_lawful.proofs.Keys.{same_key_or, life_exact, life_itself}
 use Rattle.qs_world_lawful.proofs.Parts.{LivesApart, put_part_apart}
@@ -41,9 +27,6 @@ module _ (here inc : ℕ) (done : List Tid) (tid : Tid) (s count : ℕ) where
   abbrev pub HasPart : Option Prepared → BookValue → Type 0
   HasPart vote book = (tx : TransactionValue) → find_transaction book tid ≡ Some tx → part_of tx (member_at here s) inc ≡ part_as None vote count
 
-  some_is : (x y : TransactionValue) → Some x ≡ Some y → x ≡ y
-  some_is x y e = ap (λ (o : Option TransactionValue). elim o [ None ↦ x | Some z ↦ z ]) e
-
   own_life : (covers changes : ℕ) (tx : TransactionValue) → part_of (found_at (member_at here s) inc covers changes tx) (member_at here s) inc ≡ found_part covers changes
   own_life covers changes tx = ap (λ (o : Option Part). unwrap_or o no_part) (lookup_put transaction.life_cmp (life (member_at here s) inc) (found_part covers changes) (life_itself (life (member_at here s) inc)) tx.parts)
 
@@ -65,24 +48,18 @@ module _ (here inc : ℕ) (done : List Tid) (tid : Tid) (s count : ℕ) where
               at (inr far) = rw far.by (λ tx found. h tx (sym (changed_apart (is_at (tid_cmp v.tid)) (is_at (tid_cmp tid)) far.keys (found_at (member_at here v.server.0) inc v.covers (count_of (record_at here book v.tid v.server.0))) book.transactions) ∙ found))
               at (inl same) = subst (λ (u : Tid). HasPart (if same_tid u tid && (v.server.0 == s) then Some v else before) (with_transaction u (found_at (member_at here v.server.0) inc v.covers (count_of (record_at here book u v.server.0))) book)) (sym same) (rw (same_tid-self tid) (server (v.server.0 == s) refl))
                 where
-                  no_is : (n m : ℕ) → (n == m) ≡ true → n ≡ m
-                  no_is n m e = grind (arith, nat_tests, e)
-
-                  no_other : (n m : ℕ) → (n == m) ≡ false → n ≢ m
-                  no_other n m e f = grind (arith, nat_tests, e, f)
-
                   was : (f : TransactionValue → TransactionValue) (tx : TransactionValue) → find_transaction (with_transaction tid f book) tid ≡ Some tx → (old : TransactionValue) × (find_transaction book tid ≡ Some old) × (f old ≡ tx)
                   was f tx found = of (find_transaction book tid) refl
                     where
                       of : (o : Option TransactionValue) → find_transaction book tid ≡ o → (old : TransactionValue) × (find_transaction book tid ≡ Some old) × (f old ≡ tx)
                       of None none = absurd (cc (sym (changed_none (is_at (tid_cmp tid)) f book.transactions none) ∙ found))
-                      of (Some old) there = (old, there, some_is (f old) tx (sym (lookup_changed (is_at (tid_cmp tid)) f book.transactions old there) ∙ found))
+                      of (Some old) there = (old, there, same_Some (f old) tx (sym (lookup_changed (is_at (tid_cmp tid)) f book.transactions old there) ∙ found))
 
                   server : (b : Bool) → (v.server.0 == s) ≡ b → HasPart (if b then Some v else before) (with_transaction tid (found_at (member_at here v.server.0) inc v.covers (count_of (record_at here book tid v.server.0))) book)
                   server true is tx found =
                       let old = was (found_at (member_at here v.server.0) inc v.covers (count_of (record_at here book tid v.server.0))) tx found in
                       subst (λ (x : TransactionValue). part_of x (member_at here s) inc ≡ put) old.2
-                      (subst (λ (n : ℕ). part_of (found_at (member_at here n) inc v.covers (count_of (record_at here book tid n)) old.0) (member_at here s) inc ≡ put) (sym (no_is v.server.0 s is))
+                      (subst (λ (n : ℕ). part_of (found_at (member_at here n) inc v.covers (count_of (record_at here book tid n)) old.0) (member_at here s) inc ≡ put) (sym (eqb-true v.server.0 s is))
                       (own_life v.covers (count_of (record_at here book tid s)) old.0 ∙ ap (found_part v.covers) count_is))
                   server false far tx found =
                       let old = was (found_at (member_at here v.server.0) inc v.covers (count_of (record_at here book tid v.server.0))) tx found in
@@ -93,7 +70,7 @@ module _ (here inc : ℕ) (done : List Tid) (tid : Tid) (s count : ℕ) where
                       left old = apart (same_key_or transaction.life_cmp life_exact life_itself (life (member_at here v.server.0) inc) (life (member_at here s) inc))
                         where
                           apart : (life (member_at here v.server.0) inc ≡ life (member_at here s) inc) ⊎ LivesApart (life (member_at here v.server.0) inc) (life (member_at here s) inc) → part_of (found_at (member_at here v.server.0) inc v.covers (count_of (record_at here book tid v.server.0)) old) (member_at here s) inc ≡ part_of old (member_at here s) inc
-                          apart (inl same) = absurd (no_other v.server.0 s far (ap (λ (l : Life). l.member.server.0) same))
+                          apart (inl same) = absurd (eqb-false v.server.0 s far (ap (λ (l : Life). l.member.server.0) same))
                           apart (inr is) = put_part_apart (life (member_at here v.server.0) inc) (found_part v.covers (count_of (record_at here book tid v.server.0))) old.parts (member_at here s) inc is
 
   nodes_same : (book : BookValue) (v : Prepared) → (find_vote here inc done book v).nodes ≡ book.nodes

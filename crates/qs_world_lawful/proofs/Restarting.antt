@@ -1,36 +1,15 @@
 -- Clauses 110 to 113: what a restart finds in the log of a node that stopped.
-use Rattle.std.proofs.Common.{◌≡◌, ◌⊎◌, inl, inr, ℕ, Bool, true, false, List, [], ◌∷◌, Option, Some, None, refl, ap, ◌∙◌, map, nat_lt}
-use Rattle.std.specs.Prelude.{not, ◌&&◌, ◌||◌, if◌then◌else◌}
-use Rattle.std.specs.List.{list_all, filter}
-use Rattle.qs_base.specs.declared.identifiers.Tid.{Tid}
-use Rattle.qs_record.specs.declared.record.Record.{Record}
-use Rattle.qs_book_machine.specs.Transaction.{TransactionValue, has_learnt}
-use Rattle.qs_book_machine.specs.Book.{BookValue, find_transaction}
+use Rattle.qs_world_lawful.proofs.Words.{◌≡◌, ◌⊎◌, inl, inr, ℕ, Bool, true, false, List, [], ◌∷◌, Option, Some, None, refl, ap, ◌∙◌, map, nat_lt, not, ◌||◌, if◌then◌else◌, list_all, filter, Tid, Record, TransactionValue, has_learnt, BookValue, find_transaction, broken_restart, is_on_record, is_new_vote, is_among, member_at, OnRecord, Voter, Prepared, Recovery, recovery, names_transaction, open_vote, found_of, found_votes, Every, IsCutVote, IsVoteLogged, IsRecordKept, IsCommitLogged, HoldsStopped}
+use Rattle.qs_world_lawful.proofs.Words.{and_from, or_left, or_right}
 use Rattle.qs_book_machine.specs.Nodes as machine
-use Rattle.qs_book_machine.specs.Restart.{broken_restart, is_found_vote, is_on_record, is_new_vote, was_applied, is_kept, is_found_commit, is_among, member_at}
-use Rattle.qs_book_machine.specs.declared.state.OnRecord.{OnRecord}
-use Rattle.qs_book_machine.specs.declared.state.Voter.{Voter}
-use Rattle.qs_restart.specs.Recovery.{Prepared, Recovery, recovery, names_transaction, open_vote}
+use Rattle.qs_book_machine.specs.Restart.{is_found_vote, was_applied, is_kept, is_found_commit}
 use Rattle.qs_world.specs.Moves as moves
-use Rattle.qs_world_lawful.specs.Logs.{found_of, found_votes, Every, IsCutVote, IsVoteLogged, IsRecordKept, IsCommitLogged, HoldsLog, HoldsStopped}
+use Rattle.qs_world_lawful.specs.Logs.{HoldsLog}
 use Rattle.qs_world_lawful.proofs.FoundOnce.{found_once}
-
-both : (a b : Bool) → a ≡ true → b ≡ true → (a && b) ≡ true
-both a b p q = rw (p, q) refl
-
-or_true : (a : Bool) → (a || true) ≡ true
-or_true true = refl
-or_true false = refl
-
-or_left : (a b : Bool) → a ≡ true → (a || b) ≡ true
-or_left a b p = rw p refl
-
-or_right : (a b : Bool) → b ≡ true → (a || b) ≡ true
-or_right a b p = rw p (or_true a)
 
 every_true : {A : Type 0} (P : A → Type 0) (test : A → Bool) → ((x : A) → P x → test x ≡ true) → (xs : List A) → Every P xs → list_all test xs ≡ true
 every_true P test gives [] h = refl
-every_true P test gives (x ∷ xs) h = both (test x) (list_all test xs) (gives x h.0) (every_true P test gives xs h.1)
+every_true P test gives (x ∷ xs) h = and_from (test x) (list_all test xs) (gives x h.0) (every_true P test gives xs h.1)
 
 every_weaker : {A : Type 0} (P Q : A → Type 0) → ((x : A) → P x → Q x) → (xs : List A) → Every P xs → Every Q xs
 every_weaker P Q gives [] h = tt
@@ -51,7 +30,7 @@ module _ (here : ℕ) (book : BookValue) (state : machine.NodeValue) (log : Reco
   any_found : (vote : Prepared) → IsVoteLogged here book state log vote ⊎ IsCutVote here book state vote
       → (is_on_record state (found_of vote) || (is_new_vote here state (find_transaction book vote.tid) (found_of vote) || was_applied here state log.committed (find_transaction book vote.tid) (found_of vote))) ≡ true
   any_found vote (inl (inl on)) = or_left _ _ on
-  any_found vote (inl (inr applied)) = or_right _ _ (or_right _ _ (ap (λ (o : Option TransactionValue). was_applied here state log.committed o (found_of vote)) applied.found ∙ (both _ _ applied.has_commit (learnt applied.learnt))))
+  any_found vote (inl (inr applied)) = or_right _ _ (or_right _ _ (ap (λ (o : Option TransactionValue). was_applied here state log.committed o (found_of vote)) applied.found ∙ (and_from _ _ applied.has_commit (learnt applied.learnt))))
     where
       learnt : (has_learnt applied.tx (member_at here vote.server.0) ≡ true) ⊎ (is_among state.committed vote.tid ≡ true) → (has_learnt applied.tx (member_at here vote.server.0) || is_among state.committed vote.tid) ≡ true
       learnt (inl is) = or_left _ _ is
@@ -61,7 +40,7 @@ module _ (here : ℕ) (book : BookValue) (state : machine.NodeValue) (log : Reco
       by : (b : Bool) → is_on_record state (found_of vote) ≡ b
           → (is_on_record state (found_of vote) || (is_new_vote here state (find_transaction book vote.tid) (found_of vote) || was_applied here state log.committed (find_transaction book vote.tid) (found_of vote))) ≡ true
       by true is = or_left _ _ is
-      by false is = or_right _ _ (or_left _ _ (ap (λ (o : Option TransactionValue). is_new_vote here state o (found_of vote)) cut.found ∙ (both _ _ (ap not is) cut.could)))
+      by false is = or_right _ _ (or_left _ _ (ap (λ (o : Option TransactionValue). is_new_vote here state o (found_of vote)) cut.found ∙ (and_from _ _ (ap not is) cut.could)))
 
   -- those that name a transaction
   open_found : (votes : List Prepared) → Every (λ (vote : Prepared). machine.is_recoverable vote.server.0 ≡ true) votes
@@ -72,7 +51,7 @@ module _ (here : ℕ) (book : BookValue) (state : machine.NodeValue) (log : Reco
     where
       by : (b : Bool) → names_transaction vote.tid ≡ b → list_all (is_found_vote here book state log.committed) (map moves.found_of (map open_vote (filter (λ vote. names_transaction vote.tid) votes))) ≡ true
           → list_all (is_found_vote here book state log.committed) (map moves.found_of (map open_vote (filter (λ vote. names_transaction vote.tid) (vote ∷ votes)))) ≡ true
-      by true is more = rw is (both _ _ (both _ _ k.0 (any_found vote v.0)) more)
+      by true is more = rw is (and_from _ _ (and_from _ _ k.0 (any_found vote v.0)) more)
       by false is more = rw is more
 
   -- ---- 112
@@ -93,7 +72,7 @@ pub may_restart : (here : ℕ) (book : BookValue) (state : machine.NodeValue) (r
     → HoldsStopped here book state (recovery records) → broken_restart here book state inc (found_votes (recovery records)) (recovery records).committed ≡ None
 may_restart here book state records inc later h =
     allowed _ _ _ _ later
-    (both _ _ (open_found here book state (recovery records) h (recovery records).prepared h.kinds h.votes) (found_once records))
+    (and_from _ _ (open_found here book state (recovery records) h (recovery records).prepared h.kinds h.votes) (found_once records))
     (every_true (IsRecordKept here book (recovery records)) _ (kept_is here book state (recovery records) h) state.records h.kept)
     (every_true (IsCommitLogged here book state) _ (commit_is here book state (recovery records) h) (recovery records).committed h.commits)
   where

@@ -1,36 +1,18 @@
 -- The machine after a restart that finds what a log says: its transactions, its node, and who may be told what.
-use Rattle.std.proofs.Common.{◌≡◌, ◌⊎◌, inl, inr, ℕ, ◌==◌, ◌≤◌, Bool, true, false, List, [], ◌∷◌, Option, Some, None, fold, refl, sym, ap, subst, ◌∙◌, arith, if◌then◌else◌, is_some}
-use Rattle.std.proofs.lemmas.Bool.Decides.{nat_tests}
-use Rattle.std.specs.Prelude.{slice_get}
-use Rattle.std.specs.BTreeMap.{is_at}
-use Rattle.qs_base.specs.Order.{tid_cmp}
-use Rattle.qs_base.proofs.Same.{same_tid-self}
-use Rattle.qs_base.specs.declared.identifiers.Member.{Member}
+use Rattle.qs_world_lawful.proofs.Words.{◌≡◌, ◌⊎◌, inl, inr, ℕ, ◌==◌, ◌≤◌, Bool, true, false, List, [], ◌∷◌, Option, Some, None, fold, refl, sym, ap, subst, ◌∙◌, arith, if◌then◌else◌, is_some, nat_tests, slice_get, is_at, tid_cmp, same_tid-self, Member, Tid, Found, Age, changed_apart, changed_at_here, BookValue, cell_of_transaction, find_transaction, with_transaction, effect, is_recoverable, abort_begun, begun_at, commit_found, count_of, is_among, is_open_here, learn_found, member_at, new_votes}
+use Rattle.qs_world_lawful.proofs.Words.{put_new_votes, record_at, reopened, restarted_node, up_to, vote_found, with_votes, TransactionValue, is_open, no_part, with_learnt, Cell, Prepared, Recovery, names_transaction, open_vote, entry_of, doubt_at, IsOfNow, Every, found_votes}
 use Rattle.qs_base.specs.declared.identifiers.Outcome.TheVariants as outcomes
-use Rattle.qs_base.specs.declared.identifiers.Tid.{Tid}
 use Rattle.qs_book_journal.specs.declared.entry.Act.TheVariants as acts
-use Rattle.qs_book_journal.specs.declared.entry.Found.{Found}
 use Rattle.qs_book_laws.proofs.Again.{reopened_there}
-use Rattle.qs_book_laws.proofs.Faces.{Age}
-use Rattle.qs_book_laws.proofs.Maps.{changed_apart, changed_at_here}
 use Rattle.qs_book_laws.proofs.Restarts.{votes_age}
-use Rattle.qs_book_machine.specs.Book.{BookValue, cell_of_transaction, decide, find_transaction, with_transaction}
-use Rattle.qs_book_machine.specs.Lawful.{effect}
+use Rattle.qs_book_machine.specs.Book.{decide}
 use Rattle.qs_book_machine.specs.Nodes as machine
-use Rattle.qs_book_machine.specs.Nodes.{is_recoverable}
-use Rattle.qs_book_machine.specs.Restart.{abort_begun, begun_at, commit_found, count_of, is_among, is_open_here, learn_found, member_at, new_votes, put_new_votes, record_at, reopened, restarted_node, up_to, vote_found, with_votes}
-use Rattle.qs_book_machine.specs.Transaction.{TransactionValue, is_open, no_part, part_of, with_learnt}
+use Rattle.qs_book_machine.specs.Transaction.{part_of}
 use Rattle.qs_book_machine.specs.Transaction as transaction
 use Rattle.qs_book_machine.specs.Book as machine_book
-use Rattle.qs_book_machine.specs.declared.transaction.Cell.{Cell}
 use Rattle.qs_book_machine.specs.declared.transaction.Cell.TheVariants as cells
 use Rattle.qs_ops.specs.Servers.{audit_no, extra_no, files_no}
-use Rattle.qs_restart.specs.Recovery.{Prepared, Recovery, names_transaction, open_vote}
 use Rattle.qs_world.specs.Moves as moves
-use Rattle.qs_world.specs.Posting.{entry_of}
-use Rattle.qs_world_lawful.specs.Doubtful.{doubt_at}
-use Rattle.qs_world_lawful.specs.Lasting.{IsOfNow}
-use Rattle.qs_world_lawful.specs.Logs.{Every, found_votes}
 use Rattle.qs_world_lawful.proofs.Apart.{Apart, same_or_apart}
 use Rattle.qs_world_lawful.proofs.LogRecords.{every_filter, every_map}
 use Rattle.qs_world_lawful.proofs.RestartCells.{CellsBy, Shut, abort_cells, aborts_on, aborts_shut, cells_changed, cells_fold, cells_self, commit_cells, commits_learn, commits_on, commits_shut, learnt_stays}

@@ -1,35 +1,12 @@
 -- After a restart what is kept for clients is as the machine has it: what was left open is decided, and its owner may be told.
-use Rattle.std.proofs.Common.{◌≡◌, ◌⊎◌, inl, inr, ℕ, ◌==◌, ◌&&◌, ◌++◌, Bool, true, false, List, [], ◌∷◌, Option, Some, None, fold, refl, sym, ap, subst, ◌∙◌, arith, if◌then◌else◌, is_some, is_none}
-use Rattle.std.proofs.lemmas.Bool.Decides.{nat_tests}
-use Rattle.std.specs.Prelude.{slice_get}
-use Rattle.std.specs.List.{find}
-use Rattle.qs_base.proofs.Same.{same_tid-true}
-use Rattle.qs_base.specs.declared.identifiers.ClientNo.{ClientNo}
-use Rattle.qs_base.specs.declared.identifiers.NodeNo.{NodeNo}
-use Rattle.qs_base.specs.declared.identifiers.Outcome.{Outcome}
+use Rattle.qs_world_lawful.proofs.Words.{◌≡◌, ◌⊎◌, inl, inr, ℕ, ◌++◌, Bool, true, false, List, [], ◌∷◌, Option, Some, None, fold, refl, sym, ap, subst, ◌∙◌, if◌then◌else◌, is_some, slice_get, find, same_tid-true, ClientNo, NodeNo, Outcome, Tid, same_node, Found, is_outcome_of, Begun, Decided, BookValue, cell_of_transaction, find_transaction, with_transaction, abort_begun, begun_tid, commit_found, count_of, is_among, is_open_here, learn_found, member_at, record_at, up_to, vote_found}
+use Rattle.qs_world_lawful.proofs.Words.{TransactionValue, found_at, is_open, is_outcome, with_learnt, Owner, Cell, Recovery, close_outcome, close_tid, is_left_open, outcome_in_log, HasEnded, IsOwner, MayBeTold, IsOfNow, Every, found_votes, HoldsKept, IsLeftOpen, IsOpenStill, and_parts, eqb-true, none_is}
 use Rattle.qs_base.specs.declared.identifiers.Outcome.TheVariants as outcomes
-use Rattle.qs_base.specs.declared.identifiers.Tid.{Tid}
-use Rattle.qs_engage.specs.Nodes.{same_node}
-use Rattle.qs_book_journal.specs.declared.entry.Found.{Found}
-use Rattle.qs_node_kept.specs.Keeping.{is_outcome_of}
-use Rattle.qs_node_kept.specs.declared.kept.KeptLabel.{KeptLabel}
-use Rattle.qs_node_kept.specs.declared.kept.Decided.{Decided}
 use Rattle.qs_node_kept.specs.declared.kept.Kept.{Kept}
-use Rattle.qs_book_machine.specs.Book.{BookValue, cell_of_transaction, find_transaction, with_transaction}
 use Rattle.qs_book_machine.specs.Nodes as machine
-use Rattle.qs_book_machine.specs.Restart.{abort_begun, begun_tid, commit_found, count_of, is_among, is_open_here, learn_found, member_at, record_at, up_to, vote_found}
-use Rattle.qs_book_machine.specs.Transaction.{TransactionValue, found_at, is_open, is_outcome, with_learnt}
-use Rattle.qs_book_machine.specs.declared.state.Owner.{Owner}
-use Rattle.qs_book_machine.specs.declared.transaction.Cell.{Cell}
 use Rattle.qs_book_machine.specs.declared.transaction.Cell.TheVariants as cells
 use Rattle.qs_ops.specs.Servers.{audit_no, extra_no, files_no}
 use Rattle.qs_ops.specs.declared.answer.Cause.TheVariants as causes
-use Rattle.qs_restart.specs.Recovery.{Recovery}
-use Rattle.qs_node_step.specs.Opening.{close_outcome, close_tid, is_left_open, outcome_in_log}
-use Rattle.qs_world_lawful.specs.Holds.{HasEnded, IsOwner, MayBeTold}
-use Rattle.qs_world_lawful.specs.Lasting.{IsOfNow}
-use Rattle.qs_world_lawful.specs.Logs.{Every, found_votes}
-use Rattle.qs_world_lawful.specs.Worlds.{HoldsKept, IsLeftOpen, IsOpenStill}
 use Rattle.qs_world_lawful.proofs.Restored.{found_new, owners_new, settled, with_found}
 use Rattle.qs_world_lawful.proofs.RestartGoes.{Goes, IsElsewhere}
 use Rattle.qs_world_lawful.proofs.RestartOwners.{HoldsOwner, may_still, owner_changed, owner_decided, owner_fold}
@@ -240,33 +217,22 @@ module _ (book : BookValue) (here : NodeNo) (stamp inc : ℕ) (log : Recovery) (
         by true e none rest = absurd (cc none)
         by false e none rest = rw e (rest none)
 
-    close_one : (begun : KeptLabel) (os : List Decided) → IsLeftOpen here book kept.outcomes begun → Closes os → Closes (close_outcome here log.committed os begun)
+    close_one : (begun : Begun) (os : List Decided) → IsLeftOpen here book kept.outcomes begun → Closes os → Closes (close_outcome here log.committed os begun)
     close_one begun os left c = by begun.tid refl
       where
         by : (o : Option Tid) → begun.tid ≡ o → Closes (close_tid here log.committed os o)
         by None is = c
         by (Some tid) is = of (is_left_open here os tid) refl
           where
-            and_both : (a b : Bool) → (a && b) ≡ true → (a ≡ true) × (b ≡ true)
-            and_both true b e = (refl, e)
-            and_both false b e = absurd (cc e)
-
-            no_is : (m n : ℕ) → (m == n) ≡ true → m ≡ n
-            no_is m n e = grind (arith, nat_tests, e)
-
-            none_is : (o : Option Decided) → is_none o ≡ true → o ≡ None
-            none_is None e = refl
-            none_is (Some x) e = absurd (cc e)
-
             of : (b : Bool) → is_left_open here os tid ≡ b → Closes (if b then os ++ outcome_in_log log.committed tid ∷ [] else os)
             of false e = c
             of true e = record { ends = ends; more = λ t none. c.more t (find_less t os (outcome_in_log log.committed tid ∷ []) none) }
               where
                 home : tid.home ≡ here
-                home = ap (λ (x : ℕ). record { 0 = x }) (no_is tid.home.0 here.0 (and_both (same_node tid.home here) _ e).0)
+                home = ap (λ (x : ℕ). record { 0 = x }) (eqb-true tid.home.0 here.0 (and_parts (same_node tid.home here) _ e).0)
 
                 still_open : IsOpenStill book tid
-                still_open = left tid is home (c.more tid (none_is (find (is_outcome_of tid) os) (and_both (same_node tid.home here) _ e).1))
+                still_open = left tid is home (c.more tid (none_is (find (is_outcome_of tid) os) (and_parts (same_node tid.home here) _ e).1))
 
                 tid_of : (outcome_in_log log.committed tid).tid ≡ tid
                 tid_of = at (is_among log.committed tid)
@@ -282,7 +248,7 @@ module _ (book : BookValue) (here : NodeNo) (stamp inc : ℕ) (log : Recovery) (
                     way (inl was) = c.ends t d was
                     way (inr is_new) = subst (HasEnded now t) is_new.1 (subst (λ (u : Tid). HasEnded now u (outcome_in_log log.committed tid)) (sym (same_tid-true t (outcome_in_log log.committed tid).tid is_new.0 ∙ tid_of)) (outcome_is tid home still_open))
 
-    close_all : (begun : List KeptLabel) (os : List Decided) → Every (IsLeftOpen here book kept.outcomes) begun → Closes os → Closes (fold (close_outcome here log.committed) os begun)
+    close_all : (begun : List Begun) (os : List Decided) → Every (IsLeftOpen here book kept.outcomes) begun → Closes os → Closes (fold (close_outcome here log.committed) os begun)
     close_all [] os all c = c
     close_all (b ∷ begun) os all c = close_all begun (close_outcome here log.committed os b) all.1 (close_one b os all.0 c)
 

@@ -1,34 +1,11 @@
 -- After a restart the machine has of each transaction in the new incarnation what stands in doubt in the log, and nothing else.
-use Rattle.std.proofs.Common.{◌≡◌, ℕ, ◌<◌, ◌≤◌, ◌==◌, ◌&&◌, not, Bool, true, false, List, length, map, Option, Some, None, refl, sym, ap, subst, ◌∙◌, arith, is_some}
-use Rattle.std.proofs.lemmas.Bool.Decides.{nat_tests}
-use Rattle.std.specs.Global.{Global}
-use Rattle.std.specs.Map.{lookup}
-use Rattle.std.specs.BTreeMap.{is_at}
-use Rattle.std.specs.List.{filter, list_any}
-use Rattle.qs_base.specs.Order.{member_cmp, same_tid}
-use Rattle.qs_base.proofs.Same.{same_tid-true}
-use Rattle.qs_base.specs.declared.identifiers.Member.{Member}
-use Rattle.qs_base.specs.declared.identifiers.NodeNo.{NodeNo}
-use Rattle.qs_base.specs.declared.identifiers.Tid.{Tid}
+use Rattle.qs_world_lawful.proofs.Words.{◌≡◌, ℕ, ◌≤◌, ◌==◌, Bool, true, false, List, length, map, Option, Some, None, refl, sym, ap, subst, ◌∙◌, is_some, Global, lookup, is_at, filter, list_any, member_cmp, same_tid, same_tid-true, Member, NodeNo, Tid, BookValue, find_transaction, is_recoverable, count_of, member_at, record_at, TransactionValue, has_note, is_commit, is_crossed, is_empty, is_open, is_outcome, is_standing, learnt_abort, no_part, requests_at, requests_in, sent_in, sent_on, Part}
+use Rattle.qs_world_lawful.proofs.Words.{Request, RequestNo, Prepared, Recovery, is_in_doubt, names_transaction, Setting, doubt_at, share_as, StandsOnce, Every, IsToBeRecorded, AreFor, is_idle, op_in, IsLoanOf, and_parts, not-true, eqb-true, le_lt}
 use Rattle.qs_node_kept.specs.declared.kept.Kept.{Kept}
-use Rattle.qs_book_machine.specs.Book.{BookValue, find_transaction}
 use Rattle.qs_book_machine.specs.Nodes as machine
-use Rattle.qs_book_machine.specs.Nodes.{is_recoverable}
-use Rattle.qs_book_machine.specs.Restart.{count_of, member_at, record_at}
-use Rattle.qs_book_machine.specs.Transaction.{TransactionValue, borrower, has_note, is_abort, is_commit, is_crossed, is_empty, is_open, is_outcome, is_standing, learnt_abort, no_part, part_of, requests_at, requests_in, sent_in, sent_on}
+use Rattle.qs_book_machine.specs.Transaction.{borrower, is_abort, part_of}
 use Rattle.qs_book_machine.specs.Transaction as transaction
-use Rattle.qs_book_machine.specs.declared.transaction.Part.{Part}
-use Rattle.qs_book_machine.specs.declared.transaction.Request.{Request}
-use Rattle.qs_book_machine.specs.declared.transaction.RequestNo.{RequestNo}
 use Rattle.qs_ops.specs.Servers.{files_no}
-use Rattle.qs_restart.specs.Recovery.{Prepared, Recovery, is_in_doubt, names_transaction}
-use Rattle.qs_node_step.specs.declared.setting.Setting.{Setting}
-use Rattle.qs_world_lawful.specs.Doubtful.{doubt_at, share_as}
-use Rattle.qs_world_lawful.specs.Lasting.{StandsOnce}
-use Rattle.qs_world_lawful.specs.Logs.{Every}
-use Rattle.qs_world_lawful.specs.Said.{IsToBeRecorded}
-use Rattle.qs_world_lawful.specs.Waits.{AreFor, is_idle, op_in}
-use Rattle.qs_world_lawful.specs.Worlds.{IsLoanOf}
 use Rattle.qs_world_lawful.proofs.FreshFace.{Fresh, FreshAt, IsDoubt, IsOldLoan}
 use Rattle.qs_world_lawful.proofs.LogFrames.{every_on}
 use Rattle.qs_world_lawful.proofs.Reopened.{doubt_is}
@@ -68,27 +45,16 @@ module _ (alloc : Global) (setting : Setting) (saved : Kept) (book : BookValue) 
         count : ℕ
         count = count_of (record_at setting.node.0 (with_found book setting.node.0 stamp setting.inc log state r.there) tid files_no)
 
-        and_both : (a b : Bool) → (a && b) ≡ true → (a ≡ true) × (b ≡ true)
-        and_both true b e = (refl, e)
-        and_both false b e = absurd (cc e)
-
-        not_true : (b : Bool) → not b ≡ true → b ≡ false
-        not_true false e = refl
-        not_true true e = absurd (cc e)
-
-        no_is : (m n : ℕ) → (m == n) ≡ true → m ≡ n
-        no_is m n e = grind (arith, nat_tests, e)
-
         by : (o : Option Prepared) → doubt_at log.prepared tid files_no ≡ o → (part_as None o count).pending ≡ length (share_as o).changes
         by None is = refl
         by (Some v) is =
             let p = doubt_is (IsToBeRecorded setting.node.0 book log) tid files_no log.prepared r.left.recorded v is in
-            let two = and_both (is_in_doubt v) _ p.1 in
-            let doubt = and_both (names_transaction v.tid) _ two.0 in
-            let at = and_both (same_tid v.tid tid) (v.server.0 == files_no) two.1 in
+            let two = and_parts (is_in_doubt v) _ p.1 in
+            let doubt = and_parts (names_transaction v.tid) _ two.0 in
+            let at = and_parts (same_tid v.tid tid) (v.server.0 == files_no) two.1 in
             subst (λ (t : Tid). count_of (record_at setting.node.0 (with_found book setting.node.0 stamp setting.inc log state r.there) t files_no) ≡ length v.changes) (same_tid-true v.tid tid at.0)
-            (subst (λ (s : ℕ). count_of (record_at setting.node.0 (with_found book setting.node.0 stamp setting.inc log state r.there) v.tid s) ≡ length v.changes) (no_is v.server.0 files_no at.1)
-            ((p.0 doubt.0 (not_true v.committed doubt.1)).count (no_is v.server.0 files_no at.1)))
+            (subst (λ (s : ℕ). count_of (record_at setting.node.0 (with_found book setting.node.0 stamp setting.inc log state r.there) v.tid s) ≡ length v.changes) (eqb-true v.server.0 files_no at.1)
+            ((p.0 doubt.0 (not-true v.committed doubt.1)).count (eqb-true v.server.0 files_no at.1)))
 
     same_requests : (at : RequestNo) → requests_at later at ≡ requests_at tx at
     same_requests at = ap (λ requests. requests_in requests at) g.requests
@@ -125,16 +91,13 @@ module _ (alloc : Global) (setting : Setting) (saved : Kept) (book : BookValue) 
       noted = nothing_noted;
       pending = pending;
       due = due;
-      begun = λ home. less tid.inc state.inc setting.inc ((at_node book setting.node stamp setting.inc log state r).begun tid tx had home) r.rises;
+      begun = λ home. le_lt tid.inc state.inc setting.inc ((at_node book setting.node stamp setting.inc log state r).begun tid tx had home) r.rises;
       once = record {
         whole = whole;
         once = λ member at clean. subst (λ (rs : List Request). length (filter (is_standing member) rs) ≤ 1) (sym (same_requests at)) (once.once member at (sym (same_crossed member) ∙ clean));
         fits = λ member at. subst (λ (rs : List Request). AreFor member.server (map op_in (filter (is_standing member) rs))) (sym (same_requests at)) (once.fits member at);
       };
     }
-      where
-        less : (a b c : ℕ) → a ≤ b → b < c → a < c
-        less a b c p q = grind (arith, p, q)
 
   -- ---- all of it
 
@@ -157,7 +120,4 @@ module _ (alloc : Global) (setting : Setting) (saved : Kept) (book : BookValue) 
   }
 
   pub old_loans : Every (IsOldLoan after setting.inc) saved.loans
-  old_loans = every_on (IsLoanOf book state.inc) (IsOldLoan after setting.inc) (λ loan is. record { stands = stands loan.tid is.stands; made = less loan.inc state.inc setting.inc is.made r.rises }) saved.loans loans
-    where
-      less : (a b c : ℕ) → a ≤ b → b < c → a < c
-      less a b c p q = grind (arith, p, q)
+  old_loans = every_on (IsLoanOf book state.inc) (IsOldLoan after setting.inc) (λ loan is. record { stands = stands loan.tid is.stands; made = le_lt loan.inc state.inc setting.inc is.made r.rises }) saved.loans loans

@@ -1,36 +1,17 @@
 -- After a restart the log of the node says what the machine has on record, and the node that begins knows its log.
-use Rattle.std.proofs.Common.{◌≡◌, ◌⊎◌, inl, inr, ℕ, ◌==◌, ◌&&◌, ◌||◌, Bool, true, false, List, [], ◌∷◌, Option, Some, None, fold, refl, sym, ap, subst, ◌∙◌, arith, if◌then◌else◌, is_some}
-use Rattle.std.proofs.lemmas.Bool.Decides.{nat_tests}
-use Rattle.std.specs.Prelude.{slice_get}
-use Rattle.std.specs.List.{list_any}
-use Rattle.std.specs.Map.{lookup}
-use Rattle.std.specs.BTreeMap.{is_at}
-use Rattle.qs_base.specs.Order.{member_cmp, same_tid}
-use Rattle.qs_base.proofs.Same.{same_tid-self}
-use Rattle.qs_base.specs.declared.identifiers.NodeNo.{NodeNo}
-use Rattle.qs_base.specs.declared.identifiers.Tid.{Tid}
-use Rattle.qs_book_journal.specs.declared.entry.Found.{Found}
-use Rattle.qs_book_laws.proofs.Alikes.{voter_exact}
+use Rattle.qs_world_lawful.proofs.Words.{◌≡◌, ◌⊎◌, inl, inr, ℕ, ◌==◌, ◌||◌, Bool, true, false, List, [], ◌∷◌, Option, Some, None, fold, refl, sym, ap, subst, ◌∙◌, if◌then◌else◌, is_some, slice_get, list_any, lookup, is_at, member_cmp, same_tid, same_tid-self, NodeNo, Tid, Found, voter_exact, changed_at_here, IsRising, put_rises, BookValue, cell_of_transaction, crossed_in, find_transaction, changes_of, is_recoverable, record_of, voter, voter_cmp, is_among, is_found_as, is_new_vote, is_on_record}
+use Rattle.qs_world_lawful.proofs.Words.{may_be_lost, member_at, new_votes, record_at, reopened, votes_once, with_votes, without_records, TransactionValue, has_learnt, is_open, OnRecord, Voter, Cell, TableValue, apply_change, apply_note, Prepared, Recovery, is_in_doubt, names_transaction, HoldsLogged, IsCommitMade, IsRecordSafe, StandsIn, Every, IsCutVote, IsRecordKept, IsVoteLogged, found_of, found_votes, HoldsSaid, IsAsRecorded, IsRecorded, IsToBeRecorded, and_parts, eqb-true, or_left, or_right}
+use Rattle.qs_world_lawful.proofs.Words.{eqb-self}
 use Rattle.qs_book_laws.proofs.Found.{forgot_others}
 use Rattle.qs_book_laws.proofs.FoundOnly.{found_stays, least, none_stays_none, recorded_was}
 use Rattle.qs_book_laws.proofs.Reopens.{restarted_is}
-use Rattle.qs_book_laws.proofs.Maps.{changed_at_here}
-use Rattle.qs_book_laws.proofs.Rising.{IsRising, put_rises, voter_total}
-use Rattle.qs_book_machine.specs.Book.{BookValue, cell_of_transaction, crossed_in, find_transaction}
+use Rattle.qs_book_laws.proofs.Rising.{voter_total}
 use Rattle.qs_book_machine.specs.Nodes as machine
-use Rattle.qs_book_machine.specs.Nodes.{changes_of, is_recoverable, record_of, voter, voter_cmp}
-use Rattle.qs_book_machine.specs.Restart.{is_among, is_found, is_found_as, is_new_vote, is_on_record, may_be_lost, member_at, new_votes, record_at, reopened, votes_once, with_votes, without_records}
-use Rattle.qs_book_machine.specs.Transaction.{TransactionValue, has_learnt, is_abort, is_open}
-use Rattle.qs_book_machine.specs.declared.state.OnRecord.{OnRecord}
-use Rattle.qs_book_machine.specs.declared.state.Voter.{Voter}
-use Rattle.qs_book_machine.specs.declared.transaction.Cell.{Cell}
+use Rattle.qs_book_machine.specs.Restart.{is_found}
+use Rattle.qs_book_machine.specs.Transaction.{is_abort}
 use Rattle.qs_book_machine.specs.declared.transaction.Cell.TheVariants as cells
 use Rattle.qs_ops.specs.Servers.{audit_no, extra_no, files_no}
-use Rattle.qs_ops.specs.Table.{TableValue, apply_change, apply_note}
-use Rattle.qs_restart.specs.Recovery.{Prepared, Recovery, is_in_doubt, names_transaction}
-use Rattle.qs_world_lawful.specs.Logged.{HoldsLogged, IsCommitMade, IsRecordSafe, StandsIn}
-use Rattle.qs_world_lawful.specs.Logs.{Every, IsCutVote, IsRecordKept, IsVoteLogged, found_of, found_votes}
-use Rattle.qs_world_lawful.specs.Said.{HoldsSaid, IsAsRecorded, IsRecorded, IsToBeRecorded, IsUndone}
+use Rattle.qs_world_lawful.specs.Said.{IsUndone}
 use Rattle.qs_world_lawful.proofs.FoundMembers.{every_two}
 use Rattle.qs_world_lawful.proofs.LogFrames.{every_on}
 use Rattle.qs_world_lawful.proofs.RestartGoes.{Goes, IsElsewhere}
@@ -50,17 +31,10 @@ every_lookup P (e ∷ es) all at rec is = by (is_at (voter_cmp at) e.0) refl is 
 each_found : (fs : List Found) → Every (λ (f : Found). is_found fs (voter f.tid f.server.0) ≡ true) fs
 each_found [] = tt
 each_found (f ∷ fs) = (
-  rw (same_tid-self f.tid, same_number f.server.0, least f.covers) refl,
+  rw (same_tid-self f.tid, eqb-self f.server.0, least f.covers) refl,
   every_on (λ (g : Found). is_found fs (voter g.tid g.server.0) ≡ true) (λ (g : Found). is_found (f ∷ fs) (voter g.tid g.server.0) ≡ true)
-      (λ g is. or_more (is_found_as (voter g.tid g.server.0) 0 f) (is_found fs (voter g.tid g.server.0)) is) fs (each_found fs),
+      (λ g is. or_right (is_found_as (voter g.tid g.server.0) 0 f) (is_found fs (voter g.tid g.server.0)) is) fs (each_found fs),
 )
-  where
-    same_number : (n : ℕ) → (n == n) ≡ true
-    same_number n = grind (arith, nat_tests)
-
-    or_more : (a b : Bool) → b ≡ true → (a || b) ≡ true
-    or_more true b e = refl
-    or_more false b e = e
 
 module _ (book : BookValue) (here : NodeNo) (stamp inc : ℕ) (log : Recovery) (state : machine.NodeValue) (r : Restarts book here inc log state) (once : votes_once (found_votes log) ≡ true) where
   abbrev now : BookValue
@@ -165,13 +139,6 @@ module _ (book : BookValue) (here : NodeNo) (stamp inc : ℕ) (log : Recovery) (
       abort_is cells.Open e = absurd (cc e)
       abort_is cells.Commit e = absurd (cc e)
 
-      and_both : (a b : Bool) → (a && b) ≡ true → (a ≡ true) × (b ≡ true)
-      and_both true b e = (refl, e)
-      and_both false b e = absurd (cc e)
-
-      no_is : (m n : ℕ) → (m == n) ≡ true → m ≡ n
-      no_is m n e = grind (arith, nat_tests, e)
-
       lost : (o : Option TransactionValue) → find_transaction book tid ≡ o → may_be_lost here.0 tid o ≡ true → IsRecordSafe now log (voter tid server) rec.covers
       lost None none e = absurd (cc e)
       lost (Some tx) had e = cell (is_abort tx.cell) refl
@@ -181,11 +148,11 @@ module _ (book : BookValue) (here : NodeNo) (stamp inc : ℕ) (log : Recovery) (
           cell false a = among (is_among log.committed tid) refl
             where
               two : (is_open tx.cell ≡ true) × ((tid.home.0 == here.0) ≡ true)
-              two = and_both (is_open tx.cell) (tid.home.0 == here.0) (rw a at e)
+              two = and_parts (is_open tx.cell) (tid.home.0 == here.0) (rw a at e)
 
               among : (b : Bool) → is_among log.committed tid ≡ b → IsRecordSafe now log (voter tid server) rec.covers
               among true f = inr (inl f)
-              among false f = inl (open_aborted book here stamp inc log state r tid tx had (ap (λ (x : ℕ). record { 0 = x }) (no_is tid.home.0 here.0 two.1)) two.0 f)
+              among false f = inl (open_aborted book here stamp inc log state r tid tx had (ap (λ (x : ℕ). record { 0 = x }) (eqb-true tid.home.0 here.0 two.1)) two.0 f)
 
       kept : IsRecordKept here.0 book log (voter tid server, rec) → IsRecordSafe now log (voter tid server) rec.covers
       kept (inl e) = lost (find_transaction book tid) refl e
@@ -210,15 +177,7 @@ module _ (book : BookValue) (here : NodeNo) (stamp inc : ℕ) (log : Recovery) (
 
   all_done : (tids : List Tid) → ((tid : Tid) → is_among tids tid ≡ true → is_among log.committed tid ≡ true) → Every (IsCommitMade now reborn) tids
   all_done [] within = tt
-  all_done (t ∷ tids) within = (inr (done_committed book here stamp inc log state r t (within t (or_first (same_tid t t) (is_among tids t) (same_tid-self t)))), all_done tids (λ u is. within u (or_any (same_tid u t) (is_among tids u) is)))
-    where
-      or_first : (a b : Bool) → a ≡ true → (a || b) ≡ true
-      or_first true b e = refl
-      or_first false b e = absurd (cc e)
-
-      or_any : (a b : Bool) → b ≡ true → (a || b) ≡ true
-      or_any true b e = refl
-      or_any false b e = e
+  all_done (t ∷ tids) within = (inr (done_committed book here stamp inc log state r t (within t (or_left (same_tid t t) (is_among tids t) (same_tid-self t)))), all_done tids (λ u is. within u (or_right (same_tid u t) (is_among tids u) is)))
 
   both_of : Every (λ (v : Prepared). (is_recoverable v.server.0 ≡ true) × StandsIn book v) log.prepared
   both_of = every_two (λ (v : Prepared). is_recoverable v.server.0 ≡ true) (StandsIn book) (λ (v : Prepared). (is_recoverable v.server.0 ≡ true) × StandsIn book v) (λ v a b. (a, b)) log.prepared r.stopped.kinds r.stands

@@ -1,29 +1,10 @@
 -- After a restart the machine holds what the node has that begins its incarnation, its log too: as of a node that runs.
-use Rattle.std.proofs.Common.{◌≡◌, inl, ℕ, ◌<◌, ◌≤◌, ◌++◌, true, List, [], ◌∷◌, length, Option, Some, None, refl, sym, ap, subst, ◌∙◌, arith, is_some}
-use Rattle.std.proofs.lemmas.List.{append-nil}
-use Rattle.std.specs.Global.{Global}
-use Rattle.std.specs.Prelude.{slice_get}
-use Rattle.qs_base.specs.declared.identifiers.Tid.{Tid}
+use Rattle.qs_world_lawful.proofs.Words.{◌≡◌, inl, ℕ, ◌<◌, ◌++◌, true, List, [], ◌∷◌, length, Option, Some, None, refl, sym, ap, subst, ◌∙◌, is_some, append-nil, Global, slice_get, Tid, ran_run, BookValue, find_transaction, votes_once, TransactionValue, Record, Recovery, in_doubt, recovery, untold, new_manager, Setting, Participant, entry_of, part_or_new, HoldsClients, HoldsNode, HoldsStill, HoldsHost, HoldsLogged, IsNamed, KnowsLog, Every, found_votes, HoldsKept, le_lt}
 use Rattle.qs_book_journal.specs.declared.entry.Act.TheVariants as acts
 use Rattle.qs_node_kept.specs.declared.kept.Kept.{Kept}
-use Rattle.qs_book_laws.proofs.InRun.{ran_run}
-use Rattle.qs_book_machine.specs.Book.{BookValue, find_transaction}
 use Rattle.qs_book_machine.specs.Nodes as machine
-use Rattle.qs_book_machine.specs.Restart.{votes_once}
-use Rattle.qs_book_machine.specs.Transaction.{TransactionValue}
-use Rattle.qs_record.specs.declared.record.Record.{Record}
-use Rattle.qs_restart.specs.Recovery.{Recovery, in_doubt, recovery, untold}
-use Rattle.qs_node_step.specs.Opening.{new_manager}
 use Rattle.qs_node_step.specs.State.{NodeValue}
-use Rattle.qs_node_step.specs.declared.setting.Setting.{Setting}
 use Rattle.qs_tm.specs.Manager as tm
-use Rattle.qs_tm.specs.declared.participant.Participant.{Participant}
-use Rattle.qs_world.specs.Posting.{entry_of}
-use Rattle.qs_world_lawful.specs.Face.{part_or_new}
-use Rattle.qs_world_lawful.specs.Holds.{HoldsClients, HoldsNode, HoldsStill}
-use Rattle.qs_world_lawful.specs.Logged.{HoldsHost, HoldsLogged, IsNamed, KnowsLog}
-use Rattle.qs_world_lawful.specs.Logs.{Every, found_votes}
-use Rattle.qs_world_lawful.specs.Worlds.{HoldsKept}
 use Rattle.qs_world_lawful.proofs.RestoredClients.{outcomes_held, owner_still}
 use Rattle.qs_world_lawful.proofs.FreshFace.{Fresh, IsOldLoan, at_held, known_as, node, waits_at}
 use Rattle.qs_world_lawful.proofs.FreshLog.{SameNumbers, all_taken, knows}
@@ -97,13 +78,10 @@ module _ (alloc : Global) (setting : Setting) (saved : Kept) (book : BookValue) 
     waits = waits_at alloc setting saved now log fresh_now loans_now;
   }
     where
-      less : (a b c : ℕ) → a ≤ b → b < c → a < c
-      less a b c p q = grind (arith, p, q)
-
       earlier : (tid : Tid) → tid.home ≡ setting.node → (tx : TransactionValue) × (find_transaction now tid ≡ Some tx) → tid.inc < setting.inc
       earlier tid home later =
           let w = was book setting.node stamp setting.inc log state r tid later.0 later.1 in
-          less tid.inc state.inc setting.inc ((at_node book setting.node stamp setting.inc log state r).begun tid w.0 w.1 home) r.rises
+          le_lt tid.inc state.inc setting.inc ((at_node book setting.node stamp setting.inc log state r).begun tid w.0 w.1 home) r.rises
 
   -- ---- the log
 

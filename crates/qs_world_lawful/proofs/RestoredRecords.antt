@@ -1,28 +1,10 @@
 -- What is on record of a node after a restart: the votes that were found, and nothing of what is committed in its log.
-use Rattle.std.proofs.Common.{◌≡◌, ◌⊎◌, inl, inr, ℕ, ◌==◌, ◌&&◌, ◌||◌, not, Bool, true, false, List, [], ◌∷◌, map, flat_map, Option, Some, None, fold, refl, sym, ap, subst, ◌∙◌, arith, if◌then◌else◌, nat_le}
-use Rattle.std.proofs.lemmas.Bool.Decides.{nat_tests}
-use Rattle.std.proofs.lemmas.List.Sums.{fold-append}
-use Rattle.std.specs.Prelude.{slice_get}
-use Rattle.std.specs.List.{filter, list_any}
-use Rattle.std.specs.Map.{lookup, remove_entry}
-use Rattle.std.specs.BTreeMap.{insert_entry, is_at}
-use Rattle.qs_base.specs.Order.{same_tid}
-use Rattle.qs_base.proofs.Same.{same_tid-self, same_tid-true}
-use Rattle.qs_base.specs.declared.identifiers.Tid.{Tid}
-use Rattle.qs_book_journal.specs.declared.entry.Found.{Found}
-use Rattle.qs_book_laws.proofs.Alikes.{voter_equal, voter_exact, voter_itself}
-use Rattle.qs_book_laws.proofs.Maps.{lookup_put, lookup_put_apart, removed_none}
-use Rattle.qs_book_laws.proofs.Shares.{removed_apart}
-use Rattle.qs_book_laws.proofs.Rising.{IsRising, remove_rises, removed}
-use Rattle.qs_book_machine.specs.Book.{BookValue, find_transaction}
+use Rattle.qs_world_lawful.proofs.Words.{◌≡◌, ◌⊎◌, inl, inr, ℕ, ◌==◌, ◌&&◌, ◌||◌, Bool, true, false, List, [], ◌∷◌, map, flat_map, Option, Some, None, fold, refl, sym, ap, subst, ◌∙◌, arith, if◌then◌else◌, nat_le, nat_tests, fold-append, slice_get, filter, list_any, lookup, remove_entry, insert_entry, is_at, same_tid, same_tid-self, same_tid-true, Tid, Found, voter_equal, voter_exact, voter_itself, lookup_put, lookup_put_apart, removed_none, removed_apart, IsRising, remove_rises, removed}
+use Rattle.qs_world_lawful.proofs.Words.{BookValue, find_transaction, is_recoverable, record_of, voter, voter_cmp, is_among, is_found_as, is_new_vote, is_on_record, is_same_vote, new_vote, new_votes, votes_once, with_votes, without_records, OnRecord, Voter, Prepared, Recovery, names_transaction, open_vote, Every, found_of, found_votes, eqb-self, or_last, and_parts, not-true, or_right, eqb-true}
 use Rattle.qs_book_machine.specs.Nodes as machine
-use Rattle.qs_book_machine.specs.Nodes.{is_recoverable, record_of, voter, voter_cmp, without_record}
-use Rattle.qs_book_machine.specs.Restart.{is_among, is_found_as, is_new_vote, is_on_record, is_same_vote, new_vote, new_votes, new_votes_at, vote_as_stopped, voter_of, votes_once, with_vote, with_votes, without_records}
-use Rattle.qs_book_machine.specs.declared.state.OnRecord.{OnRecord}
-use Rattle.qs_book_machine.specs.declared.state.Voter.{Voter}
-use Rattle.qs_restart.specs.Recovery.{Prepared, Recovery, names_transaction, open_vote}
+use Rattle.qs_book_machine.specs.Nodes.{without_record}
+use Rattle.qs_book_machine.specs.Restart.{new_votes_at, vote_as_stopped, voter_of, with_vote}
 use Rattle.qs_world.specs.Moves as moves
-use Rattle.qs_world_lawful.specs.Logs.{Every, found_of, found_votes}
 use Rattle.qs_world_lawful.proofs.LogRecords.{every_filter, every_map}
 
 -- ---- votes that are found, vote by vote of the log
@@ -71,18 +53,11 @@ module _ (here : ℕ) (book : BookValue) (state : machine.NodeValue) where
 
   once_far : (f : Found) (fs : List Found) → list_any (is_same_vote f) fs ≡ false → Every (IsFar (voter_of f)) fs
   once_far f [] none = tt
-  once_far f (g ∷ fs) none = (far, once_far f fs (or_right (is_same_vote f g) _ none))
+  once_far f (g ∷ fs) none = (far, once_far f fs (or_last (is_same_vote f g) _ none))
     where
-      or_right : (a b : Bool) → (a || b) ≡ false → b ≡ false
-      or_right true b e = absurd (cc e)
-      or_right false b e = e
-
       or_left : (a b : Bool) → (a || b) ≡ false → a ≡ false
       or_left true b e = absurd (cc e)
       or_left false b e = refl
-
-      self : (n : ℕ) → (n == n) ≡ true
-      self n = grind (arith, nat_tests)
 
       far : IsFar (voter_of f) g
       far = by (is_at (voter_cmp (voter_of f)) (voter_of g)) refl
@@ -91,7 +66,7 @@ module _ (here : ℕ) (book : BookValue) (state : machine.NodeValue) where
           by false e = e
           by true e =
               let same : voter_of f ≡ voter_of g = voter_exact (voter_of f) (voter_of g) e in
-              absurd (cc (sym (or_left (is_same_vote f g) _ none) ∙ subst (λ (v : Voter). (same_tid v.tid f.tid && (v.server.0 == f.server.0)) ≡ true) same (rw (same_tid-self f.tid, self f.server.0) refl)))
+              absurd (cc (sym (or_left (is_same_vote f g) _ none) ∙ subst (λ (v : Voter). (same_tid v.tid f.tid && (v.server.0 == f.server.0)) ≡ true) same (rw (same_tid-self f.tid, eqb-self f.server.0) refl)))
 
   -- each is on record, or was; or something else holds of it
   module _ (Else : Found → Type 0) where
@@ -108,22 +83,15 @@ module _ (here : ℕ) (book : BookValue) (state : machine.NodeValue) where
     first f w agrees (inr other) = inr other
     first f w agrees (inl ok) = inl (by (is_new f) refl ok)
       where
-        self : (n : ℕ) → (n == n) ≡ true
-        self n = grind (arith, nat_tests)
-
         by : (b : Bool) → is_new f ≡ b → (is_on_record state f ≡ true) ⊎ (is_new f ≡ true) → is_on_record (with_votes (if b then (voter f.tid f.server.0, vote_as_stopped here book state f) ∷ [] else []) w) f ≡ true
-        by true e ok = ap (in_record f) (lookup_put voter_cmp (voter f.tid f.server.0) (vote_as_stopped here book state f) (voter_itself (voter f.tid f.server.0)) w.records) ∙ self f.covers
+        by true e ok = ap (in_record f) (lookup_put voter_cmp (voter f.tid f.server.0) (vote_as_stopped here book state f) (voter_itself (voter f.tid f.server.0)) w.records) ∙ eqb-self f.covers
         by false e (inl on) = ap (in_record f) agrees ∙ on
         by false e (inr new) = absurd (cc (sym e ∙ new))
 
     agrees_on : (f : Found) (w : machine.NodeValue) (fs : List Found) → list_any (is_same_vote f) fs ≡ false → Every (Agrees w) fs → Every (Agrees (with_votes (nv f) w)) fs
     agrees_on f w [] none all = tt
-    agrees_on f w (g ∷ fs) none all = (one_far f w (voter_of g) (turned (once_far f (g ∷ fs) none).0) ∙ all.0, agrees_on f w fs (or_right (is_same_vote f g) _ none) all.1)
+    agrees_on f w (g ∷ fs) none all = (one_far f w (voter_of g) (turned (once_far f (g ∷ fs) none).0) ∙ all.0, agrees_on f w fs (or_last (is_same_vote f g) _ none) all.1)
       where
-        or_right : (a b : Bool) → (a || b) ≡ false → b ≡ false
-        or_right true b e = absurd (cc e)
-        or_right false b e = e
-
         turned : IsFar (voter_of f) g → IsFar (voter_of g) f
         turned far = by (is_at (voter_cmp (voter_of g)) (voter_of f)) refl
           where
@@ -136,18 +104,10 @@ module _ (here : ℕ) (book : BookValue) (state : machine.NodeValue) where
     pub on_record_all : (fs : List Found) (w : machine.NodeValue) → votes_once fs ≡ true → Every (Agrees w) fs → Every Ok fs → Every (λ (f : Found). (is_on_record (with_votes (flat_map nv fs) w) f ≡ true) ⊎ Else f) fs
     on_record_all [] w once agrees ok = tt
     on_record_all (f ∷ fs) w once agrees ok = subst (λ (v : machine.NodeValue). Every (λ (g : Found). (is_on_record v g ≡ true) ⊎ Else g) (f ∷ fs)) (sym (split f fs w))
-        (own (first f w agrees.0 ok.0), on_record_all fs (with_votes (nv f) w) (and_both _ (votes_once fs) once).1 (agrees_on f w fs apart agrees.1) ok.1)
+        (own (first f w agrees.0 ok.0), on_record_all fs (with_votes (nv f) w) (and_parts _ (votes_once fs) once).1 (agrees_on f w fs apart agrees.1) ok.1)
       where
-        and_both : (a b : Bool) → (a && b) ≡ true → (a ≡ true) × (b ≡ true)
-        and_both true b e = (refl, e)
-        and_both false b e = absurd (cc e)
-
-        not_true : (b : Bool) → not b ≡ true → b ≡ false
-        not_true false e = refl
-        not_true true e = absurd (cc e)
-
         apart : list_any (is_same_vote f) fs ≡ false
-        apart = not_true (list_any (is_same_vote f) fs) (and_both _ (votes_once fs) once).0
+        apart = not-true (list_any (is_same_vote f) fs) (and_parts _ (votes_once fs) once).0
 
         own : (is_on_record (with_votes (nv f) w) f ≡ true) ⊎ Else f → (is_on_record (with_votes (flat_map nv fs) (with_votes (nv f) w)) f ≡ true) ⊎ Else f
         own (inr other) = inr other
@@ -158,10 +118,6 @@ module _ (here : ℕ) (book : BookValue) (state : machine.NodeValue) where
   record_was [] w at rec is = inl is
   record_was (f ∷ fs) w at rec is = by (record_was fs (with_votes (nv f) w) at rec (ap (λ (v : machine.NodeValue). lookup (is_at (voter_cmp at)) v.records) (sym (split f fs w)) ∙ is))
     where
-      or_any : (a b : Bool) → b ≡ true → (a || b) ≡ true
-      or_any true b e = refl
-      or_any false b e = e
-
       or_first : (a b : Bool) → a ≡ true → (a || b) ≡ true
       or_first true b e = refl
       or_first false b e = absurd (cc e)
@@ -170,9 +126,6 @@ module _ (here : ℕ) (book : BookValue) (state : machine.NodeValue) where
       one false e had = inl had
       one true e had = of (is_at (voter_cmp at) (voter_of f)) refl
         where
-          self : (n : ℕ) → (n == n) ≡ true
-          self n = grind (arith, nat_tests)
-
           low : (n : ℕ) → nat_le n n ≡ true
           low n = grind (arith, nat_tests)
 
@@ -187,10 +140,10 @@ module _ (here : ℕ) (book : BookValue) (state : machine.NodeValue) where
               rec_is = ap (λ (o : Option OnRecord). elim o [ None ↦ rec | Some x ↦ x ]) (sym had ∙ subst (λ (v : Voter). lookup (is_at (voter_cmp v)) (insert_entry voter_cmp w.records (voter_of f) (vote_as_stopped here book state f)) ≡ Some (vote_as_stopped here book state f)) (sym same) (lookup_put voter_cmp (voter_of f) (vote_as_stopped here book state f) (voter_itself (voter_of f)) w.records))
 
               found : is_found_as at rec.covers f ≡ true
-              found = rw (same, rec_is, same_tid-self f.tid, self f.server.0) (low f.covers)
+              found = rw (same, rec_is, same_tid-self f.tid, eqb-self f.server.0) (low f.covers)
 
       by : (lookup (is_at (voter_cmp at)) (with_votes (nv f) w).records ≡ Some rec) ⊎ (list_any (is_found_as at rec.covers) fs ≡ true) → (lookup (is_at (voter_cmp at)) w.records ≡ Some rec) ⊎ (list_any (is_found_as at rec.covers) (f ∷ fs) ≡ true)
-      by (inr found) = inr (or_any (is_found_as at rec.covers f) _ found)
+      by (inr found) = inr (or_right (is_found_as at rec.covers f) _ found)
       by (inl had) = one (is_new f) refl had
 
 -- the votes that are new, as a restart reads them
@@ -234,9 +187,6 @@ pub forgot_done : (done : List Tid) (tid : Tid) (server : ℕ) (v : machine.Node
 forgot_done [] tid server v kept rising is = absurd (cc is)
 forgot_done (t ∷ done) tid server v kept rising is = by (same_tid tid t) refl (λ rest. forgot_done done tid server (without_records v t) kept (forgot_rises (t ∷ []) v rising) rest)
   where
-    no_is : (m n : ℕ) → (m == n) ≡ true → m ≡ n
-    no_is m n e = grind (arith, nat_tests, e)
-
     last : (n : ℕ) → is_recoverable n ≡ true → (n == 0) ≡ false → (n == 1) ≡ false → n ≡ 6
     last n k e f = grind (arith, nat_tests, k, e, f)
 
@@ -247,10 +197,10 @@ forgot_done (t ∷ done) tid server v kept rising is = by (same_tid tid t) refl 
     second = remove_rises voter_cmp (is_at (voter_cmp (voter tid 1))) (without_record tid 0 v).records first
 
     own : (a b : Bool) → (server == 0) ≡ a → (server == 1) ≡ b → record_of (without_records v tid) tid server ≡ None
-    own true b e _ = subst (λ (n : ℕ). record_of (without_records v tid) tid n ≡ None) (sym (no_is server 0 e))
+    own true b e _ = subst (λ (n : ℕ). record_of (without_records v tid) tid n ≡ None) (sym (eqb-true server 0 e))
         (removed_none (is_at (voter_cmp (voter tid 6))) (is_at (voter_cmp (voter tid 0))) (without_record tid 1 (without_record tid 0 v)).records
         (removed_none (is_at (voter_cmp (voter tid 1))) (is_at (voter_cmp (voter tid 0))) (without_record tid 0 v).records (removed voter_cmp voter_exact (voter tid 0) v.records rising)))
-    own false true _ e = subst (λ (n : ℕ). record_of (without_records v tid) tid n ≡ None) (sym (no_is server 1 e))
+    own false true _ e = subst (λ (n : ℕ). record_of (without_records v tid) tid n ≡ None) (sym (eqb-true server 1 e))
         (removed_none (is_at (voter_cmp (voter tid 6))) (is_at (voter_cmp (voter tid 1))) (without_record tid 1 (without_record tid 0 v)).records (removed voter_cmp voter_exact (voter tid 1) (without_record tid 0 v).records first))
     own false false e f = subst (λ (n : ℕ). record_of (without_records v tid) tid n ≡ None) (sym (last server kept e f)) (removed voter_cmp voter_exact (voter tid 6) (without_record tid 1 (without_record tid 0 v)).records second)
 

@@ -1,31 +1,12 @@
 -- After a restart the machine has at each server of the node what the node has there, but for what is crossed.
-use Rattle.std.proofs.Common.{◌≡◌, ℕ, ◌==◌, not, Bool, true, false, List, [], ◌∷◌, Option, Some, None, fold, flat_map, refl, sym, ap, subst, ◌∙◌, arith, is_some}
-use Rattle.std.proofs.lemmas.Bool.Decides.{nat_tests}
-use Rattle.std.specs.Global.{Global}
-use Rattle.std.specs.Map.{lookup}
-use Rattle.std.specs.BTreeMap.{is_at}
-use Rattle.qs_base.specs.Order.{member_cmp}
-use Rattle.qs_base.specs.declared.identifiers.Tid.{Tid}
+use Rattle.qs_world_lawful.proofs.Words.{◌≡◌, ℕ, not, false, List, [], ◌∷◌, Option, Some, None, fold, flat_map, refl, sym, ap, subst, ◌∙◌, is_some, Global, lookup, is_at, member_cmp, Tid, BookValue, crossed_in, find_transaction, member_at, new_votes, record_at, reopened, with_votes, without_records, TransactionValue, OnRecord, Voter, ServerValue, names_no, TableValue, applied, no_table, Op, Prepared, Recovery, opened_servers, recovered_as, Setting, HoldsDoubts, Every, found_votes, IsMadeBy}
+use Rattle.qs_world_lawful.proofs.Words.{IsToBeRecorded, HoldsServers, HoldsTable, HoldsTimers, is_seen, seen_in, IsLoanOf, eqb-true, not-true}
 use Rattle.qs_node_kept.specs.declared.kept.Kept.{Kept}
-use Rattle.qs_book_machine.specs.Book.{BookValue, crossed_in, find_transaction}
 use Rattle.qs_book_machine.specs.Nodes as machine
-use Rattle.qs_book_machine.specs.Restart.{keep_found, member_at, new_votes, record_at, reopened, with_vote, with_votes, without_records}
-use Rattle.qs_book_machine.specs.Transaction.{TransactionValue}
-use Rattle.qs_book_machine.specs.declared.state.OnRecord.{OnRecord}
-use Rattle.qs_book_machine.specs.declared.state.Voter.{Voter}
-use Rattle.qs_ops.specs.Server.{ServerValue}
-use Rattle.qs_ops.specs.Servers.{audit_no, files_no, names_no}
-use Rattle.qs_ops.specs.Table.{TableValue, applied, no_table, restarted}
-use Rattle.qs_ops.specs.declared.operation.Op.{Op}
-use Rattle.qs_restart.specs.Recovery.{Prepared, Recovery}
-use Rattle.qs_node_step.specs.Opening.{opened_servers, recovered_as}
+use Rattle.qs_book_machine.specs.Restart.{keep_found, with_vote}
+use Rattle.qs_ops.specs.Servers.{audit_no, files_no}
+use Rattle.qs_ops.specs.Table.{restarted}
 use Rattle.qs_node_step.specs.State.{NodeValue}
-use Rattle.qs_node_step.specs.declared.setting.Setting.{Setting}
-use Rattle.qs_world_lawful.specs.Doubts.{HoldsDoubts}
-use Rattle.qs_world_lawful.specs.Logs.{Every, found_votes}
-use Rattle.qs_world_lawful.specs.Said.{IsMadeBy, IsToBeRecorded}
-use Rattle.qs_world_lawful.specs.Tables.{HoldsServers, HoldsTable, HoldsTimers, is_seen, seen_in}
-use Rattle.qs_world_lawful.specs.Worlds.{IsLoanOf}
 use Rattle.qs_world_lawful.proofs.LogFrames.{every_on}
 use Rattle.qs_world_lawful.proofs.RestartTables.{HaveTables, IsKeptAs, take_changes, votes_kept}
 use Rattle.qs_world_lawful.proofs.FreshFace.{node, tables}
@@ -88,17 +69,10 @@ module _ (alloc : Global) (setting : Setting) (saved : Kept) (book : BookValue) 
   kept_as : (s : ℕ) → Every (IsKeptAs here mid s log.committed (is_seen now setting.node s) (hides s)) log.prepared
   kept_as s = every_on (IsToBeRecorded here book log) (IsKeptAs here mid s log.committed (is_seen now setting.node s) (hides s)) one log.prepared r.left.recorded
     where
-      no_is : (m n : ℕ) → (m == n) ≡ true → m ≡ n
-      no_is m n e = grind (arith, nat_tests, e)
-
-      clean : (b : Bool) → not b ≡ true → b ≡ false
-      clean false e = refl
-      clean true e = absurd (cc e)
-
       one : (v : Prepared) → IsToBeRecorded here book log v → IsKeptAs here mid s log.committed (is_seen now setting.node s) (hides s) v
       one v is named open_still own shown =
-          subst (λ (k : ℕ). machine.changes_of (record_at here mid v.tid k) ≡ v.changes) (no_is v.server.0 s own)
-          ((is named open_still).changes (subst (λ (k : ℕ). crossed_in (find_transaction book v.tid) (member_at here k) ≡ false) (sym (no_is v.server.0 s own)) (clean (crossed_in (find_transaction book v.tid) (member_at here s)) (sym (hides s v.tid) ∙ shown))))
+          subst (λ (k : ℕ). machine.changes_of (record_at here mid v.tid k) ≡ v.changes) (eqb-true v.server.0 s own)
+          ((is named open_still).changes (subst (λ (k : ℕ). crossed_in (find_transaction book v.tid) (member_at here k) ≡ false) (sym (eqb-true v.server.0 s own)) (not-true (crossed_in (find_transaction book v.tid) (member_at here s)) (sym (hides s v.tid) ∙ shown))))
 
   -- a table of the machine that keeps changes in the log, against the node's
   table_held : (s : ℕ) (old : TableValue) (changes : List Op) (said : List Op) → IsMadeBy (applied old changes) said → HoldsTable (is_seen now setting.node s) (restarted old changes (flat_map (keep_found here mid s log.committed) (found_votes log))) (fold (take_changes s) (applied no_table said) log.prepared)

@@ -1,26 +1,11 @@
 -- After a restart the machine holds of each transaction what the node has that begins its incarnation.
-use Rattle.std.proofs.Common.{◌≡◌, inl, inr, ℕ, ◌<◌, ◌≤◌, ◌==◌, ◌&&◌, ◌||◌, not, Bool, true, false, Option, Some, None, refl, sym, ap, subst, ◌∙◌, arith, is_some, nat_lt}
-use Rattle.std.proofs.lemmas.Bool.Decides.{nat_tests}
-use Rattle.std.specs.Prelude.{slice_get}
-use Rattle.std.specs.List.{list_all}
-use Rattle.qs_base.specs.Order.{same_tid}
-use Rattle.qs_base.specs.declared.identifiers.NodeNo.{NodeNo}
-use Rattle.qs_base.specs.declared.identifiers.Tid.{Tid}
-use Rattle.qs_book_machine.specs.Book.{BookValue, cell_of_transaction, find_transaction}
+use Rattle.qs_world_lawful.proofs.Words.{◌≡◌, inl, inr, ℕ, ◌<◌, ◌==◌, ◌&&◌, ◌||◌, Bool, true, false, Option, Some, None, refl, sym, ap, subst, ◌∙◌, is_some, slice_get, list_all, same_tid, NodeNo, Tid, BookValue, cell_of_transaction, find_transaction, is_recoverable, count_of, is_among, is_committed, member_at, record_at, TransactionValue, is_commit, is_empty, is_open, is_unanimous, learnt_abort, no_part, Cell, Part, Prepared, Recovery, is_in_doubt, names_transaction, doubt_at, member_as}
+use Rattle.qs_world_lawful.proofs.Words.{HoldsMember, IsBefore, Lasts, HasAborted, HasCommitted, IsMarked, StandsIn, Every, HoldsStopped, IsCommitLogged, HoldsLeft, IsApart, eqb-true, not-true, ltb_some}
 use Rattle.qs_book_machine.specs.Nodes as machine
-use Rattle.qs_book_machine.specs.Nodes.{is_recoverable}
-use Rattle.qs_book_machine.specs.Restart.{count_of, is_among, is_committed, member_at, record_at}
-use Rattle.qs_book_machine.specs.Transaction.{TransactionValue, is_commit, is_empty, is_open, is_unanimous, learnt_abort, no_part, part_of}
-use Rattle.qs_book_machine.specs.declared.transaction.Cell.{Cell}
+use Rattle.qs_book_machine.specs.Transaction.{part_of}
 use Rattle.qs_book_machine.specs.declared.transaction.Cell.TheVariants as cells
-use Rattle.qs_book_machine.specs.declared.transaction.Part.{Part}
-use Rattle.qs_restart.specs.Recovery.{Prepared, Recovery, is_in_doubt, names_transaction}
-use Rattle.qs_world_lawful.specs.Doubtful.{doubt_at, member_as}
-use Rattle.qs_world_lawful.specs.Holds.{HoldsMember}
-use Rattle.qs_world_lawful.specs.Lasting.{IsBefore, Lasts, LastsAt}
-use Rattle.qs_world_lawful.specs.Logged.{HasAborted, HasCommitted, IsMarked, StandsIn}
-use Rattle.qs_world_lawful.specs.Logs.{Every, HoldsStopped, IsCommitLogged}
-use Rattle.qs_world_lawful.specs.Said.{HoldsLeft, IsApart, IsUndone}
+use Rattle.qs_world_lawful.specs.Lasting.{LastsAt}
+use Rattle.qs_world_lawful.specs.Said.{IsUndone}
 use Rattle.qs_world_lawful.proofs.FoundMembers.{all_true, and_both, every_among, every_two, member_found, member_none}
 use Rattle.qs_world_lawful.proofs.Reopened.{doubt_is}
 use Rattle.qs_world_lawful.proofs.RestartGoes.{Goes, IsElsewhere}
@@ -101,9 +86,6 @@ module _ (book : BookValue) (here : NodeNo) (stamp inc : ℕ) (log : Recovery) (
       commit_is cells.Open e = absurd (cc e)
       commit_is cells.Abort e = absurd (cc e)
 
-      same_no : (m n : ℕ) → (m == n) ≡ true → m ≡ n
-      same_no m n e = grind (arith, nat_tests, e)
-
       of : (o : Option TransactionValue) → find_transaction book tid ≡ o → is_committed here.0 tid o ≡ true → HasCommitted new tid
       of None nothing is = absurd (cc is)
       of (Some tx) had is = cell (is_commit tx.cell) refl
@@ -113,7 +95,7 @@ module _ (book : BookValue) (here : NodeNo) (stamp inc : ℕ) (log : Recovery) (
           cell false c =
               let two = and_both (is_open tx.cell && (tid.home.0 == here.0)) (is_unanimous tx) (rw c at is) in
               let one = and_both (is_open tx.cell) (tid.home.0 == here.0) two.0 in
-              committed_new book here.0 stamp inc log state r.there r.stopped.kinds sorted tid tx had among (same_no tid.home.0 here.0 one.1) one.0
+              committed_new book here.0 stamp inc log state r.there r.stopped.kinds sorted tid tx had among (eqb-true tid.home.0 here.0 one.1) one.0
 
       by : IsCommitLogged here.0 book state tid → HasCommitted new tid
       by (inl opening) = committed_stays tid (at_node.committed tid opening)
@@ -122,10 +104,7 @@ module _ (book : BookValue) (here : NodeNo) (stamp inc : ℕ) (log : Recovery) (
   -- what is open at the node that restarts, and not committed in its log, is aborted
   pub open_aborted : (tid : Tid) (tx : TransactionValue) → find_transaction book tid ≡ Some tx → tid.home ≡ here → is_open tx.cell ≡ true → is_among log.committed tid ≡ false → HasAborted new tid
   open_aborted tid tx had home undecided far =
-      aborted_new book here.0 stamp inc log state r.there r.stopped.kinds sorted tid tx had far (ap (λ (m : NodeNo). m.0) home) undecided (at_node.open_now tid tx had home undecided) (low tid.seq (r.lasts.named tid (ap is_some had)))
-    where
-      low : (k : ℕ) → nat_lt 0 k ≡ true → 1 ≤ k
-      low k e = grind (arith, nat_tests, e)
+      aborted_new book here.0 stamp inc log state r.there r.stopped.kinds sorted tid tx had far (ap (λ (m : NodeNo). m.0) home) undecided (at_node.open_now tid tx had home undecided) (ltb_some tid.seq (r.lasts.named tid (ap is_some had)))
 
   -- ---- what is in doubt
 
@@ -141,15 +120,11 @@ module _ (book : BookValue) (here : NodeNo) (stamp inc : ℕ) (log : Recovery) (
       one : (v : Prepared) → StandsIn book v × IsUndone here.0 book v → IsApart log v → is_in_doubt v ≡ true → InDoubt v.tid
       one v both apart doubt = record { stands = both.0; away = λ home. away home (find_transaction book v.tid) refl; far = apart named clear }
         where
-          not_true : (b : Bool) → not b ≡ true → b ≡ false
-          not_true false e = refl
-          not_true true e = absurd (cc e)
-
           named : names_transaction v.tid ≡ true
           named = (and_both (names_transaction v.tid) _ doubt).0
 
           clear : v.committed ≡ false
-          clear = not_true v.committed (and_both (names_transaction v.tid) _ doubt).1
+          clear = not-true v.committed (and_both (names_transaction v.tid) _ doubt).1
 
           away : v.tid.home ≡ here → (o : Option TransactionValue) → find_transaction book v.tid ≡ o → HasAborted new v.tid
           away home None nothing = absurd (cc (sym (ap is_some nothing) ∙ both.0))
@@ -183,10 +158,7 @@ module _ (book : BookValue) (here : NodeNo) (stamp inc : ℕ) (log : Recovery) (
     doubt_kept s v is =
         let p = doubt_is (λ (x : Prepared). is_recoverable x.server.0 ≡ true) tid s log.prepared r.stopped.kinds v is in
         let same = (and_both (same_tid v.tid tid) (v.server.0 == s) (and_both (is_in_doubt v) _ p.1).1).1 in
-        subst (λ (k : ℕ). is_recoverable k ≡ true) (no_is v.server.0 s same) p.0
-      where
-        no_is : (m n : ℕ) → (m == n) ≡ true → m ≡ n
-        no_is m n e = grind (arith, nat_tests, e)
+        subst (λ (k : ℕ). is_recoverable k ≡ true) (eqb-true v.server.0 s same) p.0
 
     pub part_plain : (s : ℕ) → is_recoverable s ≡ false → part_of later (member_at here.0 s) inc ≡ no_part
     part_plain s plain = by (doubt_at log.prepared tid s) refl
@@ -225,10 +197,7 @@ module _ (book : BookValue) (here : NodeNo) (stamp inc : ℕ) (log : Recovery) (
         open_commit cells.Abort p q = cc p
 
         same_no : (m n : NodeNo) → (m.0 == n.0) ≡ true → m ≡ n
-        same_no m n e = ap (λ (x : ℕ). record { 0 = x }) (no_is m.0 n.0 e)
-          where
-            no_is : (a b : ℕ) → (a == b) ≡ true → a ≡ b
-            no_is a b e = grind (arith, nat_tests, e)
+        same_no m n e = ap (λ (x : ℕ). record { 0 = x }) (eqb-true m.0 n.0 e)
 
         clean : (o : Option TransactionValue) → find_transaction book tid ≡ o → is_committed here.0 tid o ≡ true → is_empty tx.crossed ≡ true
         clean None nothing c = absurd (cc c)

@@ -1,26 +1,12 @@
 -- The machine has the scripts of all clients after a restart: owners have their lines on, no label is new, and the node has nothing in hand.
-use Rattle.std.proofs.Common.{◌≡◌, ℕ, ◌==◌, Bool, true, false, List, [], ◌∷◌, fold, Some, None, is_some, refl, sym, subst, ◌∙◌, if◌then◌else◌}
-use Rattle.std.specs.Prelude.{slice_get}
-use Rattle.std.specs.Map.{lookup}
-use Rattle.std.specs.BTreeMap.{is_at}
+use Rattle.qs_world_lawful.proofs.Words.{◌≡◌, ℕ, ◌==◌, Bool, true, false, List, [], ◌∷◌, fold, Some, None, is_some, refl, sym, subst, ◌∙◌, if◌then◌else◌, slice_get, lookup, is_at, Tid, Found, BookValue, find_transaction, inc_at, with_transaction, book_after, abort_begun, begun_at, begun_tid, commit_found, count_of, is_among, is_open_here, learn_found, member_at, put_new_votes, record_at, restart, up_to, vote_found, found_at, with_learnt, Owner, recovery, recovered_of, client_cmp, Rise, moved}
+use Rattle.qs_world_lawful.proofs.Words.{risen_host, found_votes, rise_entry}
 use Rattle.qs_base.specs.declared.identifiers.Outcome.TheVariants as outcomes
-use Rattle.qs_base.specs.declared.identifiers.Tid.{Tid}
-use Rattle.qs_book_journal.specs.declared.entry.Found.{Found}
-use Rattle.qs_book_machine.specs.Book.{BookValue, decide, find_transaction, inc_at, with_transaction}
-use Rattle.qs_book_machine.specs.Lawful.{book_after}
-use Rattle.qs_book_machine.specs.Restart.{abort_begun, begun_at, begun_tid, commit_found, count_of, is_among, is_open_here, learn_found, member_at, put_new_votes, record_at, restart, up_to, vote_found}
-use Rattle.qs_book_machine.specs.Transaction.{found_at, with_learnt}
-use Rattle.qs_book_machine.specs.declared.state.Owner.{Owner}
+use Rattle.qs_book_machine.specs.Book.{decide}
 use Rattle.qs_ops.specs.Servers.{audit_no, extra_no, files_no}
 use Rattle.qs_ops.specs.declared.answer.Cause.TheVariants as causes
-use Rattle.qs_restart.specs.Recovery.{recovery}
-use Rattle.qs_node_step.specs.Opening.{recovered_of}
-use Rattle.qs_node_step.specs.State.{client_cmp}
-use Rattle.qs_world.specs.Moves.{Rise, moved, risen_host}
-use Rattle.qs_world_lawful.specs.Logs.{found_votes}
 use Rattle.qs_world_lawful.specs.Scripts.{IsInHand}
 use Rattle.qs_world_lawful.specs.WayLaws.{EachRiseKeepsScripts}
-use Rattle.qs_world_lawful.specs.WorldLaws.{rise_entry}
 use Rattle.qs_world_lawful.proofs.OthersRise.{lines}
 use Rattle.qs_world_lawful.proofs.RisesWell.{at, log, r, same_book, setting}
 use Rattle.qs_world_lawful.proofs.ScriptsLike.{HoldsHand, KeepsLines, scripts_like}

@@ -1,41 +1,12 @@
 -- A node that is down restarts: its entry is lawful, and the machine holds the node that begins, its log, and what is kept for clients.
-use Rattle.std.proofs.Common.{◌≡◌, ℕ, ◌<◌, ◌≤◌, ◌==◌, ◌&&◌, ◌++◌, not, Bool, true, false, List, [], ◌∷◌, Option, Some, None, fold, refl, sym, ap, subst, ◌∙◌, arith, if◌then◌else◌, is_some, nat_lt}
-use Rattle.std.proofs.lemmas.Bool.Decides.{nat_tests}
-use Rattle.std.proofs.lemmas.List.{append-nil}
-use Rattle.std.specs.Prelude.{slice_get}
-use Rattle.std.specs.List.{find, list_any}
-use Rattle.qs_base.specs.Order.{same_tid}
-use Rattle.qs_base.proofs.Same.{same_tid-self}
-use Rattle.qs_base.specs.declared.identifiers.NodeNo.{NodeNo}
+use Rattle.qs_world_lawful.proofs.Words.{◌≡◌, ℕ, ◌<◌, ◌==◌, ◌&&◌, ◌++◌, not, Bool, true, false, List, [], ◌∷◌, Option, Some, None, fold, refl, sym, ap, subst, ◌∙◌, if◌then◌else◌, is_some, nat_lt, append-nil, slice_get, find, list_any, same_tid, same_tid-self, NodeNo, Tid, same_node, Entry, is_outcome_of, Begun, Decided, Lent, BookValue, find_transaction, broken, effect, votes_once, TransactionValue, Record, Recovery, recovery, entry_of, close_outcome, close_tid, is_left_open, outcome_in_log}
+use Rattle.qs_world_lawful.proofs.Words.{recovered_of, Setting, Rise, may_move, moved, risen_host, Host, World, inc_of, Lasts, HoldsHost, Every, HoldsStopped, found_votes, HoldsLeft, HoldsSaid, rise_entry, HoldsDown, HoldsKept, HoldsNodeAt, HoldsNodeOf, HoldsUp, HoldsWorld, IsLeftOpen, IsLoanOf, eqb-self, not-true, ltb-true, and_parts}
 use Rattle.qs_base.specs.declared.identifiers.Outcome.TheVariants as outcomes
-use Rattle.qs_base.specs.declared.identifiers.Tid.{Tid}
-use Rattle.qs_engage.specs.Nodes.{same_node}
 use Rattle.qs_book_journal.specs.declared.entry.Act.TheVariants as acts
-use Rattle.qs_book_journal.specs.declared.entry.Entry.{Entry}
-use Rattle.qs_node_kept.specs.Keeping.{is_outcome_of}
-use Rattle.qs_node_kept.specs.declared.kept.KeptLabel.{KeptLabel}
-use Rattle.qs_node_kept.specs.declared.kept.Decided.{Decided}
-use Rattle.qs_node_kept.specs.declared.kept.Lent.{Lent}
-use Rattle.qs_book_machine.specs.Book.{BookValue, find_transaction}
-use Rattle.qs_book_machine.specs.Lawful.{broken, effect, is_in_order}
+use Rattle.qs_book_machine.specs.Lawful.{is_in_order}
 use Rattle.qs_book_machine.specs.Nodes as machine
-use Rattle.qs_book_machine.specs.Restart.{votes_once}
-use Rattle.qs_book_machine.specs.Transaction.{TransactionValue}
 use Rattle.qs_ops.specs.declared.answer.Cause.TheVariants as causes
-use Rattle.qs_record.specs.declared.record.Record.{Record}
-use Rattle.qs_restart.specs.Recovery.{Recovery, recovery}
-use Rattle.qs_world.specs.Posting.{entry_of}
-use Rattle.qs_node_step.specs.Opening.{close_outcome, close_tid, is_left_open, outcome_in_log, recovered_of}
-use Rattle.qs_node_step.specs.declared.setting.Setting.{Setting}
-use Rattle.qs_world.specs.Moves.{Rise, may_move, moved, risen_host}
 use Rattle.qs_world.specs.Moves as moves
-use Rattle.qs_world.specs.World.{Host, World, inc_of}
-use Rattle.qs_world_lawful.specs.Lasting.{Lasts}
-use Rattle.qs_world_lawful.specs.Logged.{HoldsHost}
-use Rattle.qs_world_lawful.specs.Logs.{Every, HoldsStopped, found_votes}
-use Rattle.qs_world_lawful.specs.Said.{HoldsLeft, HoldsSaid}
-use Rattle.qs_world_lawful.specs.WorldLaws.{rise_entry}
-use Rattle.qs_world_lawful.specs.Worlds.{HoldsDown, HoldsKept, HoldsNodeAt, HoldsNodeOf, HoldsUp, HoldsWorld, IsLeftOpen, IsLoanOf}
 use Rattle.qs_world_lawful.proofs.FoundOnce.{found_once}
 use Rattle.qs_world_lawful.proofs.LogFrames.{every_on}
 use Rattle.qs_world_lawful.proofs.Restarting.{may_restart}
@@ -46,10 +17,7 @@ use Rattle.qs_world_lawful.proofs.RestoredServers.{same_found}
 use Rattle.qs_world_lawful.proofs.Restored.{there_new}
 use Rattle.qs_world_lawful.proofs.RestoredTid.{Restarts, goes}
 use Rattle.qs_world_lawful.proofs.UntoldListed.{untold_listed}
-
-and_both : (a b : Bool) → (a && b) ≡ true → (a ≡ true) × (b ≡ true)
-and_both true b e = (refl, e)
-and_both false b e = absurd (cc e)
+use Rattle.qs_base_lemmas.proofs.Tests.{le_lt_le}
 
 -- ---- each label has its outcome then
 
@@ -73,7 +41,7 @@ module _ (here : NodeNo) (done : List Tid) (tid : Tid) (home : tid.home ≡ here
       by true e rest = rw e refl
       by false e rest = rw e rest
 
-  close_more : (begun : KeptLabel) (os : List Decided) → HasOutcome os → HasOutcome (close_outcome here done os begun)
+  close_more : (begun : Begun) (os : List Decided) → HasOutcome os → HasOutcome (close_outcome here done os begun)
   close_more begun os h = by begun.tid
     where
       if_more : (b : Bool) (d : Decided) → HasOutcome (if b then os ++ d ∷ [] else os)
@@ -84,14 +52,11 @@ module _ (here : NodeNo) (done : List Tid) (tid : Tid) (home : tid.home ≡ here
       by None = h
       by (Some t) = if_more (is_left_open here os t) (outcome_in_log done t)
 
-  close_own : (begun : KeptLabel) (os : List Decided) → begun.tid ≡ Some tid → HasOutcome (close_outcome here done os begun)
+  close_own : (begun : Begun) (os : List Decided) → begun.tid ≡ Some tid → HasOutcome (close_outcome here done os begun)
   close_own begun os is = subst (λ (o : Option Tid). HasOutcome (close_tid here done os o)) (sym is) (by (find (is_outcome_of tid) os) refl)
     where
-      self : (n : ℕ) → (n == n) ≡ true
-      self n = grind (arith, nat_tests)
-
       near : same_node tid.home here ≡ true
-      near = subst (λ (n : NodeNo). (n.0 == here.0) ≡ true) (sym home) (self here.0)
+      near = subst (λ (n : NodeNo). (n.0 == here.0) ≡ true) (sym home) (eqb-self here.0)
 
       own : is_outcome_of tid (outcome_in_log done tid) ≡ true
       own = at (list_any (same_tid tid) done)
@@ -110,14 +75,14 @@ module _ (here : NodeNo) (done : List Tid) (tid : Tid) (home : tid.home ≡ here
           both : is_left_open here os tid ≡ false
           both = rw (near, e) refl
 
-  fold_more : (labels : List KeptLabel) (os : List Decided) → HasOutcome os → HasOutcome (fold (close_outcome here done) os labels)
+  fold_more : (labels : List Begun) (os : List Decided) → HasOutcome os → HasOutcome (fold (close_outcome here done) os labels)
   fold_more [] os h = h
   fold_more (b ∷ labels) os h = fold_more labels (close_outcome here done os b) (close_more b os h)
 
-  pub fold_own : (begun : KeptLabel) → begun.tid ≡ Some tid → (labels : List KeptLabel) (os : List Decided) → HasOutcome (fold (close_outcome here done) (close_outcome here done os begun) labels)
+  pub fold_own : (begun : Begun) → begun.tid ≡ Some tid → (labels : List Begun) (os : List Decided) → HasOutcome (fold (close_outcome here done) (close_outcome here done os begun) labels)
   fold_own begun is labels os = fold_more labels (close_outcome here done os begun) (close_own begun os is)
 
-all_closed : (here : NodeNo) (done : List Tid) (book : BookValue) (labels : List KeptLabel) (os : List Decided) → Every (λ (b : KeptLabel). (tid : Tid) → b.tid ≡ Some tid → tid.home ≡ here → is_some (find (is_outcome_of tid) (fold (close_outcome here done) os labels)) ≡ true) labels
+all_closed : (here : NodeNo) (done : List Tid) (book : BookValue) (labels : List Begun) (os : List Decided) → Every (λ (b : Begun). (tid : Tid) → b.tid ≡ Some tid → tid.home ≡ here → is_some (find (is_outcome_of tid) (fold (close_outcome here done) os labels)) ≡ true) labels
 all_closed here done book [] os = tt
 all_closed here done book (b ∷ labels) os = ((λ tid is home. fold_own here done tid home b is labels os), all_closed here done book labels (close_outcome here done os b))
 
@@ -125,23 +90,16 @@ all_closed here done book (b ∷ labels) os = ((λ tid is home. fold_own here do
 
 module _ (book : BookValue) (world : World) (n stamp inc : ℕ) (lasts : Lasts book) (h : HoldsWorld book world) (may : may_move world (Rise n stamp inc) ≡ true) where
   down : world.channels.up n ≡ false
-  down = not_true (world.channels.up n) (and_both (not (world.channels.up n)) _ may).0
-    where
-      not_true : (b : Bool) → not b ≡ true → b ≡ false
-      not_true false e = refl
-      not_true true e = absurd (cc e)
+  down = not-true (world.channels.up n) (and_parts (not (world.channels.up n)) _ may).0
 
   pub ordered : moves.is_in_order world n stamp ≡ true
-  ordered = (and_both (moves.is_in_order world n stamp) _ (and_both (not (world.channels.up n)) _ may).1).0
+  ordered = (and_parts (moves.is_in_order world n stamp) _ (and_parts (not (world.channels.up n)) _ may).1).0
 
   later : nat_lt (inc_of world n) inc ≡ true
-  later = (and_both (moves.is_in_order world n stamp) _ (and_both (not (world.channels.up n)) _ may).1).1
+  later = (and_parts (moves.is_in_order world n stamp) _ (and_parts (not (world.channels.up n)) _ may).1).1
 
   in_run : n < world.size
-  in_run = less n world.size (and_both (nat_lt n world.size) (nat_lt stamp moves.stamp_limit) (and_both (nat_lt n world.size && nat_lt stamp moves.stamp_limit) _ ordered).0).0
-    where
-      less : (a b : ℕ) → nat_lt a b ≡ true → a < b
-      less a b e = grind (arith, nat_tests, e)
+  in_run = ltb-true n world.size (and_parts (nat_lt n world.size) (nat_lt stamp moves.stamp_limit) (and_parts (nat_lt n world.size && nat_lt stamp moves.stamp_limit) _ ordered).0).0
 
   pub at : HoldsNodeAt book world n
   at = h.nodes n in_run
@@ -156,10 +114,7 @@ module _ (book : BookValue) (world : World) (n stamp inc : ℕ) (lasts : Lasts b
   d = at.stopped down
 
   rises : at.state.inc < inc
-  rises = less at.state.inc inc (ap (λ (i : ℕ). nat_lt i inc) at.inc_is ∙ later)
-    where
-      less : (a b : ℕ) → nat_lt a b ≡ true → a < b
-      less a b e = grind (arith, nat_tests, e)
+  rises = ltb-true at.state.inc inc (ap (λ (i : ℕ). nat_lt i inc) at.inc_is ∙ later)
 
   -- by the number that the node has itself
   record At (k : ℕ) : Type 0 where
@@ -236,11 +191,8 @@ module _ (book : BookValue) (world : World) (n stamp inc : ℕ) (lasts : Lasts b
     loans = every_on (IsLoanOf book at.state.inc) (IsLoanOf book_now inc) loan_now (world.hosts n).node.kept.saved.loans kept_before.loans;
   }
     where
-      less : (a b c : ℕ) → a ≤ b → b < c → a ≤ c
-      less a b c p q = grind (arith, p, q)
-
       loan_now : (loan : Lent) → IsLoanOf book at.state.inc loan → IsLoanOf book_now inc loan
-      loan_now loan is = record { stands = by (find_transaction book loan.tid) refl; made = less loan.inc at.state.inc inc is.made rises }
+      loan_now loan is = record { stands = by (find_transaction book loan.tid) refl; made = le_lt_le loan.inc at.state.inc inc is.made rises }
         where
           by : (o : Option TransactionValue) → find_transaction book loan.tid ≡ o → is_some (find_transaction book_now loan.tid) ≡ true
           by None none = absurd (cc (sym (ap is_some none) ∙ is.stands))
@@ -266,7 +218,4 @@ module _ (book : BookValue) (world : World) (n stamp inc : ℕ) (lasts : Lasts b
 
   -- its entry is lawful, and the machine holds the node that begins
   pub rises_own : (broken book entry ≡ None) × HoldsNodeAt (effect book entry) (moved (Rise n stamp inc) world) n
-  rises_own = (entry_lawful, subst (λ (b : BookValue). HoldsNodeAt b (moved (Rise n stamp inc) world) n) (sym same_book) (subst (λ (b : Bool). HoldsNodeOf book_now world.size n (if b then inc else inc_of world n) (if b then true else world.channels.up n) (if b then risen else world.hosts n)) (sym (self n)) node_now))
-    where
-      self : (k : ℕ) → (k == k) ≡ true
-      self k = grind (arith, nat_tests)
+  rises_own = (entry_lawful, subst (λ (b : BookValue). HoldsNodeAt b (moved (Rise n stamp inc) world) n) (sym same_book) (subst (λ (b : Bool). HoldsNodeOf book_now world.size n (if b then inc else inc_of world n) (if b then true else world.channels.up n) (if b then risen else world.hosts n)) (sym (eqb-self n)) node_now))

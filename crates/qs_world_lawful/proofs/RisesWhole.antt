@@ -1,16 +1,7 @@
 -- A node that is down restarts: the machine after the entry has the whole world after it.
-use Rattle.std.proofs.Common.{◌≡◌, ℕ, ◌<◌, ◌==◌, Bool, true, false, [], ◌∷◌, length, refl, sym, ap, subst, ◌∙◌, arith, if◌then◌else◌}
-use Rattle.std.proofs.lemmas.Bool.Decides.{nat_tests}
-use Rattle.qs_book_laws.proofs.InRun.{ran_run}
-use Rattle.qs_book_machine.specs.Book.{BookValue}
-use Rattle.qs_book_machine.specs.Lawful.{effect}
-use Rattle.qs_node_step.specs.Opening.{recovered_of}
-use Rattle.qs_world.specs.Moves.{Rise, is_in_order, may_move, moved, risen_host, stamp_limit}
-use Rattle.qs_world.specs.World.{World, inc_of}
-use Rattle.qs_world_lawful.specs.Holds.{is_next}
-use Rattle.qs_world_lawful.specs.Lasting.{Lasts}
-use Rattle.qs_world_lawful.specs.WorldLaws.{RisesWell, rise_entry}
-use Rattle.qs_world_lawful.specs.Worlds.{HoldsNodeAt, HoldsNodeOf, HoldsWorld}
+use Rattle.qs_world_lawful.proofs.Words.{◌≡◌, ℕ, ◌<◌, ◌==◌, Bool, true, false, [], ◌∷◌, length, refl, sym, ap, subst, ◌∙◌, if◌then◌else◌, ran_run, BookValue, effect, recovered_of, Rise, may_move, moved, risen_host, stamp_limit, World, inc_of, is_next, Lasts, rise_entry, HoldsNodeAt, HoldsNodeOf, HoldsWorld, apart_turned, eqb-true}
+use Rattle.qs_world.specs.Moves.{is_in_order}
+use Rattle.qs_world_lawful.specs.WorldLaws.{RisesWell}
 use Rattle.qs_world_lawful.proofs.OthersDown.{node_on}
 use Rattle.qs_world_lawful.proofs.RisesWell.{at, book_now, log, r, rises_own, same_book, setting}
 use Rattle.qs_world_lawful.proofs.StopsWhole.{next_by}
@@ -36,23 +27,17 @@ module _ (book : BookValue) (world : World) (n stamp inc : ℕ) (lasts : Lasts b
 
   other : (k : ℕ) → k < world.size → (k == n) ≡ false → HoldsNodeOf now world.size k (inc_of world k) (world.channels.up k) (world.hosts k)
   other k low far = subst (λ (b : BookValue). HoldsNodeOf b world.size k (inc_of world k) (world.channels.up k) (world.hosts k)) (sym same)
-      (node_on book (setting book world n stamp inc lasts h may).node stamp inc (log book world n stamp inc lasts h may) (at book world n stamp inc lasts h may).state (r book world n stamp inc lasts h may) k apart (turned k (world.hosts n).node.setting.node.0 apart)
+      (node_on book (setting book world n stamp inc lasts h may).node stamp inc (log book world n stamp inc lasts h may) (at book world n stamp inc lasts h may).state (r book world n stamp inc lasts h may) k apart (apart_turned k (world.hosts n).node.setting.node.0 apart)
       world.size (inc_of world k) (world.channels.up k) (world.hosts k) (λ s there. (lasts.nodes (record { 0 = k }) s there).stopped) (h.nodes k low))
     where
-      turned : (a b : ℕ) → (a == b) ≡ false → (b == a) ≡ false
-      turned a b e = grind (arith, nat_tests, e)
-
       apart : (k == (world.hosts n).node.setting.node.0) ≡ false
       apart = ap (λ (m : ℕ). k == m) (at book world n stamp inc lasts h may).node ∙ far
 
   nodes_now : (k : ℕ) → k < world.size → HoldsNodeAt now next k
   nodes_now k low = by (k == n) refl
     where
-      no_is : (a b : ℕ) → (a == b) ≡ true → a ≡ b
-      no_is a b e = grind (arith, nat_tests, e)
-
       by : (b : Bool) → (k == n) ≡ b → HoldsNodeAt now next k
-      by true near = subst (λ (j : ℕ). HoldsNodeAt now next j) (sym (no_is k n near)) own
+      by true near = subst (λ (j : ℕ). HoldsNodeAt now next j) (sym (eqb-true k n near)) own
       by false far = subst (λ (b : Bool). HoldsNodeOf now world.size k (if b then inc else inc_of world k) (if b then true else world.channels.up k) (if b then risen_host stamp inc (recovered_of (world.hosts n).log) (world.hosts n) else world.hosts k)) (sym far) (other k low far)
 
   pub rises_well : RisesWell book world n stamp inc

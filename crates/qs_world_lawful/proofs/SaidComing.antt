@@ -1,44 +1,22 @@
 -- What comes in a step writes at most the end of a transaction's records, but where a commit is told: commands, messages, restarts of other nodes
 -- and time. So do refusal, forgetting, and commands that stayed open.
-use Rattle.std.proofs.Common.{ℕ, Bool, true, false, List, [], ◌∷◌, Option, Some, None, refl, if◌then◌else◌}
-use Rattle.std.specs.Prelude.{⊤}
-use Rattle.qs_base.specs.declared.identifiers.ClientNo.{ClientNo}
-use Rattle.qs_base.specs.declared.identifiers.NodeNo.{NodeNo}
-use Rattle.qs_base.specs.declared.identifiers.Outcome.{Outcome}
+use Rattle.qs_world_lawful.proofs.Words.{ℕ, Bool, true, false, List, [], ◌∷◌, Option, Some, None, refl, if◌then◌else◌, ⊤, ClientNo, NodeNo, Outcome, Tid, same_node, Command, ScriptLine, Begun, Decided, ticked, Cause, Message, kept_outcome, borrower_command, enter, log, send, ask, begin_as, begin_or_refuse, decided_answer, open_command, owner_command, label_at, put_label, forget_rule, refusal_goes_to, refuse_elsewhere, refuse_home, refuse_rule, send_refusal, Work, change_server, here, with_manager}
+use Rattle.qs_world_lawful.proofs.Words.{abort_old, age_rule, command_came, happen, is_owner, labelled, message_came, obey, tick, with_command, end_told, forget, learn_unknown, names_at, take_names, take_outcome, take_told, tell_came, told_at_home, told_came, told_known, told_unknown, Event, is_forgotten, is_undecided, BeginFault, Participant}
 use Rattle.qs_base.specs.declared.identifiers.Outcome.TheVariants as outcomes
-use Rattle.qs_base.specs.declared.identifiers.Tid.{Tid}
-use Rattle.qs_engage.specs.Nodes.{same_node}
 use Rattle.qs_book_journal.specs.declared.entry.Act.TheVariants as acts
-use Rattle.qs_book_journal.specs.declared.script_line.Command.{Command}
 use Rattle.qs_book_journal.specs.declared.script_line.Command.TheVariants as commands
-use Rattle.qs_book_journal.specs.declared.script_line.ScriptLine.{ScriptLine}
-use Rattle.qs_node_kept.specs.declared.kept.KeptLabel.{KeptLabel}
-use Rattle.qs_node_kept.specs.declared.kept.Decided.{Decided}
-use Rattle.qs_ops.specs.Timers.{ticked}
 use Rattle.qs_ops.specs.declared.answer.Answer.TheVariants as answers
-use Rattle.qs_ops.specs.declared.answer.Cause.{Cause}
 use Rattle.qs_ops.specs.declared.answer.Cause.TheVariants as causes
-use Rattle.qs_packet.specs.declared.message.Message.{Message}
 use Rattle.qs_packet.specs.declared.message.Message.TheVariants as messages
 use Rattle.qs_record.specs.declared.record.Record.TheVariants as records
 use Rattle.qs_node_servers.specs.Servers.{timers_no}
-use Rattle.qs_node_step.specs.Answering.{kept_outcome}
-use Rattle.qs_node_step.specs.Borrowing.{borrower_command}
-use Rattle.qs_node_step.specs.Bringing.{answer, enter, log, send}
-use Rattle.qs_node_step.specs.Commands.{ask, begin_as, begin_or_refuse, decided_answer, open_command, owner_command}
+use Rattle.qs_node_step.specs.Bringing.{answer}
 use Rattle.qs_node_step.specs.Deciding.{decide}
-use Rattle.qs_node_step.specs.Serving.{label_at, put_label}
-use Rattle.qs_node_step.specs.Settling.{forget_rule, refusal_goes_to, refuse_elsewhere, refuse_home, refuse_rule, send_refusal}
-use Rattle.qs_node_step.specs.State.{Work, change_server, here, part_of, with_manager}
-use Rattle.qs_node_step.specs.Step.{abort_old, age_rule, command_came, happen, is_owner, labelled, message_came, obey, tick, with_command}
-use Rattle.qs_node_step.specs.Telling.{end_told, forget, learn, learn_unknown, names_at, take_names, take_outcome, take_told, tell_came, told_at_home, told_came, told_known, told_unknown}
-use Rattle.qs_node_step.specs.declared.event.Event.{Event}
+use Rattle.qs_node_step.specs.State.{part_of}
+use Rattle.qs_node_step.specs.Telling.{learn}
 use Rattle.qs_node_step.specs.declared.event.Event.TheVariants as events
 use Rattle.qs_tm.specs.Manager as tm
-use Rattle.qs_tm.specs.Participant.{is_forgotten, is_undecided}
-use Rattle.qs_tm.specs.declared.manager.BeginFault.{BeginFault}
 use Rattle.qs_tm.specs.declared.manager.BeginFault.TheVariants as faults
-use Rattle.qs_tm.specs.declared.participant.Participant.{Participant}
 use Rattle.qs_world_lawful.proofs.LogHappening.{quiet_restarted}
 use Rattle.qs_world_lawful.proofs.QuietCommands.{quiet_ask, quiet_ask_came, quiet_borrower, quiet_closer, quiet_inquiry, quiet_learn_unknown, quiet_names, quiet_refusal, quiet_refuse, quiet_request_command, quiet_told_unknown}
 use Rattle.qs_world_lawful.proofs.QuietRequests.{quiet_reply, quiet_request, quiet_serve_all}
@@ -77,7 +55,7 @@ ends_owner client (Some tid) command work = by (kept_outcome tid work.node)
     by None = ends_open client tid command work
     by (Some decided) = ends_quiet work (answer client (decided_answer decided command) work) (quiet_answer client (decided_answer decided command) work)
 
-ends_labelled : (client : ClientNo) (begun : KeptLabel) (command : Command) (work : Work) → EndsOnly work (labelled client begun command work)
+ends_labelled : (client : ClientNo) (begun : Begun) (command : Command) (work : Work) → EndsOnly work (labelled client begun command work)
 ends_labelled client begun command work = ends_if (is_owner client begun.owner) work _ _ (ends_owner client begun.tid command work) (by begun.tid)
   where
     by : (o : Option Tid) → EndsOnly work (elim o [ None ↦ work | Some tid ↦ borrower_command client tid command work ])
@@ -87,7 +65,7 @@ ends_labelled client begun command work = ends_if (is_owner client begun.owner) 
 ends_met : (line : ScriptLine) (command : Command) (work : Work) → EndsOnly work (elim (label_at line.label work.node) [ None ↦ work | Some begun ↦ labelled line.client begun command work ])
 ends_met line command work = by (label_at line.label work.node)
   where
-    by : (o : Option KeptLabel) → EndsOnly work (elim o [ None ↦ work | Some begun ↦ labelled line.client begun command work ])
+    by : (o : Option Begun) → EndsOnly work (elim o [ None ↦ work | Some begun ↦ labelled line.client begun command work ])
     by None = ends_self work
     by (Some begun) = ends_labelled line.client begun command work
 

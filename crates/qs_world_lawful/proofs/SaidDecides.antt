@@ -1,47 +1,18 @@
 -- A home that decides commit leaves what its log says as the machine has it: what it has of the transaction is in doubt till then, and its own servers learn the commit in the same rule.
-use Rattle.std.proofs.Common.{◌≡◌, ℕ, ◌++◌, Bool, true, false, List, [], ◌∷◌, length, Option, Some, None, refl, sym, ap, subst, ◌∙◌, nat_lt, if◌then◌else◌}
-use Rattle.std.specs.BTreeMap.{is_at}
-use Rattle.std.specs.List.{list_any}
-use Rattle.std.specs.Prelude.{◌||◌, is_some, slice_get}
-use Rattle.qs_base.specs.Order.{tid_cmp}
-use Rattle.qs_base.specs.declared.identifiers.NodeNo.{NodeNo}
+use Rattle.qs_world_lawful.proofs.Words.{◌≡◌, ℕ, ◌++◌, Bool, true, false, List, [], ◌∷◌, length, Option, Some, None, refl, sym, ap, subst, ◌∙◌, nat_lt, if◌then◌else◌, true≢false, is_at, list_any, ◌||◌, is_some, slice_get, tid_cmp, NodeNo, ServerNo, Tid, listed, Act, Entry, lookup_changed, Inv, IsCoherent, AllLearn, is_server, BookValue, cell_of_transaction, find_transaction, IsLawful, book_after, opening, TransactionValue, decided_at, is_open, may_learn_still, Opened, Cell, Record, recovery}
+use Rattle.qs_world_lawful.proofs.Words.{send_each, decide_as, decide_commit, learners_at, answer_superior, is_quiet, may_answer, ready, ready_rule, Work, doings_of, here, learners, Participant, HoldsWork, book_at, entries_so_far, IsNumbered, HoldsLogs, IsPrepared, Every, AreInDoubt, book_then, learn_all, both_ways}
 use Rattle.qs_base.specs.declared.identifiers.Outcome.TheVariants as outcomes
-use Rattle.qs_base.specs.declared.identifiers.ServerNo.{ServerNo}
-use Rattle.qs_base.specs.declared.identifiers.Tid.{Tid}
-use Rattle.qs_engage.specs.Nodes.{listed}
-use Rattle.qs_book_journal.specs.declared.entry.Act.{Act}
 use Rattle.qs_book_journal.specs.declared.entry.Act.TheVariants as acts
-use Rattle.qs_book_journal.specs.declared.entry.Entry.{Entry}
-use Rattle.qs_book_laws.proofs.Maps.{lookup_changed}
-use Rattle.qs_book_laws.proofs.Outcomes.{Inv}
-use Rattle.qs_book_laws.specs.Laws.{IsCoherent}
-use Rattle.qs_book_laws.specs.Learning.{AllLearn, is_server}
-use Rattle.qs_book_machine.specs.Book.{BookValue, cell_of_transaction, find_transaction}
-use Rattle.qs_book_machine.specs.Lawful.{IsLawful, book_after}
 use Rattle.qs_book_machine.specs.Nodes as machine
-use Rattle.qs_book_machine.specs.Opening.{opening}
-use Rattle.qs_book_machine.specs.Transaction.{TransactionValue, decided_at, is_open, may_learn_still, part_of as machine_part}
-use Rattle.qs_book_machine.specs.declared.opened.Opened.{Opened}
-use Rattle.qs_book_machine.specs.declared.transaction.Cell.{Cell}
+use Rattle.qs_book_machine.specs.Transaction.{part_of as machine_part}
 use Rattle.qs_book_machine.specs.declared.transaction.Cell.TheVariants as cells
 use Rattle.qs_ops.specs.declared.answer.Cause.TheVariants as causes
 use Rattle.qs_packet.specs.declared.message.Message.TheVariants as messages
-use Rattle.qs_record.specs.declared.record.Record.{Record}
 use Rattle.qs_record.specs.declared.record.Record.TheVariants as made
-use Rattle.qs_restart.specs.Recovery.{recovery}
-use Rattle.qs_node_step.specs.Bringing.{send_each}
-use Rattle.qs_node_step.specs.Deciding.{decide, decide_as, decide_commit, learners_at}
-use Rattle.qs_node_step.specs.Settling.{answer_superior, is_quiet, may_answer, ready, ready_rule}
-use Rattle.qs_node_step.specs.State.{Work, doings_of, here, part_of}
+use Rattle.qs_node_step.specs.Deciding.{decide}
+use Rattle.qs_node_step.specs.State.{part_of}
 use Rattle.qs_tm.specs.Manager as tm
 use Rattle.qs_tm.specs.Outcomes as outcome_rules
-use Rattle.qs_tm.specs.Participant.{learners}
-use Rattle.qs_tm.specs.declared.participant.Participant.{Participant}
-use Rattle.qs_world_lawful.specs.Entering.{HoldsWork, book_at, entries_so_far}
-use Rattle.qs_world_lawful.specs.LastingLaws.{IsNumbered}
-use Rattle.qs_world_lawful.specs.Logged.{HoldsLogs, IsPrepared}
-use Rattle.qs_world_lawful.specs.Logs.{Every}
-use Rattle.qs_world_lawful.specs.Saying.{AreInDoubt, book_then, learn_all}
 use Rattle.qs_world_lawful.proofs.LogDeciding.{all_learns, bare, bare_grows, bare_learns, bare_noticed, by_unwritten, by_written, decided_now, decided_part, decides, grows, noticed, rec, start}
 use Rattle.qs_world_lawful.proofs.LogDecisions.{by_decide}
 use Rattle.qs_world_lawful.proofs.LogKeeps.{lawful_before, lawful_since}
@@ -62,10 +33,7 @@ open_not : (o : Option TransactionValue) (tx : TransactionValue) → o ≡ Some 
 open_not o tx found opened c shut is = apart (of_some (sym (ap cell_of_transaction found) ∙ is))
   where
     apart : tx.cell ≡ c → ⊥
-    apart e = clash (sym opened ∙ (ap is_open e ∙ shut))
-      where
-        clash : true ≡ false → ⊥
-        clash e = cc e
+    apart e = true≢false (sym opened ∙ (ap is_open e ∙ shut))
 
 module _ (opened : List Opened) (history : List Entry) (coherent : IsCoherent opened) (numbered : Every IsNumbered opened) (lawful_till : IsLawful (opening opened) history) (stamp : ℕ) (disk waiting : List Record) (tid : Tid) (work : Work)
     (held : HoldsWork stamp (book_after (opening opened) history) work) (part : Participant) (known : part_of tid work ≡ Some part) (in_run : nat_lt (here work).0 (length opened) ≡ true) where
@@ -151,10 +119,7 @@ module _ (opened : List Opened) (history : List Entry) (coherent : IsCoherent op
       plain_learners = ap learners_in (decided_part stamp before i disk waiting tid None work part known outcomes.Commit).now
 
       unknown : IsPrepared (tm.part_of tid work.node.manager) → ⊥
-      unknown is = clash part.log.prepared unprepared (subst IsPrepared known is)
-        where
-          clash : (b : Bool) → b ≡ false → b ≡ true → ⊥
-          clash b e f = cc (sym e ∙ f)
+      unknown is = both_ways part.log.prepared unprepared (subst IsPrepared known is)
 
       says_without : Goes work plain_end
       says_without =

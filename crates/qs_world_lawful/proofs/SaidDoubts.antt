@@ -1,33 +1,15 @@
 -- Which votes a log has in doubt: of a transaction that its node does not know as prepared, only those of what is aborted; where it has one in doubt
 -- all of the transaction are; and of what is committed at its home none is.
-use Rattle.std.proofs.Common.{◌≡◌, ◌⊎◌, inl, inr, ℕ, Bool, true, false, List, ◌++◌, Option, Some, None, refl, sym, ap, subst, ◌∙◌}
-use Rattle.std.specs.List.{list_any}
-use Rattle.std.specs.Prelude.{◌==◌, slice_get}
-use Rattle.qs_base.proofs.Same.{same_tid-true}
-use Rattle.qs_base.specs.declared.identifiers.Outcome.{Outcome}
+use Rattle.qs_world_lawful.proofs.Words.{◌≡◌, ◌⊎◌, inl, inr, ℕ, Bool, true, false, List, ◌++◌, Option, Some, None, refl, sym, ap, subst, ◌∙◌, list_any, ◌==◌, slice_get, same_tid-true, Outcome, Tid, BookValue, cell_of_transaction, find_transaction, is_among, is_on_record, TransactionValue, is_open, OnRecord, Cell, Record, Prepared, Recovery, names_transaction, recovery, Manager, Participant, face_of, Holds, HoldsTid, Lasts, HasAborted, HasCommitted, HoldsHost, HoldsLogged, IsCommitMade, IsKnown}
+use Rattle.qs_world_lawful.proofs.Words.{IsMarked, IsPrepared, IsRecordSafe, Every, IsVoteLogged, found_of, HasNodeFacts, IsApart, AreInDoubt, both_ways}
 use Rattle.qs_base.specs.declared.identifiers.Outcome.TheVariants as outcomes
-use Rattle.qs_base.specs.declared.identifiers.Tid.{Tid}
-use Rattle.qs_book_machine.specs.Book.{BookValue, cell_of_transaction, find_transaction}
 use Rattle.qs_book_machine.specs.Nodes as machine
-use Rattle.qs_book_machine.specs.Restart.{is_among, is_on_record}
-use Rattle.qs_book_machine.specs.Transaction.{TransactionValue, is_open}
-use Rattle.qs_book_machine.specs.declared.state.OnRecord.{OnRecord}
-use Rattle.qs_book_machine.specs.declared.transaction.Cell.{Cell}
 use Rattle.qs_book_machine.specs.declared.transaction.Cell.TheVariants as cells
-use Rattle.qs_record.specs.declared.record.Record.{Record}
-use Rattle.qs_restart.specs.Recovery.{Prepared, Recovery, is_of, names_transaction, recovery}
+use Rattle.qs_restart.specs.Recovery.{is_of}
 use Rattle.qs_node_step.specs.State.{NodeValue}
 use Rattle.qs_tm.specs.Manager as tm
-use Rattle.qs_tm.specs.declared.manager.Manager.{Manager}
-use Rattle.qs_tm.specs.declared.participant.Participant.{Participant}
-use Rattle.qs_world_lawful.specs.Face.{face_of}
-use Rattle.qs_world_lawful.specs.Holds.{Holds, HoldsTid}
-use Rattle.qs_world_lawful.specs.Lasting.{Lasts}
-use Rattle.qs_world_lawful.specs.Logged.{HasAborted, HasCommitted, HoldsHost, HoldsLogged, IsCommitMade, IsKnown, IsMarked, IsPrepared, IsRecordSafe}
-use Rattle.qs_world_lawful.specs.Logs.{Every, IsVoteLogged, found_of}
-use Rattle.qs_world_lawful.specs.NodeFacts.{HasNodeFacts}
-use Rattle.qs_world_lawful.specs.Said.{IsApart, IsUndone}
-use Rattle.qs_world_lawful.specs.Saying.{AreCommitted, AreInDoubt}
+use Rattle.qs_world_lawful.specs.Said.{IsUndone}
+use Rattle.qs_world_lawful.specs.Saying.{AreCommitted}
 use Rattle.qs_world_lawful.specs.SayingSteps.{is_doubt_of}
 use Rattle.qs_world_lawful.proofs.Clauses.{of_tid}
 use Rattle.qs_world_lawful.proofs.FoundMembers.{every_among, every_two}
@@ -35,9 +17,6 @@ use Rattle.qs_world_lawful.proofs.LogFrames.{every_on}
 use Rattle.qs_world_lawful.proofs.LogLearning.{any_of}
 use Rattle.qs_world_lawful.proofs.LogRecords.{found_is, is_found, to_votes}
 use Rattle.qs_world_lawful.proofs.Truths.{left_true, node_is, not_true, right_true, same_self}
-
-apart_truths : (b : Bool) → b ≡ false → b ≡ true → ⊥
-apart_truths b e f = cc (sym e ∙ f)
 
 -- ---- of what is committed, or aborted
 
@@ -66,11 +45,11 @@ none_in_doubt manager log knows tid named unprepared = every_on (IsKnown manager
 module _ (here : ℕ) (book : BookValue) (state : machine.NodeValue) (manager : Manager) (all disk : Recovery) (logged : HoldsLogged here book state all) (on_disk : HoldsLogged here book state disk) (alike : all.committed ≡ disk.committed) (knows : Every (IsKnown manager) all.prepared) where
   -- on the disk: it is known as prepared, or aborted
   pub doubt_known : (vote : Prepared) → IsVoteLogged here book state disk vote → IsApart disk vote → names_transaction vote.tid ≡ true → vote.committed ≡ false → HasAborted book vote.tid ⊎ IsPrepared (tm.part_of vote.tid manager)
-  doubt_known vote (inr applied) apart named open_still = absurd (apart_truths (is_among disk.committed vote.tid) (apart named open_still) applied.has_commit)
+  doubt_known vote (inr applied) apart named open_still = absurd (both_ways (is_among disk.committed vote.tid) (apart named open_still) applied.has_commit)
   doubt_known vote (inl recorded) apart named open_still = by (machine.record_of state vote.tid vote.server.0) refl recorded
     where
       unlisted : is_among all.committed vote.tid ≡ true → ⊥
-      unlisted is = apart_truths (is_among disk.committed vote.tid) (apart named open_still) (ap (λ (ts : List Tid). is_among ts vote.tid) (sym alike) ∙ is)
+      unlisted is = both_ways (is_among disk.committed vote.tid) (apart named open_still) (ap (λ (ts : List Tid). is_among ts vote.tid) (sym alike) ∙ is)
 
       found : (covers : ℕ) (x : Prepared) → is_found (machine.voter vote.tid vote.server.0) covers x ≡ true → IsKnown manager x → IsMarked all x → IsPrepared (tm.part_of vote.tid manager)
       found covers x at known marked = on x.committed refl
@@ -132,7 +111,7 @@ module _ (here : ℕ) (book : BookValue) (state : machine.NodeValue) (log : Reco
   doubt_of_all named apart some =
       let one : (vote : Prepared) × (is_doubt_of tid vote ≡ true) × IsApart log vote = any_of (IsApart log) (is_doubt_of tid) log.prepared some apart in
       let same : one.0.tid ≡ tid = same_tid-true one.0.tid tid (left_true (is_of tid one.0) _ one.1) in
-      all_in_doubt (λ is. apart_truths (is_among log.committed one.0.tid) (one.2 (ap names_transaction same ∙ named) (not_true one.0.committed (right_true (is_of tid one.0) _ one.1))) (subst (λ (t : Tid). is_among log.committed t ≡ true) (sym same) is))
+      all_in_doubt (λ is. both_ways (is_among log.committed one.0.tid) (one.2 (ap names_transaction same ∙ named) (not_true one.0.committed (right_true (is_of tid one.0) _ one.1))) (subst (λ (t : Tid). is_among log.committed t ≡ true) (sym same) is))
 
   -- where the machine has not committed it
   pub uncommitted_in_doubt : Lasts book → slice_get book.nodes here ≡ Some state → Every (IsCommitMade book state) log.committed → (HasCommitted book tid → ⊥) → AreInDoubt tid log

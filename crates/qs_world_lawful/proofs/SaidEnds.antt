@@ -1,34 +1,18 @@
 -- Rules that write at most the end of a transaction's records: what they enter puts nothing on record and takes nothing off.
-use Rattle.std.proofs.Common.{◌≡◌, Bool, true, false, List, [], ◌∷◌, ◌++◌, Option, Some, None, refl, sym, ap, ◌∙◌, append_assoc, fold, if◌then◌else◌}
-use Rattle.std.proofs.lemmas.List.{append-nil}
-use Rattle.std.specs.Prelude.{◌||◌}
-use Rattle.qs_base.specs.declared.identifiers.NodeNo.{NodeNo}
-use Rattle.qs_base.specs.declared.identifiers.Outcome.{Outcome}
+use Rattle.qs_world_lawful.proofs.Words.{◌≡◌, Bool, true, false, List, [], ◌∷◌, ◌++◌, Option, Some, None, refl, sym, ap, ◌∙◌, append_assoc, fold, if◌then◌else◌, append-nil, NodeNo, Outcome, Tid, listed, Act, Cause, Record, where_undecided, enter, log, log_if, send, send_each, decide_as, give_notices, keep_outcome, begin_incarnation, known_tids, resume_home, resume_part, resume_tid, Work, with_manager, forget, record_learnt, is_undecided, Participant, IsPlain, Every, IsEnd}
 use Rattle.qs_base.specs.declared.identifiers.Outcome.TheVariants as outcomes
-use Rattle.qs_base.specs.declared.identifiers.Tid.{Tid}
-use Rattle.qs_engage.specs.Nodes.{listed}
-use Rattle.qs_book_journal.specs.declared.entry.Act.{Act}
 use Rattle.qs_book_journal.specs.declared.entry.Act.TheVariants as acts
-use Rattle.qs_ops.specs.declared.answer.Cause.{Cause}
 use Rattle.qs_packet.specs.declared.message.Message.TheVariants as messages
-use Rattle.qs_record.specs.declared.record.Record.{Record}
 use Rattle.qs_record.specs.declared.record.Record.TheVariants as records
-use Rattle.qs_node_step.specs.Asking.{where_undecided}
-use Rattle.qs_node_step.specs.Bringing.{enter, log, log_if, send, send_each}
-use Rattle.qs_node_step.specs.Deciding.{decide, decide_as, give_notices, keep_outcome}
-use Rattle.qs_node_step.specs.Restarts.{begin_incarnation, known_tids, resume_home, resume_part, resume_tid}
-use Rattle.qs_node_step.specs.State.{Work, part_of, with_manager, with_node}
-use Rattle.qs_node_step.specs.Telling.{forget, learn, record_learnt}
+use Rattle.qs_node_step.specs.Deciding.{decide}
+use Rattle.qs_node_step.specs.State.{part_of, with_node}
+use Rattle.qs_node_step.specs.Telling.{learn}
 use Rattle.qs_tm.specs.Manager as tm
 use Rattle.qs_tm.specs.Outcomes as outcome_rules
-use Rattle.qs_tm.specs.Participant.{is_undecided}
-use Rattle.qs_tm.specs.declared.participant.Participant.{Participant}
-use Rattle.qs_world_lawful.specs.Logged.{IsPlain}
-use Rattle.qs_world_lawful.specs.Logs.{Every}
-use Rattle.qs_world_lawful.specs.Saying.{IsEnd}
 use Rattle.qs_world_lawful.proofs.LogEndings.{quiet_notices}
 use Rattle.qs_world_lawful.proofs.LogRecords.{every_append}
 use Rattle.qs_world_lawful.proofs.Recordless.{Quiet, quiet_enter, quiet_self, quiet_send, quiet_sends}
+use Rattle.qs_base.proofs.TidOrder.{or-false}
 
 -- its entries put nothing on record and take nothing off, and its records end others at most
 pub record EndsOnly (work new : Work) : Type 0 where
@@ -89,15 +73,11 @@ ends_where tid rule work each = by (part_of tid work)
 
 -- ---- the end of a transaction's records
 
-or_false : (b : Bool) → (b || false) ≡ b
-or_false true = refl
-or_false false = refl
-
 pub ends_aborted : (tid : Tid) (work : Work) → EndsOnly work (log (records.Aborted tid) work)
-ends_aborted tid work = record { more = []; entries = sym (append-nil work.out.entries); plain = tt; made = records.Aborted tid ∷ []; records = refl; ends = (tt, tt); force = or_false work.out.force; setting = refl }
+ends_aborted tid work = record { more = []; entries = sym (append-nil work.out.entries); plain = tt; made = records.Aborted tid ∷ []; records = refl; ends = (tt, tt); force = or-false work.out.force; setting = refl }
 
 pub ends_ended : (tid : Tid) (work : Work) → EndsOnly work (log (records.End tid) work)
-ends_ended tid work = record { more = []; entries = sym (append-nil work.out.entries); plain = tt; made = records.End tid ∷ []; records = refl; ends = (tt, tt); force = or_false work.out.force; setting = refl }
+ends_ended tid work = record { more = []; entries = sym (append-nil work.out.entries); plain = tt; made = records.End tid ∷ []; records = refl; ends = (tt, tt); force = or-false work.out.force; setting = refl }
 
 abbrev ended_if : Bool → Tid → Option Record
 ended_if b tid = if b then Some (records.Aborted tid) else None

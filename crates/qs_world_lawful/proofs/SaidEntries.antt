@@ -1,53 +1,19 @@
 -- What a log says of contents and changes goes on by a vote that enters with its Prepare, and by servers that learn commit, with its Commit.
-use Rattle.std.proofs.Common.{◌≡◌, inl, inr, ℕ, ◌==◌, ◌&&◌, ◌++◌, Bool, true, false, List, [], ◌∷◌, length, Option, Some, None, refl, sym, ap, subst, ◌∙◌, arith, nat_lt}
-use Rattle.std.proofs.lemmas.Bool.Decides.{nat_tests}
-use Rattle.std.proofs.lemmas.List.Sums.{fold-append}
-use Rattle.std.specs.Prelude.{slice_get}
-use Rattle.std.specs.List.{list_any}
-use Rattle.std.specs.Map.{lookup}
-use Rattle.std.specs.Option.{option_map}
-use Rattle.std.specs.BTreeMap.{is_at}
-use Rattle.qs_base.specs.Order.{same_tid}
-use Rattle.qs_base.specs.declared.identifiers.Member.{Member}
-use Rattle.qs_base.specs.declared.identifiers.NodeNo.{NodeNo}
-use Rattle.qs_base.specs.declared.identifiers.ServerNo.{ServerNo}
-use Rattle.qs_base.specs.declared.identifiers.Tid.{Tid}
-use Rattle.qs_base.proofs.Same.{same_tid-self, same_tid-true}
-use Rattle.qs_book_journal.specs.declared.entry.Act.{Act}
+use Rattle.qs_world_lawful.proofs.Words.{◌≡◌, inl, inr, ℕ, ◌==◌, ◌&&◌, ◌++◌, Bool, true, false, List, [], ◌∷◌, length, Option, Some, None, refl, sym, ap, subst, ◌∙◌, nat_lt, fold-append, slice_get, list_any, lookup, option_map, is_at, same_tid, Member, NodeNo, ServerNo, Tid, same_tid-self, same_tid-true, Act, Entry, voter_exact, Inv, Facet, facet, IsCoherent, AllLearn, learning, keeps_contents, BookValue, crossed_in, find_transaction, IsLawful, book_after, broken, effect, changes_of, record_of}
+use Rattle.qs_world_lawful.proofs.Words.{voter, voter_cmp, opening, is_among, member_at, Opened, OnRecord, Voter, TableValue, applied, Op, Record, Prepared, Recovery, found_record, names_transaction, nothing_said, recovery, entry_of, HasCommitted, HoldsLogged, IsMarked, IsRecordSafe, is_plain, Every, IsAsRecorded, IsMadeBy, IsRecorded, AreInDoubt, HoldsMade, SaidAfter, eqb-self}
 use Rattle.qs_book_journal.specs.declared.entry.Act.TheVariants as acts
-use Rattle.qs_book_journal.specs.declared.entry.Entry.{Entry}
-use Rattle.qs_book_laws.proofs.Alikes.{voter_exact}
 use Rattle.qs_book_laws.proofs.Faces.{recorded_by}
 use Rattle.qs_book_laws.proofs.Grows.{step_grows}
 use Rattle.qs_book_laws.proofs.LearnsAll.{learns_all}
-use Rattle.qs_book_laws.proofs.Outcomes.{Inv}
 use Rattle.qs_book_laws.proofs.ReadyCommits.{ready_once}
 use Rattle.qs_book_laws.proofs.Ready.{Ready}
 use Rattle.qs_book_laws.proofs.Steps.{stepped}
-use Rattle.qs_book_laws.proofs.Stills.{Facet, facet}
-use Rattle.qs_book_laws.specs.Laws.{IsCoherent}
-use Rattle.qs_book_laws.specs.Learning.{AllLearn, HasLearnt, learning}
-use Rattle.qs_book_laws.specs.Served.{keeps_contents}
-use Rattle.qs_book_machine.specs.Book.{BookValue, crossed_in, find_transaction}
-use Rattle.qs_book_machine.specs.Lawful.{IsLawful, book_after, broken, effect}
+use Rattle.qs_book_laws.specs.Learning.{HasLearnt}
 use Rattle.qs_book_machine.specs.Nodes as machine
-use Rattle.qs_book_machine.specs.Nodes.{changes_of, record_of, voter, voter_cmp}
-use Rattle.qs_book_machine.specs.Opening.{opening}
-use Rattle.qs_book_machine.specs.Restart.{is_among, member_at}
-use Rattle.qs_book_machine.specs.declared.opened.Opened.{Opened}
-use Rattle.qs_book_machine.specs.declared.state.OnRecord.{OnRecord}
-use Rattle.qs_book_machine.specs.declared.state.Voter.{Voter}
-use Rattle.qs_ops.specs.Table.{TableValue, applied}
-use Rattle.qs_ops.specs.declared.operation.Op.{Op}
 use Rattle.qs_ops.specs.declared.vote.Vote.TheVariants as votes
-use Rattle.qs_record.specs.declared.record.Record.{Record}
 use Rattle.qs_record.specs.declared.record.Record.TheVariants as made
-use Rattle.qs_restart.specs.Recovery.{Prepared, Recovery, found_record, is_of, names_transaction, nothing_said, recovery}
-use Rattle.qs_world.specs.Posting.{entry_of}
-use Rattle.qs_world_lawful.specs.Logged.{HasCommitted, HoldsLogged, IsMarked, IsRecordSafe, is_plain}
-use Rattle.qs_world_lawful.specs.Logs.{Every}
-use Rattle.qs_world_lawful.specs.Said.{IsAsRecorded, IsMadeBy, IsRecorded}
-use Rattle.qs_world_lawful.specs.Saying.{AreCommitted, AreInDoubt, ArePending, HoldsMade, KeepsSaid, MayCommitHere, SaidAfter, StaysCrossed}
+use Rattle.qs_restart.specs.Recovery.{is_of}
+use Rattle.qs_world_lawful.specs.Saying.{AreCommitted, ArePending, KeepsSaid, MayCommitHere, StaysCrossed}
 use Rattle.qs_world_lawful.proofs.FoundMembers.{every_two}
 use Rattle.qs_world_lawful.proofs.FoundOnce.{votes_once_in}
 use Rattle.qs_world_lawful.proofs.LogActs.{plain_facets, with_facet}
@@ -119,14 +85,11 @@ module _ (book : BookValue) (i : Inv book) (stamp here : ℕ) (state : machine.N
   others : (t : Tid) (s : ℕ) → (same_tid t tid && (s == server.0)) ≡ false → record_of next t s ≡ record_of state t s
   others t s far = log_votes.other_record book stamp here state i there tid server covers changes enters t s (by (is_at (voter_cmp (voter t s)) (voter tid server.0)) refl)
     where
-      no_same : (a : ℕ) → (a == a) ≡ true
-      no_same a = grind (arith, nat_tests)
-
       by : (b : Bool) → is_at (voter_cmp (voter t s)) (voter tid server.0) ≡ b → b ≡ false
       by false is = refl
       by true is =
           let e : voter t s ≡ voter tid server.0 = voter_exact (voter t s) (voter tid server.0) is in
-          absurd (cc (sym far ∙ (ap (λ (v : Voter). same_tid v.tid tid && (v.server.0 == server.0)) e ∙ (ap (λ (b : Bool). b && (server.0 == server.0)) (same_tid-self tid) ∙ no_same server.0))))
+          absurd (cc (sym far ∙ (ap (λ (v : Voter). same_tid v.tid tid && (v.server.0 == server.0)) e ∙ (ap (λ (b : Bool). b && (server.0 == server.0)) (same_tid-self tid) ∙ eqb-self server.0))))
 
   pub vote_enters_at : SaidAfter here (effect book entry) (recovery (records ++ made.Prepare tid server covers changes ∷ []))
   vote_enters_at = record {

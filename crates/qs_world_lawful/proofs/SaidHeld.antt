@@ -1,44 +1,24 @@
 -- In the middle of a step what a node has pending is what the machine has, and the servers that it has still to tell how a transaction ends
 -- are those that are still to learn it.
-use Rattle.std.proofs.Common.{◌≡◌, ℕ, ◌==◌, ◌||◌, ◌++◌, not, Bool, true, false, List, [], ◌∷◌, length, Option, Some, None, refl, sym, ap, subst, ◌∙◌, arith, is_some}
-use Rattle.std.proofs.lemmas.Bool.Decides.{nat_tests}
-use Rattle.std.specs.List.{filter, list_any}
-use Rattle.qs_base.specs.declared.identifiers.NodeNo.{NodeNo}
-use Rattle.qs_base.specs.declared.identifiers.ServerNo.{ServerNo}
-use Rattle.qs_base.specs.declared.identifiers.Tid.{Tid}
-use Rattle.qs_book_laws.specs.Learning.{AllLearn, is_server}
-use Rattle.qs_book_laws.specs.Served.{keeps_contents}
-use Rattle.qs_book_machine.specs.Book.{BookValue, crossed_in, find_transaction, inc_at, pending_in}
+use Rattle.qs_world_lawful.proofs.Words.{◌≡◌, ℕ, ◌==◌, ◌||◌, ◌++◌, not, Bool, true, false, List, [], ◌∷◌, length, Option, Some, None, refl, sym, ap, subst, ◌∙◌, is_some, filter, list_any, NodeNo, ServerNo, Tid, AllLearn, is_server, keeps_contents, BookValue, crossed_in, find_transaction, inc_at, pending_in, member_at, TransactionValue, is_commit, may_learn_still, changes_in, Share, server_at, is_due_at, learners, member_of, servers_due, class_of, Participant, face_of, is_held, part_in, part_or_new}
+use Rattle.qs_world_lawful.proofs.Words.{Holds, HoldsAt, is_seen, seen_in, eqb-true}
 use Rattle.qs_book_machine.specs.Nodes as machine
-use Rattle.qs_book_machine.specs.Restart.{member_at}
-use Rattle.qs_book_machine.specs.Transaction.{TransactionValue, is_commit, may_learn_still, part_of}
-use Rattle.qs_ops.specs.Server.{changes_in}
+use Rattle.qs_book_machine.specs.Transaction.{part_of}
 use Rattle.qs_ops.specs.Servers.{files_no}
-use Rattle.qs_ops.specs.declared.share.Share.{Share}
-use Rattle.qs_node_servers.specs.Servers.{server_at}
 use Rattle.qs_node_step.specs.State.{NodeValue}
 use Rattle.qs_tm.specs.Manager as tm
 use Rattle.qs_tm.specs.Members.{all_servers, is_to_learn}
-use Rattle.qs_tm.specs.Participant.{is_due_at, learners, member_of, servers_due}
-use Rattle.qs_ops.specs.Members.{class_of}
 use Rattle.qs_tm.specs.declared.participant.Due.TheVariants as dues
-use Rattle.qs_tm.specs.declared.participant.Participant.{Participant}
-use Rattle.qs_world_lawful.specs.Face.{face_of, is_held, part_in, part_or_new}
-use Rattle.qs_world_lawful.specs.Holds.{Holds, HoldsAt}
 use Rattle.qs_world_lawful.specs.Saying.{ArePending}
-use Rattle.qs_world_lawful.specs.Tables.{is_seen, seen_in}
 use Rattle.qs_world_lawful.proofs.Tables.{own_share}
-
-no_is : (a b : ℕ) → (a == b) ≡ true → a ≡ b
-no_is a b e = grind (arith, nat_tests, e)
 
 -- files, or audit
 pub either_server : (P : ℕ → Type 0) → P 0 → P 1 → (server : ℕ) → keeps_contents server ≡ true → P server
 either_server P files audit server keeps = by (server == 0) (server == 1) refl refl keeps
   where
     by : (a b : Bool) → (server == 0) ≡ a → (server == 1) ≡ b → (a || b) ≡ true → P server
-    by true b is other e = subst P (sym (no_is server 0 is)) files
-    by false true is other e = subst P (sym (no_is server 1 other)) audit
+    by true b is other e = subst P (sym (eqb-true server 0 is)) files
+    by false true is other e = subst P (sym (eqb-true server 1 other)) audit
     by false false is other e = absurd (cc e)
 
 module _ (stamp : ℕ) (book : BookValue) (node : NodeValue) (tid : Tid) (h : Holds stamp book node) where

@@ -1,27 +1,8 @@
 -- A rule by which servers learn that a transaction is committed, with its Commit or with none: what the log says with the records of the step, and what the disk says where nothing forces it.
-use Rattle.std.proofs.Common.{◌≡◌, ℕ, ◌++◌, Bool, true, false, List, [], ◌∷◌, length, Some, sym, subst, ◌∙◌, nat_lt}
-use Rattle.std.specs.Prelude.{◌||◌, slice_get}
-use Rattle.qs_base.specs.declared.identifiers.NodeNo.{NodeNo}
-use Rattle.qs_base.specs.declared.identifiers.ServerNo.{ServerNo}
-use Rattle.qs_base.specs.declared.identifiers.Tid.{Tid}
-use Rattle.qs_book_journal.specs.declared.entry.Act.{Act}
-use Rattle.qs_book_journal.specs.declared.entry.Entry.{Entry}
-use Rattle.qs_book_laws.specs.Laws.{IsCoherent}
-use Rattle.qs_book_laws.specs.Learning.{AllLearn}
-use Rattle.qs_book_machine.specs.Book.{BookValue}
-use Rattle.qs_book_machine.specs.Lawful.{IsLawful, book_after}
+use Rattle.qs_world_lawful.proofs.Words.{◌≡◌, ℕ, ◌++◌, Bool, true, false, List, [], ◌∷◌, length, Some, sym, subst, ◌∙◌, nat_lt, ◌||◌, slice_get, NodeNo, ServerNo, Tid, Act, Entry, IsCoherent, AllLearn, BookValue, IsLawful, book_after, opening, Opened, Record, names_transaction, recovery, Work, here, book_at, entries_so_far, HasAborted, HasCommitted, HoldsLogs, IsPlain, IsPrepared, KeepsLogs, Every, AreInDoubt, SaidAfter, SaidAt, book_then, learn_all}
 use Rattle.qs_book_machine.specs.Nodes as machine
-use Rattle.qs_book_machine.specs.Opening.{opening}
-use Rattle.qs_book_machine.specs.declared.opened.Opened.{Opened}
-use Rattle.qs_record.specs.declared.record.Record.{Record}
 use Rattle.qs_record.specs.declared.record.Record.TheVariants as made
-use Rattle.qs_restart.specs.Recovery.{names_transaction, recovery}
-use Rattle.qs_node_step.specs.State.{Work, here}
 use Rattle.qs_tm.specs.Manager as tm
-use Rattle.qs_world_lawful.specs.Entering.{book_at, entries_so_far}
-use Rattle.qs_world_lawful.specs.Logged.{HasAborted, HasCommitted, HoldsLogs, IsPlain, IsPrepared, KeepsLogs}
-use Rattle.qs_world_lawful.specs.Logs.{Every}
-use Rattle.qs_world_lawful.specs.Saying.{AreInDoubt, SaidAfter, SaidAt, book_then, learn_all}
 use Rattle.qs_world_lawful.proofs.SaidCommits.{commit_says}
 use Rattle.qs_world_lawful.proofs.SaidDoubts.{none_in_doubt, none_on_disk}
 use Rattle.qs_world_lawful.proofs.SaidLearnt.{learnt_says}

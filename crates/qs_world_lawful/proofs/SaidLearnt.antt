@@ -1,27 +1,7 @@
 -- The rules by which the servers of a node learn that a transaction is committed, where a log has nothing in doubt of it, leave what that log says.
-use Rattle.std.proofs.Common.{◌≡◌, ℕ, ◌++◌, true, List, length, Some, sym, ap, subst, ◌∙◌, nat_lt}
-use Rattle.std.specs.Prelude.{slice_get}
-use Rattle.qs_base.specs.declared.identifiers.ServerNo.{ServerNo}
-use Rattle.qs_base.specs.declared.identifiers.Tid.{Tid}
-use Rattle.qs_book_journal.specs.declared.entry.Act.{Act}
-use Rattle.qs_book_journal.specs.declared.entry.Entry.{Entry}
-use Rattle.qs_book_laws.proofs.Outcomes.{Inv}
-use Rattle.qs_book_laws.proofs.Steps.{after_both, lawful_front, lawful_rest}
-use Rattle.qs_book_laws.specs.Laws.{IsCoherent}
-use Rattle.qs_book_laws.specs.Learning.{AllLearn, learning}
-use Rattle.qs_book_machine.specs.Book.{BookValue}
-use Rattle.qs_book_machine.specs.Lawful.{IsLawful, book_after}
+use Rattle.qs_world_lawful.proofs.Words.{◌≡◌, ℕ, ◌++◌, true, List, length, Some, sym, ap, subst, ◌∙◌, nat_lt, slice_get, ServerNo, Tid, Act, Entry, Inv, after_both, lawful_front, lawful_rest, IsCoherent, AllLearn, learning, BookValue, IsLawful, book_after, opening, Opened, Record, Recovery, Work, here, entries_of, book_at, entries_so_far, HasCommitted, HoldsLogged, HoldsLogs, IsPlain, Every, HoldsMade, SaidAfter, book_then, learn_all, same_Some}
 use Rattle.qs_book_machine.specs.Nodes as machine
-use Rattle.qs_book_machine.specs.Opening.{opening}
-use Rattle.qs_book_machine.specs.declared.opened.Opened.{Opened}
-use Rattle.qs_record.specs.declared.record.Record.{Record}
-use Rattle.qs_restart.specs.Recovery.{Recovery}
-use Rattle.qs_node_step.specs.State.{Work, here}
-use Rattle.qs_world.specs.Posting.{entries_of}
-use Rattle.qs_world_lawful.specs.Entering.{book_at, entries_so_far}
-use Rattle.qs_world_lawful.specs.Logged.{HasCommitted, HoldsLogged, HoldsLogs, IsPlain}
-use Rattle.qs_world_lawful.specs.Logs.{Every}
-use Rattle.qs_world_lawful.specs.Saying.{AreCommitted, HoldsMade, SaidAfter, book_then, learn_all}
+use Rattle.qs_world_lawful.specs.Saying.{AreCommitted}
 use Rattle.qs_world_lawful.proofs.LogCommitting.{begun}
 use Rattle.qs_world_lawful.proofs.LogKeeps.{RanOn, book_is, inv_at, lawful_before, lawful_since, map_both}
 use Rattle.qs_world_lawful.proofs.LogLaws.{inv_is}
@@ -77,11 +57,8 @@ module _ (opened : List Opened) (history : List Entry) (coherent : IsCoherent op
   said_mid : SaidAfter at mid log
   said_mid = all_plain stamp at front book (inv_at stamp before i disk waiting work lawful_work) plain lawful_first log said
 
-  same_state : (a b : machine.NodeValue) → Some a ≡ Some b → a ≡ b
-  same_state a b e = cc e
-
   logged_mid : HoldsLogged at mid said_mid.state log
-  logged_mid = subst (λ (state : machine.NodeValue). HoldsLogged at mid state log) (same_state ran.next said_mid.state (sym ran.there ∙ said_mid.there)) (ran.logged log logged)
+  logged_mid = subst (λ (state : machine.NodeValue). HoldsLogged at mid state log) (same_Some ran.next said_mid.state (sym ran.there ∙ said_mid.there)) (ran.logged log logged)
 
   -- the history up to there
   abbrev whole : List Entry

@@ -1,36 +1,14 @@
 -- Each act leaves what was said of a transaction: it stays in the machine, it stays asked for commit, and the votes against it stay.
-use Rattle.std.proofs.Common.{◌≡◌, ℕ, [], ◌∷◌, Bool, true, false, List, Option, Some, None, refl, ap, subst, sym, inl, inr, ◌∙◌, fold, if◌then◌else◌}
-use Rattle.std.proofs.lemmas.List.Folds.{list_any-append}
-use Rattle.std.specs.BTreeMap.{is_at}
-use Rattle.std.specs.List.{list_any}
-use Rattle.std.specs.Map.{lookup, set_value}
-use Rattle.std.specs.Prelude.{is_some, slice_get, ⊤}
-use Rattle.qs_base.proofs.TidOrder.{tid_exact}
-use Rattle.qs_base.specs.Order.{tid_cmp}
-use Rattle.qs_base.specs.declared.identifiers.ClientNo.{ClientNo}
-use Rattle.qs_base.specs.declared.identifiers.Member.{Member}
-use Rattle.qs_base.specs.declared.identifiers.Outcome.{Outcome}
+use Rattle.qs_world_lawful.proofs.Words.{◌≡◌, ℕ, [], ◌∷◌, Bool, true, false, List, Option, Some, None, refl, ap, subst, sym, inl, inr, ◌∙◌, fold, if◌then◌else◌, list_any-append, is_at, list_any, lookup, set_value, is_some, slice_get, ⊤, tid_exact, tid_cmp, ClientNo, Member, Outcome, Tid, Act, Found, is_client_no, Cause, Op, Reason, Vote, BookValue, begin, crosses, find_transaction, give_back_from, hear, inc_at, loan_to, serve_node, waiting_of, with_crossing, with_owner, with_transaction}
+use Rattle.qs_world_lawful.proofs.Words.{with_waiting, doubts_after, learn_node, end_node, borrower_at, link_to, effect_act, abort_begun, begun_at, begun_tid, commit_found, count_of, is_among, is_open_here, learn_found, member_at, put_new_votes, record_at, restart, up_to, vote_found, TransactionValue, decided_at, found_at, has_refusal, issued, learnt, voted, with_learnt, Request, RequestNo, Either, changed_either, lookup_put_apart, at_exact}
 use Rattle.qs_base.specs.declared.identifiers.Outcome.TheVariants as outcomes
-use Rattle.qs_base.specs.declared.identifiers.Tid.{Tid}
-use Rattle.qs_book_journal.specs.declared.entry.Act.{Act}
 use Rattle.qs_book_journal.specs.declared.entry.Act.TheVariants as acts
-use Rattle.qs_book_journal.specs.declared.entry.Found.{Found}
-use Rattle.qs_ops.specs.Servers.{audit_no, extra_no, files_no, is_client_no}
-use Rattle.qs_ops.specs.declared.answer.Cause.{Cause}
+use Rattle.qs_ops.specs.Servers.{audit_no, extra_no, files_no}
 use Rattle.qs_ops.specs.declared.answer.Cause.TheVariants as causes
-use Rattle.qs_ops.specs.declared.operation.Op.{Op}
-use Rattle.qs_ops.specs.declared.vote.Reason.{Reason}
-use Rattle.qs_ops.specs.declared.vote.Vote.{Vote}
 use Rattle.qs_ops.specs.declared.vote.Vote.TheVariants as votes
-use Rattle.qs_book_machine.specs.Book.{BookValue, answer, begin, crosses, decide, find_transaction, give_back_from, hear, inc_at, issue, loan_to, serve_node, vote_here, waiting_of, with_crossing, with_node, with_owner, with_transaction, with_waiting, doubts_after, learn_node, end_node}
-use Rattle.qs_book_machine.specs.Clauses.{borrower_at, link_to}
-use Rattle.qs_book_machine.specs.Lawful.{effect_act}
-use Rattle.qs_book_machine.specs.Restart.{abort_begun, begun_at, begun_tid, commit_found, count_of, is_among, is_open_here, learn_found, member_at, put_new_votes, record_at, restart, restart_found, up_to, vote_found}
-use Rattle.qs_book_machine.specs.Transaction.{TransactionValue, decided_at, found_at, has_refusal, is_refusal, issued, learnt, voted, with_learnt}
-use Rattle.qs_book_machine.specs.declared.transaction.Request.{Request}
-use Rattle.qs_book_machine.specs.declared.transaction.RequestNo.{RequestNo}
-use Rattle.qs_book_laws.proofs.Maps.{Either, changed_either, lookup_put_apart}
-use Rattle.qs_book_laws.proofs.Alikes.{at_exact}
+use Rattle.qs_book_machine.specs.Book.{answer, decide, issue, vote_here, with_node}
+use Rattle.qs_book_machine.specs.Restart.{restart_found}
+use Rattle.qs_book_machine.specs.Transaction.{is_refusal}
 use Rattle.qs_world_lawful.proofs.Truths.{of_some}
 
 -- of one transaction

@@ -1,42 +1,14 @@
 -- What a log says of contents and changes goes on by entries of its node and the record beside them.
-use Rattle.std.proofs.Common.{◌≡◌, inl, inr, ℕ, ◌==◌, ◌&&◌, ◌||◌, ◌++◌, not, Bool, true, false, List, [], ◌∷◌, map, flat_map, Option, Some, None, fold, refl, sym, ap, ◌∙◌, arith, if◌then◌else◌}
-use Rattle.std.proofs.lemmas.Bool.Decides.{nat_tests}
-use Rattle.std.proofs.lemmas.List.Sums.{fold-append}
-use Rattle.std.specs.List.{filter, list_any}
-use Rattle.qs_base.specs.Order.{same_tid}
-use Rattle.qs_base.specs.declared.identifiers.NodeNo.{NodeNo}
-use Rattle.qs_base.specs.declared.identifiers.ServerNo.{ServerNo}
-use Rattle.qs_base.specs.declared.identifiers.Tid.{Tid}
-use Rattle.qs_base.proofs.Same.{same_tid-self, same_tid-true}
-use Rattle.qs_book_laws.specs.Served.{keeps_contents}
-use Rattle.qs_book_machine.specs.Book.{BookValue}
+use Rattle.qs_world_lawful.proofs.Words.{◌≡◌, inl, inr, ℕ, ◌==◌, ◌&&◌, ◌||◌, ◌++◌, not, Bool, true, false, List, [], ◌∷◌, map, flat_map, Option, Some, None, fold, refl, sym, ap, ◌∙◌, if◌then◌else◌, fold-append, filter, list_any, same_tid, NodeNo, ServerNo, Tid, same_tid-self, same_tid-true, keeps_contents, BookValue, changes_of, record_of, voter, is_among, is_on_record, is_same_vote, votes_once, OnRecord, TableValue, applied, apply_change, apply_note, Op, Prepared, Recovery, found_commit}
+use Rattle.qs_world_lawful.proofs.Words.{found_prepare, is_vote_of, mark_committed, names_transaction, HoldsLogged, IsRecordSafe, Every, IsVoteLogged, found_of, HoldsSaid, IsApart, IsAsRecorded, IsMadeBy, IsRecorded, SameContents, HoldsMade, or_last, and_first, and_last, eqb-self, not-true, eqb-true}
 use Rattle.qs_book_machine.specs.Nodes as machine
-use Rattle.qs_book_machine.specs.Nodes.{changes_of, record_of, voter}
-use Rattle.qs_book_machine.specs.Restart.{is_among, is_on_record, is_same_vote, votes_once}
-use Rattle.qs_book_machine.specs.declared.state.OnRecord.{OnRecord}
-use Rattle.qs_ops.specs.Table.{TableValue, applied, apply_change, apply_note}
-use Rattle.qs_ops.specs.declared.operation.Op.{Op}
-use Rattle.qs_restart.specs.Recovery.{Prepared, Recovery, audit_no, changes_at, ended, files_no, found_commit, found_prepare, is_of, is_vote_of, mark_committed, names_transaction}
-use Rattle.qs_world_lawful.specs.Logged.{HoldsLogged, IsRecordSafe}
-use Rattle.qs_world_lawful.specs.Logs.{Every, IsVoteLogged, found_of}
-use Rattle.qs_world_lawful.specs.Said.{HoldsSaid, IsApart, IsAsRecorded, IsMadeBy, IsRecorded, IsUndone, SameContents}
-use Rattle.qs_world_lawful.specs.Saying.{HoldsMade, KeepsSaid, LearnsHere, MayCommitHere, PutsVote, StaysCrossed}
+use Rattle.qs_restart.specs.Recovery.{audit_no, changes_at, ended, files_no, is_of}
+use Rattle.qs_world_lawful.specs.Said.{IsUndone}
+use Rattle.qs_world_lawful.specs.Saying.{KeepsSaid, LearnsHere, MayCommitHere, PutsVote, StaysCrossed}
 use Rattle.qs_world_lawful.proofs.FoundMembers.{every_two}
 use Rattle.qs_world_lawful.proofs.FoundOnce.{same_vote_sym}
 use Rattle.qs_world_lawful.proofs.LogFrames.{every_on}
 use Rattle.qs_world_lawful.proofs.LogRecords.{every_append, every_filter, found_is, is_found, to_votes}
-
-and_left : (a b : Bool) → (a && b) ≡ true → a ≡ true
-and_left true b h = refl
-and_left false b h = absurd (cc h)
-
-and_right : (a b : Bool) → (a && b) ≡ true → b ≡ true
-and_right true b h = h
-and_right false b h = absurd (cc h)
-
-off : (b : Bool) → not b ≡ true → b ≡ false
-off false e = refl
-off true e = absurd (cc e)
 
 -- ---- tables
 
@@ -104,7 +76,7 @@ module _ (here : ℕ) (old new : BookValue) (state later : machine.NodeValue) (l
     files = made_on state.files later.files log.files p.files h.files;
     audit = made_on state.audit later.audit log.audit p.audit h.audit;
     recorded = every_append (IsAsRecorded here new later) (filter other log.prepared) (vote ∷ [])
-        (every_kept (IsAsRecorded here old state) (IsAsRecorded here new later) other (λ v far. vote_on here old new state later p.crossed v (p.others v.tid v.server.0 (off (is_vote_of vote.tid vote.server v) far))) log.prepared h.recorded) (p.own, tt);
+        (every_kept (IsAsRecorded here old state) (IsAsRecorded here new later) other (λ v far. vote_on here old new state later p.crossed v (p.others v.tid v.server.0 (not-true (is_vote_of vote.tid vote.server v) far))) log.prepared h.recorded) (p.own, tt);
     apart = every_append (IsApart log) (filter other log.prepared) (vote ∷ []) (every_filter (IsApart log) other log.prepared h.apart) ((λ names unended. clear), tt);
     gone = gone;
   }
@@ -131,23 +103,17 @@ unit : (xs : List Op) → xs ++ [] ≡ xs
 unit [] = refl
 unit (x ∷ xs) = ap (λ (ops : List Op). x ∷ ops) (unit xs)
 
-no_is : (a b : ℕ) → (a == b) ≡ true → a ≡ b
-no_is a b e = grind (arith, nat_tests, e)
-
-no_same : (a : ℕ) → (a == a) ≡ true
-no_same a = grind (arith, nat_tests)
-
 module _ (tid : Tid) (server : ServerNo) where
   abbrev test : Prepared → Bool
   test = is_vote_of tid server
 
   test_is : (v : Prepared) → test v ≡ true → (v.tid ≡ tid) × (v.server.0 ≡ server.0)
-  test_is v is = (same_tid-true v.tid tid (and_left (same_tid v.tid tid) (v.server.0 == server.0) is), no_is v.server.0 server.0 (and_right (same_tid v.tid tid) (v.server.0 == server.0) is))
+  test_is v is = (same_tid-true v.tid tid (and_first (same_tid v.tid tid) (v.server.0 == server.0) is), eqb-true v.server.0 server.0 (and_last (same_tid v.tid tid) (v.server.0 == server.0) is))
 
   both_same : (x y : Prepared) → test x ≡ true → test y ≡ true → is_same_vote (found_of x) (found_of y) ≡ true
   both_same x y p q =
       same_vote_sym x y ∙ (ap (λ (t : Tid). same_tid x.tid t && (x.server.0 == y.server.0)) ((test_is y q).0 ∙ sym (test_is x p).0)
-      ∙ (ap (λ (b : Bool). b && (x.server.0 == y.server.0)) (same_tid-self x.tid) ∙ (ap (λ (n : ℕ). x.server.0 == n) ((test_is y q).1 ∙ sym (test_is x p).1) ∙ no_same x.server.0)))
+      ∙ (ap (λ (b : Bool). b && (x.server.0 == y.server.0)) (same_tid-self x.tid) ∙ (ap (λ (n : ℕ). x.server.0 == n) ((test_is y q).1 ∙ sym (test_is x p).1) ∙ eqb-self x.server.0)))
 
   -- it is the only one
   alone : (x : Prepared) → test x ≡ true → (xs : List Prepared) → list_any (is_same_vote (found_of x)) (map found_of xs) ≡ false → list_any test xs ≡ false
@@ -156,23 +122,19 @@ module _ (tid : Tid) (server : ServerNo) where
     where
       by : (b : Bool) → test y ≡ b → (list_any (is_same_vote (found_of x)) (map found_of ys) ≡ false → list_any test ys ≡ false) → list_any test (y ∷ ys) ≡ false
       by true same more = absurd (cc (rw (both_same x y is same) at none))
-      by false far more = rw far (more (rest (is_same_vote (found_of x) (found_of y)) (list_any (is_same_vote (found_of x)) (map found_of ys)) none))
-        where
-          rest : (a b : Bool) → (a || b) ≡ false → b ≡ false
-          rest true b e = absurd (cc e)
-          rest false b e = e
+      by false far more = rw far (more (or_last (is_same_vote (found_of x) (found_of y)) (list_any (is_same_vote (found_of x)) (map found_of ys)) none))
 
   one_of : (c : List Op) (votes : List Prepared) → votes_once (map found_of votes) ≡ true → list_any test votes ≡ true → Every (λ (v : Prepared). test v ≡ true → v.changes ≡ c) votes → flat_map (λ (vote : Prepared). vote.changes) (filter test votes) ≡ c
   one_of c [] once any all = absurd (cc any)
   one_of c (v ∷ votes) once any all = by (test v) refl (one_of c votes)
     where
       first : list_any (is_same_vote (found_of v)) (map found_of votes) ≡ false
-      first = off _ (and_left (not (list_any (is_same_vote (found_of v)) (map found_of votes))) (votes_once (map found_of votes)) once)
+      first = not-true _ (and_first (not (list_any (is_same_vote (found_of v)) (map found_of votes))) (votes_once (map found_of votes)) once)
 
       by : (b : Bool) → test v ≡ b → (votes_once (map found_of votes) ≡ true → list_any test votes ≡ true → Every (λ (v : Prepared). test v ≡ true → v.changes ≡ c) votes → flat_map (λ (vote : Prepared). vote.changes) (filter test votes) ≡ c)
           → flat_map (λ (vote : Prepared). vote.changes) (filter test (v ∷ votes)) ≡ c
       by true is more = rw is (ap (λ (ops : List Op). v.changes ++ ops) (none_of test votes (alone v is votes first)) ∙ (unit v.changes ∙ all.0 is))
-      by false is more = rw is (more (and_right (not (list_any (is_same_vote (found_of v)) (map found_of votes))) (votes_once (map found_of votes)) once) (rw is at any) all.1)
+      by false is more = rw is (more (and_last (not (list_any (is_same_vote (found_of v)) (map found_of votes))) (votes_once (map found_of votes)) once) (rw is at any) all.1)
 
 any_more : (one two : Prepared → Bool) → ((v : Prepared) → one v ≡ true → two v ≡ true) → (votes : List Prepared) → list_any one votes ≡ true → list_any two votes ≡ true
 any_more one two gives [] e = absurd (cc e)
@@ -197,7 +159,7 @@ module _ (here : ℕ) (old new : BookValue) (state later : machine.NodeValue) (l
   vote_says server v may logged as_recorded apart is = by logged
     where
       doubt : MayCommitHere here old v
-      doubt = may (and_left (same_tid v.tid tid) (v.server.0 == server.0) is)
+      doubt = may (and_first (same_tid v.tid tid) (v.server.0 == server.0) is)
 
       names : names_transaction v.tid ≡ true
       names = ap names_transaction (test_is tid server v is).0 ∙ l.named
@@ -292,8 +254,8 @@ module _ (here : ℕ) (old new : BookValue) (state later : machine.NodeValue) (l
       by [] = record {
         files = files_made;
         audit = audit_made;
-        recorded = every_kept (IsAsRecorded here old state) (IsAsRecorded here new later) (λ vote. not (is_of tid vote)) (λ v far. other_recorded v (off (is_of tid v) far)) log.prepared h.recorded;
-        apart = every_kept (IsApart log) IsApartNow (λ vote. not (is_of tid vote)) (λ v far. other_apart v (off (is_of tid v) far)) log.prepared h.apart;
+        recorded = every_kept (IsAsRecorded here old state) (IsAsRecorded here new later) (λ vote. not (is_of tid vote)) (λ v far. other_recorded v (not-true (is_of tid v) far)) log.prepared h.recorded;
+        apart = every_kept (IsApart log) IsApartNow (λ vote. not (is_of tid vote)) (λ v far. other_apart v (not-true (is_of tid v) far)) log.prepared h.apart;
         gone = gone;
       }
       by (node ∷ more) = record {

@@ -1,44 +1,15 @@
 -- A vote pass leaves what the log says as the machine has it: a recoverable vote goes with its Prepare, and only files and audit vote so.
-use Rattle.std.proofs.Common.{◌≡◌, ℕ, ◌<◌, ◌++◌, Bool, true, false, List, [], ◌∷◌, length, Option, Some, None, refl, sym, ap, subst, ◌∙◌, fold, nat_lt, if◌then◌else◌}
-use Rattle.std.specs.List.{filter}
-use Rattle.std.specs.Prelude.{◌==◌, ◌&&◌, ◌||◌, not}
-use Rattle.qs_base.specs.declared.identifiers.NodeNo.{NodeNo}
-use Rattle.qs_base.specs.declared.identifiers.ServerNo.{ServerNo}
-use Rattle.qs_base.specs.declared.identifiers.Tid.{Tid}
+use Rattle.qs_world_lawful.proofs.Words.{◌≡◌, ℕ, ◌<◌, ◌++◌, Bool, true, false, List, [], ◌∷◌, length, Option, Some, None, refl, sym, ap, subst, ◌∙◌, fold, nat_lt, if◌then◌else◌, filter, ◌==◌, ◌&&◌, ◌||◌, not, NodeNo, ServerNo, Tid, Entry, Inv, after_both, IsCoherent, keeps_contents, BookValue, IsLawful, book_after, opening, Opened, ServerValue, changes_vote, vote_of, TableValue, has_changes, ServerKind, Vote, Record, ServersValue, server_at, end_member, is_lent, is_pass_due, is_put_off, pass_rule, Work}
+use Rattle.qs_world_lawful.proofs.Words.{doings_of, due_votes, issue_note, owes_note, vote_frame, vote_next, vote_pass, vote_with, awaits_note, is_due_at, member_of, needs_pass, servers_due, Participant, HoldsWork, book_at, entries_so_far, MayPass, Lasts, IsNumbered, KeepsLogs, Every}
 use Rattle.qs_ipc.specs.Ipc as ipc
-use Rattle.qs_book_journal.specs.declared.entry.Entry.{Entry}
-use Rattle.qs_book_laws.proofs.Outcomes.{Inv}
-use Rattle.qs_book_laws.proofs.Steps.{after_both}
-use Rattle.qs_book_laws.specs.Laws.{IsCoherent}
-use Rattle.qs_book_laws.specs.Served.{keeps_contents}
-use Rattle.qs_book_machine.specs.Book.{BookValue}
-use Rattle.qs_book_machine.specs.Lawful.{IsLawful, book_after}
-use Rattle.qs_book_machine.specs.Opening.{opening}
-use Rattle.qs_book_machine.specs.declared.opened.Opened.{Opened}
-use Rattle.qs_ops.specs.Server.{ServerValue, changes_vote, is_logged, names_vote, vote_of}
+use Rattle.qs_ops.specs.Server.{is_logged, names_vote}
 use Rattle.qs_ops.specs.Servers as numbers
-use Rattle.qs_ops.specs.Table.{TableValue, has_changes, least_taken}
-use Rattle.qs_ops.specs.declared.server.ServerKind.{ServerKind}
+use Rattle.qs_ops.specs.Table.{least_taken}
 use Rattle.qs_ops.specs.declared.server.ServerKind.TheVariants as kinds
-use Rattle.qs_ops.specs.declared.vote.Vote.{Vote}
 use Rattle.qs_ops.specs.declared.vote.Vote.TheVariants as votes
-use Rattle.qs_record.specs.declared.record.Record.{Record}
-use Rattle.qs_node_servers.specs.Servers.{ServersValue, server_at}
-use Rattle.qs_node_step.specs.Deciding.{end_member}
-use Rattle.qs_node_step.specs.Settling.{is_lent, is_pass_due, is_put_off, pass_rule}
-use Rattle.qs_node_step.specs.State.{Work, doings_of}
-use Rattle.qs_node_step.specs.Voting.{due_votes, issue_note, owes_note, vote_frame, vote_next, vote_pass, vote_with}
 use Rattle.qs_tm.specs.Manager as tm
 use Rattle.qs_tm.specs.Members.{all_servers}
-use Rattle.qs_tm.specs.Participant.{awaits_note, is_due_at, member_of, needs_pass, servers_due}
 use Rattle.qs_tm.specs.declared.participant.Due.TheVariants as dues
-use Rattle.qs_tm.specs.declared.participant.Participant.{Participant}
-use Rattle.qs_world_lawful.specs.Entering.{HoldsWork, book_at, entries_so_far}
-use Rattle.qs_world_lawful.specs.Given.{MayPass}
-use Rattle.qs_world_lawful.specs.Lasting.{Lasts}
-use Rattle.qs_world_lawful.specs.LastingLaws.{IsNumbered}
-use Rattle.qs_world_lawful.specs.Logged.{KeepsLogs}
-use Rattle.qs_world_lawful.specs.Logs.{Every}
 use Rattle.qs_world_lawful.specs.Tables.{HoldsKinds}
 use Rattle.qs_world_lawful.proofs.Endings.{end_if, endings_are}
 use Rattle.qs_world_lawful.proofs.LastsAlways.{always}

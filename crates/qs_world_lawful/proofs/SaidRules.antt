@@ -1,19 +1,7 @@
 -- The rules of a step that make no record, or only the end of a transaction's records, leave what the log says of contents and changes.
-use Rattle.std.proofs.Common.{◌≡◌, ℕ, ◌++◌, List, [], ◌∷◌, sym, ap, subst}
-use Rattle.qs_book_journal.specs.declared.entry.Act.{Act}
-use Rattle.qs_book_laws.proofs.Outcomes.{Inv}
+use Rattle.qs_world_lawful.proofs.Words.{◌≡◌, ℕ, ◌++◌, List, [], ◌∷◌, sym, ap, subst, Act, Inv, BookValue, IsLawful, book_after, effect, Record, Recovery, found_record, recovery, Work, here, entries_of, entry_of, book_at, entries_so_far, IsPlain, Every, IsEnd, SaidAfter, SaidAt}
 use Rattle.qs_book_laws.proofs.Steps.{stepped}
-use Rattle.qs_book_machine.specs.Book.{BookValue}
-use Rattle.qs_book_machine.specs.Lawful.{IsLawful, book_after, effect}
-use Rattle.qs_record.specs.declared.record.Record.{Record}
 use Rattle.qs_record.specs.declared.record.Record.TheVariants as made
-use Rattle.qs_restart.specs.Recovery.{Recovery, found_record, recovery}
-use Rattle.qs_node_step.specs.State.{Work, here}
-use Rattle.qs_world.specs.Posting.{entries_of, entry_of}
-use Rattle.qs_world_lawful.specs.Entering.{book_at, entries_so_far}
-use Rattle.qs_world_lawful.specs.Logged.{IsPlain}
-use Rattle.qs_world_lawful.specs.Logs.{Every}
-use Rattle.qs_world_lawful.specs.Saying.{IsEnd, SaidAfter, SaidAt}
 use Rattle.qs_world_lawful.proofs.LogKeeps.{book_is, inv_at, lawful_before, lawful_since}
 use Rattle.qs_world_lawful.proofs.LogMarks.{one_more}
 use Rattle.qs_world_lawful.proofs.SaidEntries.{plain_enters_at}

@@ -1,44 +1,20 @@
 -- What a message says is so for good, through every lawful history: what it says of the cell, of votes and of what stood open stays.
-use Rattle.std.proofs.Common.{◌≡◌, ℕ, ◌==◌, ◌++◌, [], ◌∷◌, Bool, true, false, List, Option, Some, None, ◌≤◌, length, zero, suc, arith, refl, ap, sym, ◌∙◌, append_assoc}
-use Rattle.std.proofs.lemmas.List.Folds.{list_any-append}
-use Rattle.std.proofs.lemmas.Option.{slice_get_within}
-use Rattle.std.specs.List.{list_any}
-use Rattle.std.specs.Option.{option_map}
-use Rattle.std.specs.Prelude.{◌||◌, is_some, slice_get}
-use Rattle.qs_base.specs.declared.identifiers.NodeNo.{NodeNo}
-use Rattle.qs_base.specs.declared.identifiers.Outcome.{Outcome}
+use Rattle.qs_world_lawful.proofs.Words.{◌≡◌, ℕ, ◌==◌, ◌++◌, [], ◌∷◌, Bool, true, false, List, Option, Some, None, ◌≤◌, length, zero, suc, arith, refl, ap, sym, ◌∙◌, append_assoc, list_any-append, slice_get_within, list_any, option_map, ◌||◌, is_some, slice_get, NodeNo, Outcome, Tid, Act, Entry, face, ran_run, opening_holds, Inv, after_both, held, ran, IsCoherent, BookValue, cell_of_transaction, find_transaction, inc_at, IsLawful, book_after, broken, broken_at, effect, opening, TransactionValue}
+use Rattle.qs_world_lawful.proofs.Words.{is_open, Opened, Cell, Cause, Message, IsTrueCause, HasOutcome, Channels, Parcel, HoldsChannels, IsSaid}
 use Rattle.qs_base.specs.declared.identifiers.Outcome.TheVariants as outcomes
-use Rattle.qs_base.specs.declared.identifiers.Tid.{Tid}
-use Rattle.qs_book_journal.specs.declared.entry.Act.{Act}
 use Rattle.qs_book_journal.specs.declared.entry.Act.TheVariants as acts
-use Rattle.qs_book_journal.specs.declared.entry.Entry.{Entry}
-use Rattle.qs_book_laws.proofs.Faces.{Face, face}
+use Rattle.qs_book_laws.proofs.Faces.{Face}
 use Rattle.qs_book_laws.proofs.GoneByEntries.{is_gone_only, is_gone_whenever}
-use Rattle.qs_book_laws.proofs.InRun.{ran_run}
-use Rattle.qs_book_laws.proofs.Openings.{opening_holds}
-use Rattle.qs_book_laws.proofs.Outcomes.{Inv}
-use Rattle.qs_book_laws.proofs.Steps.{after_both, held, ran, stepped}
-use Rattle.qs_book_laws.specs.Laws.{IsCoherent}
+use Rattle.qs_book_laws.proofs.Steps.{stepped}
 use Rattle.qs_book_laws.specs.Gone.{IsGone, restarts_into}
-use Rattle.qs_book_machine.specs.Book.{BookValue, cell_of_transaction, find_transaction, inc_at}
 use Rattle.qs_book_machine.specs.Clauses.{is_gone_cause}
-use Rattle.qs_book_machine.specs.Lawful.{IsLawful, book_after, broken, broken_at, effect, is_in_order}
+use Rattle.qs_book_machine.specs.Lawful.{is_in_order}
 use Rattle.qs_book_machine.specs.Nodes.{NodeValue}
-use Rattle.qs_book_machine.specs.Opening.{opening}
-use Rattle.qs_book_machine.specs.Transaction.{TransactionValue, is_open}
-use Rattle.qs_book_machine.specs.declared.opened.Opened.{Opened}
-use Rattle.qs_book_machine.specs.declared.transaction.Cell.{Cell}
 use Rattle.qs_book_machine.specs.declared.transaction.Cell.TheVariants as cells
-use Rattle.qs_ops.specs.declared.answer.Cause.{Cause}
 use Rattle.qs_ops.specs.declared.answer.Cause.TheVariants as causes
-use Rattle.qs_packet.specs.declared.message.Message.{Message}
 use Rattle.qs_packet.specs.declared.message.Message.TheVariants as messages
-use Rattle.qs_world_lawful.specs.Beside.{IsTrueCause}
-use Rattle.qs_world_lawful.specs.Logged.{HasOutcome}
-use Rattle.qs_session_channels.specs.Channels.{Channels}
-use Rattle.qs_world.specs.World.{Parcel}
 use Rattle.qs_world_lawful.proofs.ParcelsKept.{channels_later}
-use Rattle.qs_world_lawful.specs.Parcels.{HoldsChannels, IsSaid, IsThere}
+use Rattle.qs_world_lawful.specs.Parcels.{IsThere}
 use Rattle.qs_world_lawful.proofs.LogActs.{fresh}
 use Rattle.qs_world_lawful.proofs.SaidOn.{HasSaidMore, IsNew, SaidOn, acted_said, said_self, said_then}
 use Rattle.qs_world_lawful.proofs.Truths.{of_some}

@@ -1,24 +1,7 @@
 -- Rules in a row: what a log says goes on by each, and so by all; where a rule writes at most the end of records, it does so by the rule alone.
-use Rattle.std.proofs.Common.{◌≡◌, ℕ, Bool, true, false, List, [], ◌∷◌, ◌++◌, Option, Some, None, refl, sym, ap, subst, ◌∙◌, append_assoc, fold, if◌then◌else◌}
-use Rattle.std.proofs.lemmas.List.Sums.{fold-append}
-use Rattle.std.specs.Prelude.{is_none}
-use Rattle.qs_base.specs.declared.identifiers.Outcome.{Outcome}
-use Rattle.qs_base.specs.declared.identifiers.Tid.{Tid}
-use Rattle.qs_book_journal.specs.declared.entry.Act.{Act}
-use Rattle.qs_book_laws.proofs.Outcomes.{Inv}
-use Rattle.qs_book_machine.specs.Book.{BookValue}
-use Rattle.qs_book_machine.specs.Lawful.{IsLawful}
-use Rattle.qs_record.specs.declared.record.Record.{Record}
+use Rattle.qs_world_lawful.proofs.Words.{◌≡◌, ℕ, Bool, true, false, List, [], ◌∷◌, ◌++◌, Option, Some, None, refl, sym, ap, subst, ◌∙◌, append_assoc, fold, if◌then◌else◌, fold-append, Tid, Act, Inv, BookValue, IsLawful, Record, Recovery, found_record, nothing_said, recovery, where_undecided, Work, here, is_undecided, Participant, book_at, entries_so_far, HoldsLogs, IsPlain, KeepsLogs, Every, IsEnd, SaidAfter, SaidAt, none_is}
 use Rattle.qs_record.specs.declared.record.Record.TheVariants as made
-use Rattle.qs_restart.specs.Recovery.{Recovery, found_record, nothing_said, recovery}
-use Rattle.qs_node_step.specs.Asking.{where_undecided}
-use Rattle.qs_node_step.specs.State.{Work, here, part_of}
-use Rattle.qs_tm.specs.Participant.{is_undecided}
-use Rattle.qs_tm.specs.declared.participant.Participant.{Participant}
-use Rattle.qs_world_lawful.specs.Entering.{book_at, entries_so_far}
-use Rattle.qs_world_lawful.specs.Logged.{HoldsLogs, IsPlain, KeepsLogs}
-use Rattle.qs_world_lawful.specs.Logs.{Every}
-use Rattle.qs_world_lawful.specs.Saying.{IsEnd, SaidAfter, SaidAt}
+use Rattle.qs_node_step.specs.State.{part_of}
 use Rattle.qs_world_lawful.proofs.LogKeeps.{book_is, by_quiet, inv_at, keeps_self, keeps_then, lawful_before, lawful_since}
 use Rattle.qs_world_lawful.proofs.Recordless.{Quiet}
 use Rattle.qs_world_lawful.proofs.SaidEnds.{EndsOnly, ends_quiet}
@@ -98,11 +81,7 @@ module _ (stamp : ℕ) (before : BookValue) (i : Inv before) (disk waiting : Lis
   says_where tid rule work each = by (part_of tid work) refl
     where
       undecided : (part : Participant) → is_undecided part ≡ true → part.outcome ≡ None
-      undecided part is = at part.outcome is
-        where
-          at : (o : Option Outcome) → is_none o ≡ true → o ≡ None
-          at None e = refl
-          at (Some outcome) e = absurd (cc e)
+      undecided part is = none_is part.outcome is
 
       of : (part : Participant) → part_of tid work ≡ Some part → (b : Bool) → is_undecided part ≡ b → Goes work (if b then rule part work else work)
       of part known true is = each part known (undecided part is)

@@ -1,38 +1,16 @@
 -- A node that is told of a commit leaves what its log says as the machine has it: what the log has of the transaction is in doubt till then, and the node's servers learn the commit in the same rule.
-use Rattle.std.proofs.Common.{◌≡◌, ℕ, ◌++◌, Bool, true, false, List, [], ◌∷◌, length, Option, Some, None, refl, sym, ap, subst, ◌∙◌, nat_lt, if◌then◌else◌}
-use Rattle.std.specs.List.{list_any}
-use Rattle.std.specs.Prelude.{◌||◌, is_none, is_some, slice_get}
-use Rattle.qs_base.specs.declared.identifiers.NodeNo.{NodeNo}
-use Rattle.qs_base.specs.declared.identifiers.Outcome.{Outcome}
+use Rattle.qs_world_lawful.proofs.Words.{◌≡◌, ℕ, ◌++◌, Bool, true, false, List, [], ◌∷◌, length, Option, Some, None, refl, sym, ap, subst, ◌∙◌, nat_lt, if◌then◌else◌, list_any, ◌||◌, is_some, slice_get, NodeNo, Outcome, ServerNo, Tid, same_node, Entry, Inv, IsCoherent, AllLearn, is_server, BookValue, cell_of_transaction, find_transaction, IsLawful, book_after, opening, TransactionValue, may_learn_still, Opened, Record, recovery, log, log_if, send, learn_members, learners_at, Work, here}
+use Rattle.qs_world_lawful.proofs.Words.{with_manager, end_record, learn_unknown, names_at, take_outcome, tell_came, is_undecided, learners, Participant, HoldsWork, book_at, HasCommitted, HasOutcome, HoldsLogs, IsPrepared, KeepsLogs, both_ways, none_is}
 use Rattle.qs_base.specs.declared.identifiers.Outcome.TheVariants as outcomes
-use Rattle.qs_base.specs.declared.identifiers.ServerNo.{ServerNo}
-use Rattle.qs_base.specs.declared.identifiers.Tid.{Tid}
-use Rattle.qs_engage.specs.Nodes.{same_node}
-use Rattle.qs_book_journal.specs.declared.entry.Entry.{Entry}
-use Rattle.qs_book_laws.proofs.Outcomes.{Inv}
-use Rattle.qs_book_laws.specs.Laws.{IsCoherent}
-use Rattle.qs_book_laws.specs.Learning.{AllLearn, is_server}
-use Rattle.qs_book_machine.specs.Book.{BookValue, cell_of_transaction, find_transaction}
-use Rattle.qs_book_machine.specs.Lawful.{IsLawful, book_after}
 use Rattle.qs_book_machine.specs.Nodes as machine
-use Rattle.qs_book_machine.specs.Opening.{opening}
-use Rattle.qs_book_machine.specs.Transaction.{TransactionValue, may_learn_still, part_of as machine_part}
-use Rattle.qs_book_machine.specs.declared.opened.Opened.{Opened}
+use Rattle.qs_book_machine.specs.Transaction.{part_of as machine_part}
 use Rattle.qs_book_machine.specs.declared.transaction.Cell.TheVariants as cells
 use Rattle.qs_packet.specs.declared.message.Message.TheVariants as messages
-use Rattle.qs_record.specs.declared.record.Record.{Record}
 use Rattle.qs_record.specs.declared.record.Record.TheVariants as made
-use Rattle.qs_restart.specs.Recovery.{recovery}
-use Rattle.qs_node_step.specs.Bringing.{log, log_if, send}
-use Rattle.qs_node_step.specs.Deciding.{learn_members, learners_at}
-use Rattle.qs_node_step.specs.State.{Work, here, part_of, with_manager}
-use Rattle.qs_node_step.specs.Telling.{end_record, learn, learn_unknown, names_at, take_outcome, tell_came}
+use Rattle.qs_node_step.specs.State.{part_of}
+use Rattle.qs_node_step.specs.Telling.{learn}
 use Rattle.qs_tm.specs.Manager as tm
 use Rattle.qs_tm.specs.Outcomes as outcome_rules
-use Rattle.qs_tm.specs.Participant.{is_undecided, learners}
-use Rattle.qs_tm.specs.declared.participant.Participant.{Participant}
-use Rattle.qs_world_lawful.specs.Entering.{HoldsWork, book_at}
-use Rattle.qs_world_lawful.specs.Logged.{HasCommitted, HasOutcome, HoldsLogs, IsPrepared, KeepsLogs}
 use Rattle.qs_world_lawful.specs.SayingSteps.{IsToldSo}
 use Rattle.qs_world_lawful.proofs.LogEndings.{by_learn_rule}
 use Rattle.qs_world_lawful.proofs.LogLaws.{inv_is}
@@ -102,21 +80,14 @@ module _ (opened : List Opened) (history : List Entry) (coherent : IsCoherent op
             (ap (λ (rs : List Record). rs ++ made.Commit tid [] ∷ []) l.records) (ap (λ (b : Bool). b || true) l.force)
             (λ lawful h said. let its = learns_so h in (its, doubt_of_all (here work).0 book h.state (recovery (disk ++ (waiting ++ work.out.records))) tid h.all.marked its.named said.said.apart (so.doubted part known prepared)))
         by false unprepared logs = says_unwritten opened history coherent lawful_till stamp disk waiting work done tid [] (learners_at tid took) l.entries tt l.setting in_run so.at_home logs l.records l.force
-            (λ is. clash part.log.prepared unprepared (subst IsPrepared known is)) (λ lawful h. learns_so h)
-          where
-            clash : (b : Bool) → b ≡ false → b ≡ true → ⊥
-            clash b e f = cc (sym e ∙ f)
+            (λ is. both_ways part.log.prepared unprepared (subst IsPrepared known is)) (λ lawful h. learns_so h)
 
   says_take : Goes work (take_outcome tid outcomes.Commit work)
   says_take = by (part_of tid work) refl
     where
-      none_of : (o : Option Outcome) → is_none o ≡ true → o ≡ None
-      none_of None e = refl
-      none_of (Some outcome) e = absurd (cc e)
-
       by : (o : Option Participant) → part_of tid work ≡ o → Goes work (elim o [ None ↦ learn_unknown tid outcomes.Commit work | Some part ↦ if is_undecided part then learn tid outcomes.Commit part work else work ])
       by None is = says_self stamp before i disk waiting work
-      by (Some part) is = says_if stamp before i disk waiting (is_undecided part) work (learn tid outcomes.Commit part work) work (λ open_still. says_learn part is (none_of part.outcome open_still)) (λ known. says_self stamp before i disk waiting work)
+      by (Some part) is = says_if stamp before i disk waiting (is_undecided part) work (learn tid outcomes.Commit part work) work (λ open_still. says_learn part is (none_is part.outcome open_still)) (λ known. says_self stamp before i disk waiting work)
 
   pub says_told : (peer : NodeNo) → Goes work (tell_came peer tid outcomes.Commit work)
   says_told peer = says_if stamp before i disk waiting (same_node tid.home (here work)) work work (send peer (messages.Told tid (names_at tid outcomes.Commit work)) taken) (λ home. says_self stamp before i disk waiting work)

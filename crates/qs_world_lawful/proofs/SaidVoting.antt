@@ -1,45 +1,15 @@
 -- The rule by which a server votes recoverable leaves what the log says of contents and changes as the machine has it.
-use Rattle.std.proofs.Common.{◌≡◌, inl, inr, ℕ, ◌&&◌, ◌++◌, not, Bool, true, false, List, [], ◌∷◌, Option, Some, None, refl, sym, ap, subst, ◌∙◌}
-use Rattle.std.proofs.lemmas.List.Sums.{fold-append}
-use Rattle.std.specs.Prelude.{slice_get}
-use Rattle.qs_base.specs.Order.{same_tid}
-use Rattle.qs_base.specs.declared.identifiers.Member.{Member}
-use Rattle.qs_base.specs.declared.identifiers.ServerNo.{ServerNo}
-use Rattle.qs_base.specs.declared.identifiers.Tid.{Tid}
-use Rattle.qs_base.proofs.Same.{same_tid-true}
-use Rattle.qs_book_journal.specs.declared.entry.Act.{Act}
+use Rattle.qs_world_lawful.proofs.Words.{◌≡◌, inl, inr, ℕ, ◌&&◌, ◌++◌, not, Bool, true, false, List, [], ◌∷◌, Option, Some, None, refl, sym, ap, subst, ◌∙◌, fold-append, slice_get, same_tid, Member, ServerNo, Tid, same_tid-true, Act, Inv, held, passed, keeps_contents, BookValue, cell_of_transaction, find_transaction, IsLawful, broken, effect, is_among, TransactionValue, is_commit, Cell, after_vote, changes_in, voted_by, Op, ServerKind, Record, found_record, nothing_said, recovery, ServersValue}
+use Rattle.qs_world_lawful.proofs.Words.{server_at, with_server, member_here, Work, here, enter_vote, served_count, vote_with, Participant, entry_of, book_at, entries_so_far, Holds, Lasts, HasCommitted, HoldsLogged, HoldsLogs, IsCommitMade, Every, HoldsMade, SaidAfter, SaidAt, same_Some}
 use Rattle.qs_book_journal.specs.declared.entry.Act.TheVariants as acts
-use Rattle.qs_book_laws.proofs.Outcomes.{Inv}
-use Rattle.qs_book_laws.proofs.Steps.{held, passed}
-use Rattle.qs_book_laws.specs.Served.{keeps_contents}
-use Rattle.qs_book_machine.specs.Book.{BookValue, cell_of_transaction, find_transaction}
 use Rattle.qs_book_machine.specs.Clauses.{broken_vote, is_vote_due}
-use Rattle.qs_book_machine.specs.Lawful.{IsLawful, broken, effect}
 use Rattle.qs_book_machine.specs.Nodes as machine
-use Rattle.qs_book_machine.specs.Restart.{is_among}
-use Rattle.qs_book_machine.specs.Transaction.{TransactionValue, is_commit, part_of as machine_part}
-use Rattle.qs_book_machine.specs.declared.transaction.Cell.{Cell}
+use Rattle.qs_book_machine.specs.Transaction.{part_of as machine_part}
 use Rattle.qs_book_machine.specs.declared.transaction.Cell.TheVariants as cells
-use Rattle.qs_ops.specs.Server.{after_vote, changes_in, voted_by}
-use Rattle.qs_ops.specs.declared.operation.Op.{Op}
-use Rattle.qs_ops.specs.declared.server.ServerKind.{ServerKind}
 use Rattle.qs_ops.specs.declared.server.ServerKind.TheVariants as kinds
 use Rattle.qs_ops.specs.declared.vote.Vote.TheVariants as votes
-use Rattle.qs_record.specs.declared.record.Record.{Record}
 use Rattle.qs_record.specs.declared.record.Record.TheVariants as made
-use Rattle.qs_restart.specs.Recovery.{found_record, nothing_said, recovery}
-use Rattle.qs_node_servers.specs.Servers.{ServersValue, server_at, with_server}
-use Rattle.qs_node_step.specs.Bringing.{member_here}
-use Rattle.qs_node_step.specs.State.{Work, here, part_of}
-use Rattle.qs_node_step.specs.Voting.{enter_vote, served_count, vote_with}
-use Rattle.qs_tm.specs.declared.participant.Participant.{Participant}
-use Rattle.qs_world.specs.Posting.{entry_of}
-use Rattle.qs_world_lawful.specs.Entering.{book_at, entries_so_far}
-use Rattle.qs_world_lawful.specs.Holds.{Holds}
-use Rattle.qs_world_lawful.specs.Lasting.{Lasts}
-use Rattle.qs_world_lawful.specs.Logged.{HasCommitted, HoldsLogged, HoldsLogs, IsCommitMade}
-use Rattle.qs_world_lawful.specs.Logs.{Every}
-use Rattle.qs_world_lawful.specs.Saying.{HoldsMade, SaidAfter, SaidAt}
+use Rattle.qs_node_step.specs.State.{part_of}
 use Rattle.qs_world_lawful.proofs.LogActs.{acting}
 use Rattle.qs_world_lawful.proofs.LogKeeps.{book_is, inv_at, lawful_before, lawful_since}
 use Rattle.qs_world_lawful.proofs.LogMarks.{one_more}
@@ -73,10 +43,7 @@ module _ (book : BookValue) (stamp here : ℕ) (state : machine.NodeValue) (ther
       by : (o : Option TransactionValue) → find_transaction book tid ≡ o → broken_vote here state tid o member votes.Recoverable covers ≡ None → ⊥
       by None is e = cc e
       by (Some tx) is e =
-          both_and _ _ (is_commit tx.cell) _ (passed (is_vote_due here tx member (machine_part tx member state.inc)) 40 _ e) (ap is_commit (some_same tx.cell cells.Commit (sym (ap cell_of_transaction is) ∙ committed)))
-        where
-          some_same : (a b : Cell) → Some a ≡ Some b → a ≡ b
-          some_same a b e = cc e
+          both_and _ _ (is_commit tx.cell) _ (passed (is_vote_due here tx member (machine_part tx member state.inc)) 40 _ e) (ap is_commit (same_Some tx.cell cells.Commit (sym (ap cell_of_transaction is) ∙ committed)))
 
 -- the server keeps what it has pending
 voted_same : (server : ℕ) → keeps_contents server ≡ true → (tid : Tid) (servers : ServersValue) → changes_in (server_at (with_server (record { 0 = server }) (λ value. after_vote value tid votes.Recoverable) servers) (record { 0 = server })) tid ≡ changes_in (server_at servers (record { 0 = server })) tid
@@ -124,14 +91,11 @@ module _ (before : BookValue) (i : Inv before) (stamp : ℕ) (disk waiting : Lis
   i_now : Inv book
   i_now = inv_at stamp before i disk waiting work (lawful_before stamp before i disk waiting work new (act ∷ []) refl refl lawful)
 
-  same_state : (a b : machine.NodeValue) → Some a ≡ Some b → a ≡ b
-  same_state a b e = cc e
-
   made_here : HoldsMade at book holds.state (recovery records_so_far)
-  made_here = subst (λ (state : machine.NodeValue). HoldsMade at book state (recovery records_so_far)) (same_state said.state holds.state (sym said.there ∙ holds.there)) said.said
+  made_here = subst (λ (state : machine.NodeValue). HoldsMade at book state (recovery records_so_far)) (same_Some said.state holds.state (sym said.there ∙ holds.there)) said.said
 
   logged_here : HoldsLogged at book holds.state (recovery records_so_far)
-  logged_here = subst (λ (state : machine.NodeValue). HoldsLogged at book state (recovery records_so_far)) (same_state logs.state holds.state (sym logs.there ∙ holds.there)) logs.all
+  logged_here = subst (λ (state : machine.NodeValue). HoldsLogged at book state (recovery records_so_far)) (same_Some logs.state holds.state (sym logs.there ∙ holds.there)) logs.all
 
   clear : is_among (recovery records_so_far).committed tid ≡ false
   clear = by (is_among (recovery records_so_far).committed tid) refl

@@ -1,46 +1,15 @@
 -- A whole step leaves what the log of its node says of contents and changes as the machine has it, with the records that wait for the next force and on the disk.
-use Rattle.std.proofs.Common.{◌≡◌, ℕ, ◌++◌, Bool, true, false, List, [], ◌∷◌, length, Some, refl, sym, ap, subst, ◌∙◌, fold, nat_lt, if◌then◌else◌}
-use Rattle.std.proofs.lemmas.List.{append-nil}
+use Rattle.qs_world_lawful.proofs.Words.{◌≡◌, ℕ, ◌++◌, Bool, true, false, List, [], ◌∷◌, length, Some, refl, sym, ap, subst, ◌∙◌, fold, nat_lt, if◌then◌else◌, append-nil, Tid, Entry, Inv, IsCoherent, BookValue, IsLawful, book_after, opening, Opened, Record, Recovery, recovery, due_tids, forget_rule, pass_rule, ready_rule, refuse_rule, settle, settle_tid, try, Work, here, work_on, after_step, answer_waiting, effects_of, happen, step_work, Effects, Event, Setting, Participant, entries_of, Host}
+use Rattle.qs_world_lawful.proofs.Words.{AgreementGives, HasCountRoom, book_at, AtEach, done_work, first_work, IsNumbered, HoldsHost, IsTrueEvent, Every, HoldsSaid, HoldsMade, SaidAfter, KeepsStanding, Stands, StepOn, StepStands, eqb-true}
 use Rattle.qs_base.specs.declared.identifiers.Outcome.TheVariants as outcomes
-use Rattle.qs_base.specs.declared.identifiers.Tid.{Tid}
-use Rattle.qs_book_journal.specs.declared.entry.Entry.{Entry}
-use Rattle.qs_book_laws.proofs.Outcomes.{Inv}
-use Rattle.qs_book_laws.specs.Laws.{IsCoherent}
-use Rattle.qs_book_machine.specs.Book.{BookValue}
-use Rattle.qs_book_machine.specs.Lawful.{IsLawful, book_after}
 use Rattle.qs_book_machine.specs.Nodes as machine
-use Rattle.qs_book_machine.specs.Opening.{opening}
-use Rattle.qs_book_machine.specs.declared.opened.Opened.{Opened}
 use Rattle.qs_packet.specs.declared.message.Message.TheVariants as messages
-use Rattle.qs_record.specs.declared.record.Record.{Record}
-use Rattle.qs_restart.specs.Recovery.{Recovery, recovery}
-use Rattle.qs_node_step.specs.Settling.{due_tids, forget_rule, pass_rule, ready_rule, refuse_rule, settle, settle_tid, try}
-use Rattle.qs_node_step.specs.State.{NodeValue, Work, here, work_on}
-use Rattle.qs_node_step.specs.Step.{after_step, answer_waiting, effects_of, happen, step_work}
-use Rattle.qs_node_step.specs.declared.event.Effects.{Effects}
-use Rattle.qs_node_step.specs.declared.event.Event.{Event}
+use Rattle.qs_node_step.specs.State.{NodeValue}
 use Rattle.qs_node_step.specs.declared.event.Event.TheVariants as events
-use Rattle.qs_node_step.specs.declared.setting.Setting.{Setting}
 use Rattle.qs_tm.specs.Manager as tm
-use Rattle.qs_tm.specs.declared.participant.Participant.{Participant}
 use Rattle.qs_world.specs.Moves.{log_after, waiting_after}
-use Rattle.qs_world.specs.Posting.{entries_of}
-use Rattle.qs_world.specs.World.{Host}
-use Rattle.qs_world_lawful.specs.Agreed.{AgreementGives}
-use Rattle.qs_world_lawful.specs.BesideStep.{HasCountRoom}
-use Rattle.qs_world_lawful.specs.Entering.{book_at}
-use Rattle.qs_world_lawful.specs.Given.{AtEach}
-use Rattle.qs_world_lawful.specs.GivenStep.{done_work, first_work}
-use Rattle.qs_world_lawful.specs.LastingLaws.{IsNumbered}
-use Rattle.qs_world_lawful.specs.Logged.{HoldsHost, IsTrueEvent}
-use Rattle.qs_world_lawful.specs.Logs.{Every}
-use Rattle.qs_world_lawful.specs.Said.{HoldsSaid}
-use Rattle.qs_world_lawful.specs.Saying.{HoldsMade, SaidAfter}
 use Rattle.qs_world_lawful.specs.SayingSteps.{SaysBetween, TellsSo}
-use Rattle.qs_world_lawful.specs.Standing.{KeepsStanding, Stands}
 use Rattle.qs_world_lawful.specs.StepKeeps.{KeptThen}
-use Rattle.qs_world_lawful.specs.StepOn.{StepOn}
-use Rattle.qs_world_lawful.specs.StepStands.{StepStands}
 use Rattle.qs_world_lawful.proofs.BesideWhole.{held_after, keeps_beside, step_beside}
 use Rattle.qs_world_lawful.proofs.GivenSettling.{may_pass}
 use Rattle.qs_world_lawful.proofs.GivenStages.{s_passed, s_settled}
@@ -59,7 +28,7 @@ use Rattle.qs_world_lawful.proofs.SaidSteps.{Says, SaysAmid, says_ends, says_qui
 use Rattle.qs_world_lawful.proofs.SaidTold.{says_told}
 use Rattle.qs_world_lawful.proofs.StandsOn.{keeps_standing, step_stands}
 use Rattle.qs_world_lawful.proofs.StepKept.{step_kept}
-use Rattle.qs_world_lawful.proofs.Truths.{number_is, of_some}
+use Rattle.qs_world_lawful.proofs.Truths.{of_some}
 
 made_of : (n : ℕ) (book : BookValue) (state : machine.NodeValue) (log : Recovery) → HoldsSaid n book state log → HoldsMade n book state log
 made_of n book state log h = record { files = h.files; audit = h.audit; recorded = h.recorded; apart = h.apart; gone = h.gone }
@@ -139,7 +108,7 @@ module _ (opened : List Opened) (history : List Entry) (coherent : IsCoherent op
       (says_ends stamp before i host.log host.waiting three (settle_tid work tid) (keeps_where stamp before i host.log host.waiting tid (forget_rule tid) three (λ part known none. by_forgotten stamp before i host.log host.waiting tid part three known)) (ends_where tid (forget_rule tid) three (λ part. ends_forgets tid part three)))))
     where
       at_home : (w : Work) → Stands stamp before size nodes n w → (part : Participant) → tm.part_of tid w.node.manager ≡ Some part → part.engage.home ≡ true → nat_lt tid.home.0 (length opened) ≡ true
-      at_home w k part known home = ap (λ (m : ℕ). nat_lt m (length opened)) (number_is tid.home.0 w.node.setting.node.0 (sym (k.by.facts.parts tid part known).homed ∙ home)) ∙ in_run_at w k
+      at_home w k part known home = ap (λ (m : ℕ). nat_lt m (length opened)) (eqb-true tid.home.0 w.node.setting.node.0 (sym (k.by.facts.parts tid part known).homed ∙ home)) ∙ in_run_at w k
 
   says_settles : (tids : List Tid) (work : Work) → Stands stamp before size nodes n work → AtEach (λ (work : Work) (tid : Tid). AgreementGives stamp before size nodes n work tid × HasCountRoom work tid) settle_tid work tids → Goes work (fold settle_tid work tids)
   says_settles [] work k given = says_self stamp before i host.log host.waiting work

@@ -1,48 +1,23 @@
 -- No rule of a node touches its setting: messages, requests, serving, decisions, what is told, asked and learnt, and restarts.
-use Rattle.std.proofs.Common.{◌≡◌, ℕ, Bool, true, false, List, [], ◌∷◌, ◌++◌, Option, Some, None, refl, ap, ◌∙◌, fold}
-use Rattle.std.specs.Prelude.{not, ◌&&◌, is_none, if◌then◌else◌}
-use Rattle.std.specs.Map.{lookup, remove_entry}
-use Rattle.std.specs.BTreeMap.{is_at}
-use Rattle.qs_base.specs.declared.identifiers.ClientNo.{ClientNo}
-use Rattle.qs_base.specs.declared.identifiers.Member.{Member}
-use Rattle.qs_base.specs.declared.identifiers.NodeNo.{NodeNo}
-use Rattle.qs_base.specs.declared.identifiers.Outcome.{Outcome}
+use Rattle.qs_world_lawful.proofs.Words.{◌≡◌, ℕ, Bool, true, false, List, [], ◌∷◌, ◌++◌, Option, Some, None, refl, ap, ◌∙◌, fold, not, ◌&&◌, is_none, if◌then◌else◌, lookup, remove_entry, is_at, ClientNo, Member, NodeNo, Outcome, ServerNo, Tid, is_node, uncovered, listed, same_node, Engaged, Delivery, answer_of, Answer, Cause, Op, Reply, after_serving, Message, Record, client_of, is_client, ask_came, asked_by, become_asked, block, closer_came, pass_unknown, refusal_came, where_undecided, enter}
+use Rattle.qs_world_lawful.proofs.Words.{log_if, member_here, send, send_each, decide_commit, due_endings, end_member, end_members, give_notices, keep_outcome, learn_member, learn_members, learners_at, answer_issuer, ask_on, enqueue, enter_issue, is_asked, issue_as, issue_away, issue_here, label_of, next_number, reply_came, take_reply, waits_as, with_local, cover_from, engage, enter_serve, give_reply, is_dropped, label_at, learn_label, lent_to, make_loan, may_serve, met, put_label, reply_here}
+use Rattle.qs_world_lawful.proofs.Words.{request_came, serve_all, serve_next, serve_or_drop, take_in, Work, change_server, client_cmp, here, with_manager, with_queues, Setting, OpenCommand, is_undecided, Decision, Outstanding, Participant}
 use Rattle.qs_base.specs.declared.identifiers.Outcome.TheVariants as outcomes
-use Rattle.qs_base.specs.declared.identifiers.ServerNo.{ServerNo}
-use Rattle.qs_base.specs.declared.identifiers.Tid.{Tid}
-use Rattle.qs_engage.specs.Engage.{is_node, uncovered}
-use Rattle.qs_engage.specs.Nodes.{listed, same_node}
-use Rattle.qs_engage.specs.declared.engage.Engaged.{Engaged}
 use Rattle.qs_engage.specs.declared.engage.Engaged.TheVariants as engagements
 use Rattle.qs_ipc.specs.Ipc as ipc
 use Rattle.qs_ipc.specs.Queue.{is_for}
-use Rattle.qs_ipc.specs.declared.delivery.Delivery.{Delivery}
 use Rattle.qs_book_journal.specs.declared.entry.Act.TheVariants as acts
-use Rattle.qs_ops.specs.Operations.{answer_of}
-use Rattle.qs_ops.specs.declared.answer.Answer.{Answer}
-use Rattle.qs_ops.specs.declared.answer.Cause.{Cause}
 use Rattle.qs_ops.specs.declared.answer.Cause.TheVariants as causes
-use Rattle.qs_ops.specs.declared.operation.Op.{Op}
-use Rattle.qs_ops.specs.declared.reply.Reply.{Reply}
-use Rattle.qs_ops.specs.Server.{after_serving}
-use Rattle.qs_packet.specs.declared.message.Message.{Message}
 use Rattle.qs_packet.specs.declared.message.Message.TheVariants as messages
-use Rattle.qs_record.specs.declared.record.Record.{Record}
-use Rattle.qs_node_servers.specs.Servers.{client_of, is_client}
-use Rattle.qs_node_step.specs.Asking.{ask_came, asked_by, become_asked, block, closer_came, count, pass_unknown, refusal_came, where_undecided}
-use Rattle.qs_node_step.specs.Bringing.{answer, enter, log_if, member_here, send, send_each}
-use Rattle.qs_node_step.specs.Deciding.{decide, decide_commit, due_endings, end_member, end_members, give_notices, keep_outcome, learn_member, learn_members, learners_at}
+use Rattle.qs_node_step.specs.Asking.{count}
+use Rattle.qs_node_step.specs.Bringing.{answer}
+use Rattle.qs_node_step.specs.Deciding.{decide}
 use Rattle.qs_node_step.specs.Requests as requests
-use Rattle.qs_node_step.specs.Requests.{answer_issuer, ask_on, enqueue, enter_issue, is_asked, issue, issue_as, issue_away, issue_here, label_of, next_number, reply_came, take_reply, waits_as, with_local}
-use Rattle.qs_node_step.specs.Serving.{cover_from, engage, enter_serve, give_reply, is_dropped, label_at, learn_label, lent_to, make_loan, may_serve, met, put_label, reply_here, request_came, serve, serve_all, serve_next, serve_or_drop, take_in}
-use Rattle.qs_node_step.specs.State.{Work, change_server, client_cmp, here, part_of, with_manager, with_queues}
-use Rattle.qs_node_step.specs.declared.setting.Setting.{Setting}
-use Rattle.qs_node_step.specs.declared.state.OpenCommand.{OpenCommand}
+use Rattle.qs_node_step.specs.Requests.{issue}
+use Rattle.qs_node_step.specs.Serving.{serve}
+use Rattle.qs_node_step.specs.State.{part_of}
 use Rattle.qs_tm.specs.Manager as tm
-use Rattle.qs_tm.specs.Participant.{is_by_files, is_undecided}
-use Rattle.qs_tm.specs.declared.manager.Decision.{Decision}
-use Rattle.qs_tm.specs.declared.participant.Outstanding.{Outstanding}
-use Rattle.qs_tm.specs.declared.participant.Participant.{Participant}
+use Rattle.qs_tm.specs.Participant.{is_by_files}
 use Rattle.qs_world_lawful.proofs.Asking.{sent_each_node, sent_node}
 
 abbrev pub setting_of : Work → Setting

@@ -1,25 +1,14 @@
 -- No rule of a node touches its setting: what is told and inquired, and restarts.
-use Rattle.std.proofs.Common.{ℕ, Bool, true, false, List, Option, Some, None, refl, ◌∙◌, fold}
-use Rattle.std.specs.Prelude.{not, ◌&&◌, if◌then◌else◌}
-use Rattle.std.specs.List.{list_any}
-use Rattle.qs_base.specs.declared.identifiers.NodeNo.{NodeNo}
-use Rattle.qs_base.specs.declared.identifiers.Outcome.{Outcome}
+use Rattle.qs_world_lawful.proofs.Words.{ℕ, Bool, true, false, List, Option, Some, None, refl, ◌∙◌, fold, not, ◌&&◌, if◌then◌else◌, list_any, NodeNo, Outcome, Tid, listed, same_node, answer_known, answer_unknown, inquiry_at_home, inquiry_came, block, send, give_notices, begin_incarnation, find_gone, inquire, is_orphaned_by, known_tids, name_again, notice_decided, notice_part, notice_tid, resume_home, resume_part, resume_tid, tell_again, Work, here, with_manager, end_told, is_other_node}
+use Rattle.qs_world_lawful.proofs.Words.{keep_abort_told, learn_unknown, names_at, record_learnt, take_names, take_outcome, tell_came, told_at_home, told_came, told_known, told_unknown, is_told_again, named_by, is_owed_by, is_undecided, Participant}
 use Rattle.qs_base.specs.declared.identifiers.Outcome.TheVariants as outcomes
-use Rattle.qs_base.specs.declared.identifiers.Tid.{Tid}
-use Rattle.qs_engage.specs.Nodes.{listed, same_node}
 use Rattle.qs_ops.specs.declared.answer.Cause.TheVariants as causes
 use Rattle.qs_packet.specs.declared.message.Message.TheVariants as messages
-use Rattle.qs_node_step.specs.Answering.{answer_known, answer_unknown, inquiry_at_home, inquiry_came, was_committed}
-use Rattle.qs_node_step.specs.Asking.{block}
-use Rattle.qs_node_step.specs.Bringing.{send}
-use Rattle.qs_node_step.specs.Deciding.{give_notices}
-use Rattle.qs_node_step.specs.Restarts.{begin_incarnation, find_gone, inquire, is_orphaned_by, known_tids, name_again, notice_decided, notice_part, notice_tid, resume_home, resume_part, resume_tid, tell_again}
-use Rattle.qs_node_step.specs.State.{Work, here, part_of, with_manager, with_node}
-use Rattle.qs_node_step.specs.Telling.{end_told, is_other_node, keep_abort_told, learn, learn_unknown, names_at, record_learnt, take_names, take_outcome, tell_came, told_at_home, told_came, told_known, told_unknown}
+use Rattle.qs_node_step.specs.Answering.{was_committed}
+use Rattle.qs_node_step.specs.State.{part_of, with_node}
+use Rattle.qs_node_step.specs.Telling.{learn}
 use Rattle.qs_tm.specs.Manager as tm
-use Rattle.qs_tm.specs.Outcomes.{is_abort, is_told_again, named_by}
-use Rattle.qs_tm.specs.Participant.{is_owed_by, is_undecided}
-use Rattle.qs_tm.specs.declared.participant.Participant.{Participant}
+use Rattle.qs_tm.specs.Outcomes.{is_abort}
 use Rattle.qs_world_lawful.proofs.SameSetting.{IsSame, elim_same, fold_same, if_same, log_if_same, noticed_same, send_each_same, send_same}
 
 -- ---- an outcome is told, and taken in

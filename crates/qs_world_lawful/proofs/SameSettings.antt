@@ -1,58 +1,25 @@
 -- No rule of a node touches its setting, and so no step does: commands, the vote pass, settling, and the whole.
-use Rattle.std.proofs.Common.{◌≡◌, ℕ, true, List, [], ◌∷◌, Option, Some, None, refl, ◌∙◌}
-use Rattle.std.specs.Prelude.{if◌then◌else◌}
-use Rattle.std.specs.Map.{lookup}
-use Rattle.std.specs.BTreeMap.{is_at}
-use Rattle.qs_base.specs.declared.identifiers.ClientNo.{ClientNo}
-use Rattle.qs_base.specs.declared.identifiers.Member.{Member}
-use Rattle.qs_base.specs.declared.identifiers.NodeNo.{NodeNo}
+use Rattle.qs_world_lawful.proofs.Words.{◌≡◌, ℕ, true, List, [], ◌∷◌, Option, Some, None, refl, ◌∙◌, if◌then◌else◌, lookup, is_at, ClientNo, Member, NodeNo, ServerNo, Tid, release_of, listed, Command, ScriptLine, first_untaken, last_taken, take_first, vote_of, Cause, Op, Note, Vote, Message, client_server, server_at, kept_outcome, become_asked, borrower_command, is_aborted, is_void, lent_command, loan_command, take, take_command, with_loan, enter, ask, begin_command, begin_or_refuse}
+use Rattle.qs_world_lawful.proofs.Words.{decided_answer, enter_ask, open_command, owner_command, request_as, request_command, with_issued, decide_commit, end_members, next_number, begin_incarnation, notice_tid, label_at, put_label, answer_superior, due_tids, forget_rule, is_pass_due, is_quiet, may_answer, pass_rule, ready, ready_rule, refusal_goes_to, refuse_elsewhere, refuse_home, refuse_rule, say_yes, send_refusal, settle, settle_tid, try, Work, client_cmp, doings_of, here, with_doings}
+use Rattle.qs_world_lawful.proofs.Words.{with_kept, with_manager, with_queues, work_on, abort_old, age_rule, borrower_waits, command_came, happen, is_owner, labelled, message_came, obey, owner_waits, step_work, wait_command, wait_on, waiting_clients, waits_at, with_command, forget, change_count, due_votes, enter_vote, issue_note, log_vote, owes_note, vote_frame, vote_next, vote_pass, vote_with, Event, Issued, told_with_own, is_forgotten, BeginFault, Participant, tick_work}
 use Rattle.qs_base.specs.declared.identifiers.Outcome.TheVariants as outcomes
-use Rattle.qs_base.specs.declared.identifiers.ServerNo.{ServerNo}
-use Rattle.qs_base.specs.declared.identifiers.Tid.{Tid}
-use Rattle.qs_engage.specs.Engage.{release_of}
-use Rattle.qs_engage.specs.Nodes.{listed}
 use Rattle.qs_ipc.specs.Ipc as ipc
 use Rattle.qs_book_journal.specs.declared.entry.Act.TheVariants as acts
-use Rattle.qs_book_journal.specs.declared.script_line.Command.{Command}
 use Rattle.qs_book_journal.specs.declared.script_line.Command.TheVariants as commands
-use Rattle.qs_book_journal.specs.declared.script_line.ScriptLine.{ScriptLine}
-use Rattle.qs_node_kept.specs.Loans.{first_untaken, give_back, last_taken, take_first}
-use Rattle.qs_ops.specs.Server.{vote_of}
+use Rattle.qs_node_kept.specs.Loans.{give_back}
 use Rattle.qs_ops.specs.declared.answer.Answer.TheVariants as answers
-use Rattle.qs_ops.specs.declared.answer.Cause.{Cause}
 use Rattle.qs_ops.specs.declared.answer.Cause.TheVariants as causes
-use Rattle.qs_ops.specs.declared.operation.Op.{Op}
-use Rattle.qs_ops.specs.declared.operation.Op.TheVariants.{Note}
-use Rattle.qs_ops.specs.declared.vote.Vote.{Vote}
 use Rattle.qs_ops.specs.declared.vote.Vote.TheVariants as votes
-use Rattle.qs_packet.specs.declared.message.Message.{Message}
 use Rattle.qs_packet.specs.declared.message.Message.TheVariants as messages
-use Rattle.qs_node_servers.specs.Servers.{audit_no, client_server, server_at}
-use Rattle.qs_node_step.specs.Answering.{kept_outcome}
-use Rattle.qs_node_step.specs.Asking.{become_asked}
-use Rattle.qs_node_step.specs.Borrowing.{borrower_command, is_aborted, is_void, lent_command, loan_command, take, take_command, with_loan}
-use Rattle.qs_node_step.specs.Bringing.{answer, enter}
-use Rattle.qs_node_step.specs.Commands.{ask, begin_command, begin_or_refuse, decided_answer, enter_ask, open_command, owner_command, request_as, request_command, with_issued}
-use Rattle.qs_node_step.specs.Deciding.{decide, decide_commit, end_members}
-use Rattle.qs_node_step.specs.Requests.{next_number}
-use Rattle.qs_node_step.specs.Restarts.{begin_incarnation, notice_tid}
-use Rattle.qs_node_step.specs.Serving.{label_at, put_label}
-use Rattle.qs_node_step.specs.Settling.{answer_superior, due_tids, forget_rule, is_pass_due, is_quiet, may_answer, pass_rule, ready, ready_rule, refusal_goes_to, refuse_elsewhere, refuse_home, refuse_rule, say_yes, send_refusal, settle, settle_tid, try}
-use Rattle.qs_node_step.specs.State.{NodeValue, Work, client_cmp, doings_of, here, with_doings, with_kept, with_manager, with_queues, work_on}
-use Rattle.qs_node_step.specs.Step.{abort_old, age_rule, borrower_waits, command_came, happen, is_owner, labelled, message_came, obey, owner_waits, step_work, wait_command, wait_on, waiting_clients, waits_at, with_command}
-use Rattle.qs_node_step.specs.Telling.{forget}
-use Rattle.qs_node_step.specs.Voting.{change_count, due_votes, enter_vote, issue_note, log_vote, note_text, owes_note, vote_frame, vote_next, vote_pass, vote_with}
-use Rattle.qs_node_step.specs.declared.event.Event.{Event}
+use Rattle.qs_node_servers.specs.Servers.{audit_no}
+use Rattle.qs_node_step.specs.Bringing.{answer}
+use Rattle.qs_node_step.specs.Deciding.{decide}
+use Rattle.qs_node_step.specs.State.{NodeValue}
+use Rattle.qs_node_step.specs.Voting.{note_text}
 use Rattle.qs_node_step.specs.declared.event.Event.TheVariants as events
-use Rattle.qs_node_step.specs.declared.state.Issued.{Issued}
 use Rattle.qs_tm.specs.Manager as tm
 use Rattle.qs_tm.specs.Members as rules
-use Rattle.qs_tm.specs.Outcomes.{told_with_own}
-use Rattle.qs_tm.specs.Participant.{is_forgotten}
-use Rattle.qs_tm.specs.declared.manager.BeginFault.{BeginFault}
 use Rattle.qs_tm.specs.declared.manager.BeginFault.TheVariants as faults
-use Rattle.qs_tm.specs.declared.participant.Participant.{Participant}
-use Rattle.qs_world_lawful.specs.GivenStep.{tick_work}
 use Rattle.qs_world_lawful.proofs.SameSetting.{IsSame, answer_same, ask_came_same, become_asked_same, closer_same, commit_same, decided_same, elim_same, ended_same, fold_same, if_same, issue_as_same, issue_same, refusal_same, reply_same, request_same, send_same, serve_all_same, undecided_same}
 use Rattle.qs_world_lawful.proofs.SameSettingTold.{begin_same, inquiry_same, notice_same, tell_same, told_same}
 

@@ -1,27 +1,8 @@
 -- What waits of a transaction stands whatever else of it is changed, here or in the machine.
-use Rattle.std.proofs.Common.{◌≡◌, ℕ, ◌≤◌, true, false, List, Option, Some, None, refl, sym, ap, subst, ◌∙◌, length, map}
-use Rattle.std.specs.Prelude.{is_some, not}
-use Rattle.std.specs.Option.{option_map}
-use Rattle.std.specs.List.{filter}
-use Rattle.std.specs.Map.{lookup}
-use Rattle.std.specs.BTreeMap.{is_at}
-use Rattle.qs_base.specs.Order.{member_cmp}
-use Rattle.qs_base.specs.declared.identifiers.Member.{Member}
-use Rattle.qs_base.specs.declared.identifiers.NodeNo.{NodeNo}
-use Rattle.qs_base.specs.declared.identifiers.ServerNo.{ServerNo}
-use Rattle.qs_base.specs.declared.identifiers.Tid.{Tid}
-use Rattle.qs_ipc.specs.declared.delivery.Delivery.{Delivery}
-use Rattle.qs_book_machine.specs.Book.{BookValue, find_transaction}
-use Rattle.qs_book_machine.specs.Transaction.{TransactionValue, is_commit, is_empty, is_standing, part_of, requests_in}
-use Rattle.qs_book_machine.specs.declared.transaction.Cell.{Cell}
-use Rattle.qs_book_machine.specs.declared.transaction.Request.{Request}
-use Rattle.qs_book_machine.specs.declared.transaction.RequestNo.{RequestNo}
-use Rattle.qs_ops.specs.Table.{share_of}
-use Rattle.qs_node_servers.specs.Servers.{ServersValue}
+use Rattle.qs_world_lawful.proofs.Words.{◌≡◌, ℕ, ◌≤◌, true, false, List, Option, Some, None, refl, sym, ap, subst, ◌∙◌, length, map, is_some, not, option_map, filter, lookup, is_at, member_cmp, Member, NodeNo, ServerNo, Tid, Delivery, BookValue, find_transaction, TransactionValue, is_commit, is_empty, is_standing, requests_in, Cell, Request, RequestNo, share_of, ServersValue, at_server, is_seen, seen_in, AreFor, HoldsWaits, HoldsWaitsAt, IsWithin, op_in, waiting_ops, standing_ops, is_idle}
+use Rattle.qs_world_lawful.proofs.Words.{some_same}
+use Rattle.qs_book_machine.specs.Transaction.{part_of}
 use Rattle.qs_tm.specs.Members as rules
-use Rattle.qs_world_lawful.specs.Face.{at_server}
-use Rattle.qs_world_lawful.specs.Tables.{is_seen, seen_in}
-use Rattle.qs_world_lawful.specs.Waits.{AreFor, HoldsWaits, HoldsWaitsAt, IsWithin, op_in, waiting_ops, standing_ops, is_idle}
 
 -- what else is changed of a transaction, of what waits and of what servers hold
 pub waits_on : (here : NodeNo) (inc : ℕ) (tid : Tid) (tx now : TransactionValue) (waiting : ServerNo → List Delivery) (servers after : ServersValue) → now.crossed ≡ tx.crossed → now.cell ≡ tx.cell → now.requests ≡ tx.requests
@@ -61,7 +42,4 @@ seen_alike book new here same n t = by (find_transaction new t) (find_transactio
     by None None e = refl
     by None (Some y) e = absurd (cc e)
     by (Some x) None e = absurd (cc e)
-    by (Some x) (Some y) e = ap (λ (xs : List (Member × ℕ)). not (is_some (lookup (is_at (member_cmp (record { node = here; server = record { 0 = n } }))) xs))) (of_some e)
-      where
-        of_some : {X : Type 0} {x y : X} → Some x ≡ Some y → x ≡ y
-        of_some e = cc e
+    by (Some x) (Some y) e = ap (λ (xs : List (Member × ℕ)). not (is_some (lookup (is_at (member_cmp (record { node = here; server = record { 0 = n } }))) xs))) (some_same e)

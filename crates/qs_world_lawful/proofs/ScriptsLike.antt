@@ -1,24 +1,12 @@
 -- The machine has the scripts of all clients after a crash, a restart and a first meeting: lines and labels are left, and a node that restarts
 -- has nothing in hand.
-use Rattle.std.proofs.Common.{◌≡◌, ℕ, ◌==◌, zero, suc, Bool, true, false, List, [], ◌∷◌, Some, refl, sym, ap, subst, ◌∙◌, nat_lt, if◌then◌else◌}
-use Rattle.std.specs.Prelude.{slice_get}
-use Rattle.std.specs.Map.{lookup}
-use Rattle.std.specs.BTreeMap.{is_at}
-use Rattle.qs_book_journal.specs.declared.script_line.ScriptLine.{ScriptLine}
-use Rattle.qs_book_machine.specs.Book.{BookValue}
-use Rattle.qs_book_machine.specs.Clauses.{is_fresh}
-use Rattle.qs_book_machine.specs.Lawful.{book_after}
-use Rattle.qs_book_machine.specs.declared.state.Owner.{Owner}
-use Rattle.qs_node_step.specs.State.{client_cmp}
-use Rattle.qs_node_step.specs.declared.state.OpenCommand.{OpenCommand}
-use Rattle.qs_world.specs.Moves.{Meet, client_count, moved, stopped, stopped_host}
-use Rattle.qs_world.specs.Openings.{all_below, are_apart, are_rising, labels_begun}
-use Rattle.qs_world.specs.World.{Client, Opening, World}
-use Rattle.qs_world_lawful.specs.Logs.{Every}
-use Rattle.qs_world_lawful.specs.Scripts.{AreBehind, HoldsClient, HoldsScripts, IsFresh, IsInHand, IsRest}
+use Rattle.qs_world_lawful.proofs.Words.{◌≡◌, ℕ, ◌==◌, zero, suc, Bool, true, false, List, [], ◌∷◌, Some, refl, sym, ap, subst, ◌∙◌, nat_lt, if◌then◌else◌, slice_get, lookup, is_at, ScriptLine, BookValue, is_fresh, book_after, Owner, client_cmp, OpenCommand, Meet, moved, stopped, stopped_host, are_rising, labels_begun, Opening, World, Every, AreBehind, HoldsClient, IsFresh, eqb-true}
+use Rattle.qs_world.specs.Moves.{client_count}
+use Rattle.qs_world.specs.Openings.{all_below, are_apart}
+use Rattle.qs_world.specs.World.{Client}
+use Rattle.qs_world_lawful.specs.Scripts.{HoldsScripts, IsInHand, IsRest}
 use Rattle.qs_world_lawful.specs.WayLaws.{EachCrashKeepsScripts, EachMeetKeepsScripts, crash_entry}
 use Rattle.qs_world_lawful.proofs.LogFrames.{every_on}
-use Rattle.qs_world_lawful.proofs.Truths.{number_is}
 
 all_same : {A : Type 0} (n : ℕ) (f g : ℕ → List A) → ((k : ℕ) → f k ≡ g k) → all_below n f ≡ all_below n g
 all_same zero f g same = refl
@@ -91,5 +79,5 @@ meet_scripts o book world n stamp m inc h = scripts_like o book book world (move
     hand k before j within up command is = before j within up command (by (j == n) refl is)
       where
         by : (b : Bool) → (j == n) ≡ b → lookup (is_at (client_cmp (record { 0 = k }))) (if b then record (world.hosts n) { stamp = stamp } else world.hosts j).node.commands ≡ Some command → lookup (is_at (client_cmp (record { 0 = k }))) (world.hosts j).node.commands ≡ Some command
-        by true near there = subst (λ (i : ℕ). lookup (is_at (client_cmp (record { 0 = k }))) (world.hosts i).node.commands ≡ Some command) (sym (number_is j n near)) there
+        by true near there = subst (λ (i : ℕ). lookup (is_at (client_cmp (record { 0 = k }))) (world.hosts i).node.commands ≡ Some command) (sym (eqb-true j n near)) there
         by false far there = there

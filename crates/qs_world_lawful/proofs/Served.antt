@@ -1,32 +1,14 @@
 -- A serve of a member leaves the machine and its node with the same of it.
-use Rattle.std.proofs.Common.{◌≡◌, ℕ, ◌+◌, ◌==◌, ◌≤◌, Bool, true, false, List, [], ◌∷◌, Option, Some, None, Equal, refl, sym, ap, ◌∙◌, arith, nat_lt}
-use Rattle.std.proofs.lemmas.Bool.Decides.{nat_tests}
-use Rattle.std.specs.Prelude.{not, ◌&&◌, unwrap_or}
-use Rattle.std.specs.List.{list_any}
-use Rattle.std.proofs.lemmas.Cmp.{tied_itself, nat_cmp_total}
-use Rattle.qs_base.specs.declared.identifiers.Class.{Class}
+use Rattle.qs_world_lawful.proofs.Words.{◌≡◌, ℕ, ◌+◌, ◌==◌, ◌≤◌, Bool, true, false, List, [], ◌∷◌, Option, Some, None, Equal, refl, sym, ap, ◌∙◌, arith, nat_lt, nat_tests, not, unwrap_or, list_any, tied_itself, nat_cmp_total, Class, Member, class_of, is_two_phase, learns_outcome, TransactionValue, no_part, life, life_cmp, is_covering, is_start, may_learn_still, serving_part, served_in, Life, Part, RequestNo, Start, MemberPart, HoldsVoter, HoldsMember, covers_at_most, lookup_put, and_false}
 use Rattle.qs_base.specs.declared.identifiers.Class.TheVariants as classes
-use Rattle.qs_base.specs.declared.identifiers.Member.{Member}
-use Rattle.qs_ops.specs.Members.{class_of, is_two_phase, learns_outcome}
-use Rattle.qs_book_machine.specs.Transaction.{TransactionValue, part_of, no_part, life, life_cmp, is_covering, is_start, may_learn_still, served_part, serving_part, served_in}
-use Rattle.qs_book_machine.specs.declared.transaction.Life.{Life}
-use Rattle.qs_book_machine.specs.declared.transaction.Part.{Part}
-use Rattle.qs_book_machine.specs.declared.transaction.RequestNo.{RequestNo}
-use Rattle.qs_book_machine.specs.declared.transaction.Start.{Start}
+use Rattle.qs_book_machine.specs.Transaction.{part_of, served_part}
 use Rattle.qs_tm.specs.declared.members.Cast.{Cast}
-use Rattle.qs_tm.specs.declared.members.MemberPart.{MemberPart}
 use Rattle.qs_tm.specs.Members as rules
-use Rattle.qs_world_lawful.specs.Holds.{HoldsVoter, HoldsMember, covers_at_most}
-use Rattle.qs_book_laws.proofs.Maps.{lookup_put}
 
 pub life_itself : (l : Life) → life_cmp l l ≡ Equal
 life_itself l = rw (tied_itself nat_cmp_total l.member.node.0, tied_itself nat_cmp_total l.member.server.0, tied_itself nat_cmp_total l.inc) refl
 
 -- ---- a serve
-
-pub and_false : (b : Bool) → (b && false) ≡ false
-and_false true = refl
-and_false false = refl
 
 abbrev pub one_more : MemberPart → MemberPart
 one_more m = record m { served = m.served + 1; fresh = true }

@@ -1,36 +1,16 @@
 -- How many changes files have pending after a serve is what the machine counts then.
-use Rattle.std.proofs.Common.{◌≡◌, ◌≢◌, ℕ, ◌+◌, ◌==◌, Bool, true, false, List, [], ◌∷◌, ◌++◌, Option, Some, None, suc, refl, sym, ap, subst, ◌∙◌, arith, length, nat_lt}
-use Rattle.std.proofs.lemmas.Bool.Decides.{nat_tests}
-use Rattle.std.specs.Prelude.{unwrap_or, nat_le, if◌then◌else◌}
-use Rattle.qs_base.specs.Order.{tid_cmp}
-use Rattle.qs_base.specs.declared.identifiers.NodeNo.{NodeNo}
-use Rattle.qs_base.specs.declared.identifiers.ServerNo.{ServerNo}
-use Rattle.qs_base.specs.declared.identifiers.Tid.{Tid}
+use Rattle.qs_world_lawful.proofs.Words.{◌≡◌, ◌≢◌, ℕ, ◌+◌, ◌==◌, Bool, true, false, List, [], ◌∷◌, ◌++◌, Option, Some, None, suc, refl, sym, ap, subst, ◌∙◌, arith, length, nat_lt, nat_tests, unwrap_or, nat_le, if◌then◌else◌, tid_cmp, NodeNo, ServerNo, Tid, tid_itself, lookup_put, IsRising, put_rises, tid_total, ServerValue, changes_in, after_serving, served_by, reply_of, TableValue, share_of, nothing_held, served, after_serve, reply_to, holder, Op, Put, Append, Del, Get, Listing, Note, Notes, Bind}
+use Rattle.qs_world_lawful.proofs.Words.{Find, Timer, Left, Window, Title, Keep, Fetch, Lend, Extra, Reply, Kind, Files, Share, TransactionValue, life, served_in, Part, RequestNo, ServersValue, with_server, is_client, at_server, HoldsFiles, false≢true, eqb-true, eqb-false, some_same}
 use Rattle.qs_ipc.specs.Queue.{is_for}
-use Rattle.qs_book_laws.proofs.Alikes.{tid_itself}
-use Rattle.qs_book_laws.proofs.Maps.{lookup_put}
-use Rattle.qs_book_laws.proofs.Rising.{IsRising, put_rises}
-use Rattle.qs_base.proofs.TidOrder.{tid_total}
 use Rattle.qs_ops.specs.Files.{text_reply}
-use Rattle.qs_ops.specs.Server.{ServerValue, changes_in, after_serving, served_by, reply_of, reply_in}
+use Rattle.qs_ops.specs.Server.{reply_in}
 use Rattle.qs_ops.specs.Servers as numbers
 use Rattle.qs_ops.specs.Spelled.{is_change}
-use Rattle.qs_ops.specs.Table.{TableValue, share_of, nothing_held, served, after_serve, reply_to, holder, text_at}
-use Rattle.qs_ops.specs.declared.operation.Op.{Op}
-use Rattle.qs_ops.specs.declared.operation.Op.TheVariants.{Put, Append, Del, Get, Listing, Note, Notes, Bind, Find, Timer, Left, Window, Title, Keep, Fetch, Lend, Extra}
-use Rattle.qs_ops.specs.declared.reply.Reply.{Reply}
+use Rattle.qs_ops.specs.Table.{text_at}
 use Rattle.qs_ops.specs.declared.reply.Reply.TheVariants as replies
-use Rattle.qs_ops.specs.declared.server.ServerKind.{ServerKind}
-use Rattle.qs_ops.specs.declared.server.ServerKind.TheVariants.{Files}
-use Rattle.qs_ops.specs.declared.share.Share.{Share}
 use Rattle.qs_book_machine.specs.Book.{is_done}
-use Rattle.qs_book_machine.specs.Transaction.{TransactionValue, part_of, life, served_in}
-use Rattle.qs_book_machine.specs.declared.transaction.Part.{Part}
-use Rattle.qs_book_machine.specs.declared.transaction.RequestNo.{RequestNo}
+use Rattle.qs_book_machine.specs.Transaction.{part_of}
 use Rattle.qs_tm.specs.Members as rules
-use Rattle.qs_node_servers.specs.Servers.{ServersValue, with_server, is_client}
-use Rattle.qs_world_lawful.specs.Face.{at_server}
-use Rattle.qs_world_lawful.specs.Filed.{HoldsFiles}
 use Rattle.qs_world_lawful.proofs.MemberTid.{lives_apart}
 use Rattle.qs_world_lawful.proofs.Parts.{put_part_apart}
 use Rattle.qs_world_lawful.proofs.Pending.{files_here, files_elsewhere, elsewhere_pending}
@@ -42,16 +22,10 @@ abbrev answer : ℕ → Option Tid → Reply → Reply
 answer operations other free = if nat_le 1024 operations then replies.TooMany else (elim other [ Some tid ↦ replies.Busy tid | None ↦ free ])
 
 not_done : (operations : ℕ) (other : Option Tid) (free : Reply) → is_done free ≡ false → Some (answer operations other free) ≡ Some replies.Done → ⊥
-not_done operations other free none e = by (nat_le 1024 operations) other (same e)
+not_done operations other free none e = by (nat_le 1024 operations) other (some_same e)
   where
-    same : {x y : Reply} → Some x ≡ Some y → x ≡ y
-    same e = cc e
-
     no : (r : Reply) → is_done r ≡ false → r ≡ replies.Done → ⊥
-    no r out is = clash (sym out ∙ ap is_done is)
-      where
-        clash : false ≡ true → ⊥
-        clash c = cc c
+    no r out is = false≢true (sym out ∙ ap is_done is)
 
     by : (b : Bool) (o : Option Tid) → (if b then replies.TooMany else (elim o [ Some tid ↦ replies.Busy tid | None ↦ free ])) ≡ replies.Done → ⊥
     by true o is = cc is
@@ -130,7 +104,7 @@ module _ (servers : ServersValue) (f : HoldsFiles servers) (server : ServerNo) (
   u value = after_serving value tid op reply
 
   files_served : after_serving servers.files tid op reply ≡ record servers.files { table = served servers.files.table tid op reply }
-  files_served = ap (λ (k : ServerKind). served_by k tid op reply servers.files) f.kind
+  files_served = ap (λ (k : Kind). served_by k tid op reply servers.files) f.kind
 
   -- files are files still
   pub serve_filed : HoldsFiles (with_server server u servers)
@@ -153,21 +127,15 @@ module _ (servers : ServersValue) (f : HoldsFiles servers) (server : ServerNo) (
         → (part_of after (at_server here rules.files_no) inc).pending ≡ length (changes_in (if is_client server then servers else with_server server u servers).files tid)
     serve_pending server_is replies_so = client (is_client server) server_is
       where
-        number_is : (a b : ℕ) → (a == b) ≡ true → a ≡ b
-        number_is a b e = grind (arith, nat_tests, e)
-
-        differ : (a b : ℕ) → (a == b) ≡ false → a ≢ b
-        differ a b e s = grind (arith, nat_tests, e, s)
-
         count_is : (d : Bool) (a b : ℕ) → a ≡ b → (if d then a + 1 else a) ≡ (if d then b + 1 else b)
         count_is d a b e = ap (λ (n : ℕ). if d then n + 1 else n) e
 
         changed : (is_for rules.files_no op ≡ true) × (reply_of servers.files tid op ≡ Some reply) → reply ≡ replies.Done → is_change op ≡ true
-        changed so is = done_change servers.files.table tid op so.0 (sym (ap (λ (k : ServerKind). reply_in servers.files k tid op) f.kind) ∙ (so.1 ∙ ap (λ (r : Reply). Some r) is))
+        changed so is = done_change servers.files.table tid op so.0 (sym (ap (λ (k : Kind). reply_in servers.files k tid op) f.kind) ∙ (so.1 ∙ ap (λ (r : Reply). Some r) is))
 
         by : (b : Bool) → (server.0 == numbers.files_no) ≡ b → (part_of after (at_server here rules.files_no) inc).pending ≡ length (changes_in (with_server server u servers).files tid)
         by true is =
-            let it : server ≡ rules.files_no = ap (λ (n : ℕ). record { 0 = n }) (number_is server.0 numbers.files_no is) in
+            let it : server ≡ rules.files_no = ap (λ (n : ℕ). record { 0 = n }) (eqb-true server.0 numbers.files_no is) in
             let here_is : (part_of after (at_server here rules.files_no) inc).pending ≡ (if is_done reply then (part_of tx (at_server here rules.files_no) inc).pending + 1 else (part_of tx (at_server here rules.files_no) inc).pending) =
             subst (λ (s : ServerNo). (part_of (served_in at (at_server here s) inc stamp (is_done reply) tx) (at_server here rules.files_no) inc).pending ≡ (if is_done reply then (part_of tx (at_server here rules.files_no) inc).pending + 1 else (part_of tx (at_server here rules.files_no) inc).pending)) (sym it)
             (ap (λ (p : Part). p.pending) (part_served at tx (at_server here rules.files_no) inc stamp (is_done reply))) in
@@ -176,7 +144,7 @@ module _ (servers : ServersValue) (f : HoldsFiles servers) (server : ServerNo) (
             ∙ (ap (λ (o : Option Share). length (unwrap_or o nothing_held).changes) (lookup_put tid_cmp tid (after_serve (share_of servers.files.table tid) op reply) (tid_itself tid) servers.files.table.shares)
             ∙ share_counts (share_of servers.files.table tid) op reply (changed (replies_so is)))))
         by false is =
-            ap (λ (p : Part). p.pending) (put_part_apart (life (at_server here server) inc) _ tx.parts (at_server here rules.files_no) inc (lives_apart here inc server rules.files_no (differ server.0 numbers.files_no is)))
+            ap (λ (p : Part). p.pending) (put_part_apart (life (at_server here server) inc) _ tx.parts (at_server here rules.files_no) inc (lives_apart here inc server rules.files_no (eqb-false server.0 numbers.files_no is)))
             ∙ (before ∙ sym (elsewhere_pending servers f server tid u is))
 
         client : (b : Bool) → b ≡ false → (part_of after (at_server here rules.files_no) inc).pending ≡ length (changes_in (if b then servers else with_server server u servers).files tid)

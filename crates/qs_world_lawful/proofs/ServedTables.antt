@@ -1,31 +1,15 @@
 -- What a served request, an ending and a tick do at the servers, they do alike at the machine's tables.
-use Rattle.std.proofs.Common.{◌≡◌, ℕ, ◌+◌, ◌==◌, Bool, true, false, List, ◌∷◌, refl, sym, ap, subst, ◌∙◌, arith, map}
-use Rattle.std.proofs.lemmas.Bool.Decides.{nat_tests}
-use Rattle.std.specs.Prelude.{◌&&◌, if◌then◌else◌}
-use Rattle.std.specs.List.{filter}
-use Rattle.qs_base.specs.declared.identifiers.ServerNo.{ServerNo}
-use Rattle.qs_base.specs.declared.identifiers.Tid.{Tid}
-use Rattle.qs_book_machine.specs.Book.{server_serve, crossed_serve, end_node, tick_node, is_done}
+use Rattle.qs_world_lawful.proofs.Words.{◌≡◌, ℕ, ◌+◌, ◌==◌, Bool, true, false, List, ◌∷◌, refl, sym, ap, subst, ◌∙◌, arith, map, nat_tests, ◌&&◌, if◌then◌else◌, filter, ServerNo, Tid, server_serve, crossed_serve, end_node, tick_node, with_table, with_doubts, with_names, bound_names, Request, ServerValue, after_serving, served_by, after_notice, noted_by, names_no, windows_no, scratch_no, is_client_no, TableValue, served, share_of, after_serve, TimersValue, timer_served, timers_ended, ticked, Op}
+use Rattle.qs_world_lawful.proofs.Words.{Reply, ServerKind, ServersValue, with_server, HoldsDoubts, HoldsTable, HoldsTimers, HoldsServers, IsWithin, op_in, eqb-true}
+use Rattle.qs_book_machine.specs.Book.{is_done}
 use Rattle.qs_book_machine.specs.Nodes as machine
-use Rattle.qs_book_machine.specs.Nodes.{with_table, with_doubts, with_names, bound_names}
-use Rattle.qs_book_machine.specs.declared.transaction.Request.{Request}
-use Rattle.qs_ops.specs.Server.{ServerValue, after_serving, served_by, after_notice, noted_by}
-use Rattle.qs_ops.specs.Servers.{files_no, audit_no, names_no, timers_no, windows_no, scratch_no, is_client_no}
-use Rattle.qs_ops.specs.Table.{TableValue, served, share_of, after_serve}
-use Rattle.qs_ops.specs.Timers.{TimersValue, timer_served, timers_ended, ticked}
-use Rattle.qs_ops.specs.declared.operation.Op.{Op}
-use Rattle.qs_ops.specs.declared.reply.Reply.{Reply}
-use Rattle.qs_ops.specs.declared.server.ServerKind.{ServerKind}
+use Rattle.qs_ops.specs.Servers.{files_no, audit_no, timers_no}
 use Rattle.qs_ops.specs.declared.server.ServerKind.TheVariants as kinds
 use Rattle.qs_ops.specs.declared.vote.Notice.TheVariants as notices
 use Rattle.qs_node_servers.specs.Servers as numbers
-use Rattle.qs_node_servers.specs.Servers.{ServersValue, with_server}
 use Rattle.qs_ipc.specs.Queue.{is_for}
-use Rattle.qs_world_lawful.specs.Doubts.{HoldsDoubts}
-use Rattle.qs_world_lawful.specs.Tables.{HoldsTable, HoldsTimers, HoldsServers}
-use Rattle.qs_world_lawful.specs.Waits.{IsWithin, op_in}
 use Rattle.qs_world_lawful.proofs.Doubting.{hidden_doubts, more_in_doubt, served_doubts}
-use Rattle.qs_world_lawful.proofs.Alike.{is_tabled, changed_servers, other_state, table_itself, same}
+use Rattle.qs_world_lawful.proofs.Alike.{is_tabled, changed_servers, other_state, table_itself}
 use Rattle.qs_world_lawful.proofs.Tables.{hide_table, serve_table, end_timers, serve_timers, hide_timers}
 
 -- ---- timers alone are changed
@@ -104,7 +88,7 @@ module _ (seen : ℕ → Tid → Bool) (state : machine.NodeValue) (servers : Se
       where
         by : (b : Bool) → (server.0 == timers_no) ≡ b → HoldsServers seen (if b then record state { timers = timer_served state.timers tid op reply } else with_table server.0 (λ table. served table tid op reply) state) (with_server server serving servers)
         by true is =
-            let at : server.0 ≡ timers_no = same server.0 timers_no is in
+            let at : server.0 ≡ timers_no = eqb-true server.0 timers_no is in
             at_timers (timer_served state.timers tid op reply) at (serve_timers (seen timers_no) state.timers servers.timers.timers h.timers tid (subst (λ (n : ℕ). seen n tid ≡ true) at mine) op reply)
         by false is = at_tables state h (λ table. served table tid op reply) is (λ a b t. serve_table (seen server.0) a b t tid mine op reply)
             (λ at. served_doubts (seen names_no) state.doubts servers.names.table h.doubts tid op reply (at_names fits at) (subst (λ (n : ℕ). seen n tid ≡ true) at mine))
@@ -135,7 +119,7 @@ module _ (seen : ℕ → Tid → Bool) (state : machine.NodeValue) (servers : Se
         by : (a : Bool) → (server.0 == timers_no) ≡ a → (b : Bool) → (server.0 == names_no) ≡ b → (c : Bool) → is_done reply ≡ c → HoldsServers seen (if b && c then with_doubts tid names state else state) (with_server server serving servers)
         by true is true at c done = absurd (apart_from server.0 timers_no names_no is at refl)
         by true is false far c done =
-            let at : server.0 ≡ timers_no = same server.0 timers_no is in
+            let at : server.0 ≡ timers_no = eqb-true server.0 timers_no is in
             at_timers state.timers at (hide_timers (seen timers_no) state.timers servers.timers.timers h.timers tid (subst (λ (n : ℕ). seen n tid ≡ false) at other) op reply)
         by false is true at c done = at_crossed (if c then with_doubts tid names state else state) (doubting c) is (of_names c done)
         by false is false far c done = at_crossed state h is (λ at. absurd (differ server.0 names_no far at))

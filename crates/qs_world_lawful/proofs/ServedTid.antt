@@ -1,33 +1,13 @@
 -- A serve of a member leaves what is held of its transaction at its node.
-use Rattle.std.proofs.Common.{◌≡◌, ◌≢◌, ◌⊎◌, inl, inr, ℕ, ◌+◌, ◌==◌, ◌≤◌, Bool, true, false, List, [], ◌∷◌, Option, Some, None, suc, refl, sym, ap, subst, ◌∙◌, arith, length}
-use Rattle.std.proofs.lemmas.Bool.Decides.{nat_tests}
-use Rattle.std.specs.Prelude.{unwrap_or, ◌&&◌, ◌||◌, if◌then◌else◌}
-use Rattle.std.specs.List.{filter}
-use Rattle.std.specs.Map.{lookup}
-use Rattle.std.specs.BTreeMap.{is_at}
-use Rattle.qs_base.specs.Order.{same_member}
-use Rattle.qs_base.specs.declared.identifiers.Class.{Class}
+use Rattle.qs_world_lawful.proofs.Words.{◌≡◌, ◌≢◌, ◌⊎◌, inl, inr, ℕ, ◌+◌, ◌==◌, ◌≤◌, Bool, true, false, List, [], ◌∷◌, Option, Some, None, suc, refl, sym, ap, subst, ◌∙◌, arith, length, unwrap_or, ◌||◌, if◌then◌else◌, filter, lookup, is_at, same_member, Class, Member, NodeNo, ServerNo, Tid, same_member-true, lookup_changed, changed_apart, changed_none, class_of, last_number, peer_of, TransactionValue, life, life_cmp, served_in, serving_part, request_cmp, requests_at, mark_served, is_standing}
+use Rattle.qs_world_lawful.proofs.Words.{has_note, Part, Request, RequestNo, member_of, with_member, has_noted, awaits_note, MemberPart, Participant, at_server, HoldsMember, HoldsHome, HoldsTid, false≢true, eqb-true, eqb-false, some_same, and_false, and_first}
 use Rattle.qs_base.specs.declared.identifiers.Class.TheVariants as classes
-use Rattle.qs_base.specs.declared.identifiers.Member.{Member}
-use Rattle.qs_base.specs.declared.identifiers.NodeNo.{NodeNo}
-use Rattle.qs_base.specs.declared.identifiers.ServerNo.{ServerNo}
-use Rattle.qs_base.specs.declared.identifiers.Tid.{Tid}
-use Rattle.qs_base.proofs.Same.{same_member-true}
-use Rattle.qs_book_laws.proofs.Maps.{lookup_changed, changed_apart, changed_none}
-use Rattle.qs_ops.specs.Members.{class_of}
-use Rattle.qs_engage.specs.Engage.{last_number, peer_of}
-use Rattle.qs_book_machine.specs.Transaction.{TransactionValue, part_of, life, life_cmp, served_in, serving_part, request_cmp, requests_at, mark_served, is_standing, borrower, has_note}
+use Rattle.qs_book_machine.specs.Transaction.{part_of, borrower}
 use Rattle.qs_book_machine.specs.Clauses.{note_text}
-use Rattle.qs_book_machine.specs.declared.transaction.Part.{Part}
-use Rattle.qs_book_machine.specs.declared.transaction.Request.{Request}
-use Rattle.qs_book_machine.specs.declared.transaction.RequestNo.{RequestNo}
 use Rattle.qs_tm.specs.Members as rules
 use Rattle.qs_tm.specs.Participant as participant
-use Rattle.qs_tm.specs.Participant.{member_of, with_member, has_noted, awaits_note}
-use Rattle.qs_tm.specs.declared.members.MemberPart.{MemberPart}
-use Rattle.qs_tm.specs.declared.participant.Participant.{Participant}
-use Rattle.qs_world_lawful.specs.Face.{Face, at_server, is_numbered}
-use Rattle.qs_world_lawful.specs.Holds.{HoldsMember, HoldsHome, HoldsTid, is_kept}
+use Rattle.qs_world_lawful.specs.Face.{Face, is_numbered}
+use Rattle.qs_world_lawful.specs.Holds.{is_kept}
 use Rattle.qs_world_lawful.proofs.Keys.{KeyApart, same_key_or, request_exact, request_itself, life_itself}
 use Rattle.qs_world_lawful.proofs.Parts.{LivesApart, member_like, put_part_apart, same_life_or, aborts_alike, with_own, with_other, set_size}
 use Rattle.qs_world_lawful.proofs.Served.{one_more, part_served, served_member}
@@ -60,13 +40,9 @@ mark_less member [] some = absurd (none some)
     none e = grind (arith, e)
 mark_less member (r ∷ rs) some = by (is_standing member r) refl (mark_less member rs)
   where
-    served_no : (b : Bool) → (b && false) ≡ false
-    served_no true = refl
-    served_no false = refl
-
     by : (b : Bool) → is_standing member r ≡ b → (1 ≤ length (filter (is_standing member) rs) → suc (length (filter (is_standing member) (mark_served member rs))) ≡ length (filter (is_standing member) rs))
         → suc (length (filter (is_standing member) (mark_served member (r ∷ rs)))) ≡ length (filter (is_standing member) (r ∷ rs))
-    by true is more = rw is (rw (served_no (same_member r.member member)) refl)
+    by true is more = rw is (rw (and_false (same_member r.member member)) refl)
     by false is more = rw is (rw is (more (rw is at some)))
 
 -- and as many as before at every other
@@ -74,21 +50,13 @@ mark_other : (member other : Member) → member ≢ other → (rs : List Request
 mark_other member other far [] = refl
 mark_other member other far (r ∷ rs) = by (is_standing member r) refl (is_standing other r) refl (mark_other member other far rs)
   where
-    both : (a b : Bool) → (a && b) ≡ true → a ≡ true
-    both true b e = refl
-    both false b e = absurd (cc e)
-
-    served_no : (b : Bool) → (b && false) ≡ false
-    served_no true = refl
-    served_no false = refl
-
     clash : is_standing member r ≡ true → is_standing other r ≡ true → ⊥
-    clash p q = far (sym (same_member-true r.member member (both _ _ p)) ∙ same_member-true r.member other (both _ _ q))
+    clash p q = far (sym (same_member-true r.member member (and_first _ _ p)) ∙ same_member-true r.member other (and_first _ _ q))
 
     by : (b : Bool) → is_standing member r ≡ b → (c : Bool) → is_standing other r ≡ c → length (filter (is_standing other) (mark_served member rs)) ≡ length (filter (is_standing other) rs)
         → length (filter (is_standing other) (mark_served member (r ∷ rs))) ≡ length (filter (is_standing other) (r ∷ rs))
     by true is true has more = absurd (clash is has)
-    by true is false has more = rw (is, has) (rw (served_no (same_member r.member other)) refl)
+    by true is false has more = rw (is, has) (rw (and_false (same_member r.member other)) refl)
     by false is true has more = rw is (rw has (ap suc more))
     by false is false has more = rw is (rw has more)
 
@@ -178,13 +146,7 @@ module _ (here : NodeNo) (inc stamp number : ℕ) (from : NodeNo) (server : Serv
     members_on other kept = by (server.0 == other.0) refl
       where
         same_is : (a b : ServerNo) → (a.0 == b.0) ≡ true → a ≡ b
-        same_is a b e = ap (λ (n : ℕ). record { 0 = n }) (numbers a.0 b.0 e)
-          where
-            numbers : (m n : ℕ) → (m == n) ≡ true → m ≡ n
-            numbers m n e = grind (arith, nat_tests, e)
-
-        differ : (m n : ℕ) → (m == n) ≡ false → m ≢ n
-        differ m n e same = grind (arith, nat_tests, e, same)
+        same_is a b e = ap (λ (n : ℕ). record { 0 = n }) (eqb-true a.0 b.0 e)
 
         apart : server.0 ≢ other.0 → LivesApart (life member inc) (life (at_server here other) inc)
         apart far = of (same_life_or member (at_server here other) inc)
@@ -198,7 +160,7 @@ module _ (here : NodeNo) (inc stamp number : ℕ) (from : NodeNo) (server : Serv
             subst (λ (s : ServerNo). is_kept s ≡ true → HoldsMember after (at_server here s) inc (member_of part_after s)) (same_is server other is)
             (λ k. subst (λ (m : MemberPart). HoldsMember after member inc m) (sym (own_on k)) (served_member at tx member inc stamp done (member_of part server) (h.members refl server k))) kept
         by false is =
-            let far : server.0 ≢ other.0 = differ server.0 other.0 is in
+            let far : server.0 ≢ other.0 = eqb-false server.0 other.0 is in
             subst (λ (m : MemberPart). HoldsMember after (at_server here other) inc m) (sym (other_on other far))
             (member_like tx after (at_server here other) inc (member_of part other) (part_elsewhere at member inc stamp done tx (at_server here other) (apart far)) (λ served covers. refl) (h.members refl other kept))
 
@@ -222,11 +184,8 @@ module _ (here : NodeNo) (inc stamp number : ℕ) (from : NodeNo) (server : Serv
             of (inr apart) = rw (requests_at_key at member inc stamp done tx, mark_other member (at_server here other) (λ e. lives_clash e apart) (requests_at tx at)) (h.queued other at refl)
               where
                 lives_clash : member ≡ at_server here other → LivesApart (life member inc) (life (at_server here other) inc) → ⊥
-                lives_clash e far = no (sym (subst (λ (m : Member). is_at (life_cmp (life m inc)) (life member inc) ≡ false) (sym e) far.at) ∙ itself)
+                lives_clash e far = false≢true (sym (subst (λ (m : Member). is_at (life_cmp (life m inc)) (life member inc) ≡ false) (sym e) far.at) ∙ itself)
                   where
-                    no : false ≡ true → ⊥
-                    no c = cc c
-
                     itself : is_at (life_cmp (life member inc)) (life member inc) ≡ true
                     itself = rw (life_itself (life member inc)) refl
 
@@ -237,12 +196,9 @@ module _ (here : NodeNo) (inc stamp number : ℕ) (from : NodeNo) (server : Serv
     home_on : HoldsHome tx (Some part) → HoldsHome after (Some part_after)
     home_on k = record {
       runs = λ is. refl;
-      undecided = λ p same unknown. k.undecided part refl (sym (ap (λ (q : Participant). q.outcome) plain_on) ∙ (ap (λ (q : Participant). q.outcome) (of_some same) ∙ unknown));
-      asked = λ p same still. k.asked part refl still ∙ (sym (ap (λ (q : Participant). q.asked) plain_on) ∙ ap (λ (q : Participant). q.asked) (of_some same));
+      undecided = λ p same unknown. k.undecided part refl (sym (ap (λ (q : Participant). q.outcome) plain_on) ∙ (ap (λ (q : Participant). q.outcome) (some_same same) ∙ unknown));
+      asked = λ p same still. k.asked part refl still ∙ (sym (ap (λ (q : Participant). q.asked) plain_on) ∙ ap (λ (q : Participant). q.asked) (some_same same));
     }
-      where
-        of_some : {X : Type 0} {x y : X} → Some x ≡ Some y → x ≡ y
-        of_some e = cc e
 
     pub served_tid : HoldsTid here inc tid after (record face { known = Some part_after; changes = changes })
     served_tid = record {

@@ -1,33 +1,16 @@
 -- A member serves a request with its server's reply: the rule as a whole, with files as they are.
-use Rattle.qs_world_lawful.specs.Waits.{IsWithin, waiting_ops, standing_ops}
-use Rattle.std.proofs.Common.{◌∷◌, ◌≡◌, ◌⊎◌, ℕ, ◌==◌, ◌≤◌, Bool, true, false, Some, None, refl, ap, subst, arith, length}
-use Rattle.std.proofs.lemmas.Bool.Decides.{nat_tests}
-use Rattle.std.specs.Prelude.{if◌then◌else◌}
-use Rattle.qs_base.specs.declared.identifiers.ServerNo.{ServerNo}
-use Rattle.qs_engage.specs.Engage.{last_number}
+use Rattle.qs_world_lawful.proofs.Words.{IsWithin, waiting_ops, standing_ops, ◌∷◌, ◌≡◌, ◌⊎◌, ℕ, ◌==◌, ◌≤◌, Bool, true, false, Some, None, refl, ap, subst, length, if◌then◌else◌, ServerNo, last_number, Delivery, changes_in, after_serving, reply_of, Reply, TransactionValue, served_in, has_note, RequestNo, BookValue, find_transaction, broken, member_of, has_noted, awaits_note, Participant, is_client, with_server, enter_serve, make_loan, lent_to, Work, entry_of, at_server, HoldsFiles, HoldsWork}
+use Rattle.qs_world_lawful.proofs.Words.{book_at, eqb-true}
 use Rattle.qs_ipc.specs.Queue.{is_for}
-use Rattle.qs_ipc.specs.declared.delivery.Delivery.{Delivery}
-use Rattle.qs_ops.specs.Server.{changes_in, after_serving, reply_of}
 use Rattle.qs_ops.specs.Servers as numbers
-use Rattle.qs_ops.specs.declared.reply.Reply.{Reply}
 use Rattle.qs_book_journal.specs.declared.entry.Act.TheVariants as acts
-use Rattle.qs_book_machine.specs.Transaction.{TransactionValue, part_of, served_in, has_note}
-use Rattle.qs_book_machine.specs.declared.transaction.RequestNo.{RequestNo}
-use Rattle.qs_book_machine.specs.Book.{BookValue, find_transaction, is_done}
+use Rattle.qs_book_machine.specs.Transaction.{part_of}
+use Rattle.qs_book_machine.specs.Book.{is_done}
 use Rattle.qs_book_machine.specs.Clauses.{note_text}
-use Rattle.qs_book_machine.specs.Lawful.{broken}
 use Rattle.qs_tm.specs.Manager as tm
 use Rattle.qs_tm.specs.Members as rules
-use Rattle.qs_tm.specs.Participant.{member_of, has_noted, awaits_note}
-use Rattle.qs_tm.specs.declared.participant.Participant.{Participant}
-use Rattle.qs_node_servers.specs.Servers.{is_client, with_server}
-use Rattle.qs_node_step.specs.Serving.{enter_serve, make_loan, lent_to}
-use Rattle.qs_node_step.specs.State.{Work}
-use Rattle.qs_world.specs.Posting.{entry_of}
-use Rattle.qs_world_lawful.specs.Face.{waiting_at, at_server}
-use Rattle.qs_world_lawful.specs.Filed.{HoldsFiles}
+use Rattle.qs_world_lawful.specs.Face.{waiting_at}
 use Rattle.qs_world_lawful.specs.Holds.{is_kept}
-use Rattle.qs_world_lawful.specs.Entering.{HoldsWork, book_at}
 use Rattle.qs_world_lawful.proofs.Clauses.{of_tid}
 use Rattle.qs_world_lawful.proofs.ServedPending.{serve_pending, lend_pending}
 use Rattle.qs_world_lawful.proofs.ServingWhole.{by_serving}
@@ -51,11 +34,8 @@ by_serving_filed stamp before work server delivery reply part tx h files known f
     was : (part_of tx (at_server work.node.setting.node rules.files_no) work.node.setting.inc).pending ≡ length (changes_in work.node.servers.files delivery.tid)
     was = (of_tid stamp (book_at stamp before work) work.node h.holds delivery.tid tx found).pending
 
-    number_is : (a b : ℕ) → (a == b) ≡ true → a ≡ b
-    number_is a b e = grind (arith, nat_tests, e)
-
     own : (server.0 == numbers.files_no) ≡ true → is_for rules.files_no delivery.op ≡ true
-    own is = subst (λ (s : ServerNo). is_for s delivery.op ≡ true) (ap (λ (n : ℕ). record { 0 = n }) (number_is server.0 numbers.files_no is)) fits
+    own is = subst (λ (s : ServerNo). is_for s delivery.op ≡ true) (ap (λ (n : ℕ). record { 0 = n }) (eqb-true server.0 numbers.files_no is)) fits
 
     pending : (b : Bool) → is_client server ≡ b
         → (part_of (served_in at (at_server work.node.setting.node server) work.node.setting.inc stamp (is_done reply) tx) (at_server work.node.setting.node rules.files_no) work.node.setting.inc).pending

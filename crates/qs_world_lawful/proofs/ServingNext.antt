@@ -1,57 +1,27 @@
 -- The request that waits first at a server leaves its queue and is served, with its loan and its reply: as a whole.
-use Rattle.std.proofs.Common.{◌≡◌, ◌⊎◌, ℕ, ◌==◌, ◌≤◌, ◌+◌, Bool, true, false, List, [], ◌∷◌, Option, Some, None, refl, sym, ap, subst, ◌∙◌, arith, drop}
-use Rattle.std.proofs.lemmas.Bool.Decides.{nat_tests}
-use Rattle.std.specs.Prelude.{not, ◌&&◌, ◌||◌, is_none, if◌then◌else◌}
-use Rattle.std.specs.List.{filter, list_any}
-use Rattle.qs_base.specs.declared.identifiers.ClientNo.{ClientNo}
-use Rattle.qs_base.specs.declared.identifiers.Member.{Member}
-use Rattle.qs_base.specs.declared.identifiers.ServerNo.{ServerNo}
-use Rattle.qs_base.specs.declared.identifiers.Outcome.{Outcome}
-use Rattle.qs_base.specs.declared.identifiers.Tid.{Tid}
-use Rattle.qs_base.proofs.Same.{same_tid-self}
-use Rattle.qs_engage.specs.Engage.{last_number}
-use Rattle.qs_engage.specs.Nodes.{same_node}
+use Rattle.qs_world_lawful.proofs.Words.{◌≡◌, ◌⊎◌, ℕ, ◌==◌, ◌≤◌, ◌+◌, Bool, true, false, List, [], ◌∷◌, Option, Some, None, refl, sym, ap, subst, ◌∙◌, drop, not, ◌&&◌, ◌||◌, if◌then◌else◌, filter, list_any, ClientNo, Member, ServerNo, Tid, same_tid-self, last_number, same_node, queue_at, Delivery, after_serving, reply_of, Reply, TransactionValue, served_in, has_note, RequestNo, BookValue, find_transaction, class_here, is_told_class, member_of, has_noted, awaits_note, is_answered_by, is_undecided}
+use Rattle.qs_world_lawful.proofs.Words.{waiting_for, Outstanding, Participant, is_client, server_at, member_here, send, reply_came, take_reply, enter_serve, make_loan, lent_to, give_reply, serve_or_drop, serve_next, reply_here, Work, here, with_manager, with_queues, change_server, face_of, at_server, HoldsFiles, HoldsAt, HoldsWork, book_at, IsWithin, waiting_ops, standing_ops, Op, none_is, some_same, eqb-true, eq-eqb}
 use Rattle.qs_ipc.specs.Ipc as ipc
-use Rattle.qs_ipc.specs.Ipc.{queue_at}
 use Rattle.qs_ipc.specs.Queue.{is_of, is_for, first_of}
-use Rattle.qs_ipc.specs.declared.delivery.Delivery.{Delivery}
-use Rattle.qs_ops.specs.Server.{after_serving, reply_of}
 use Rattle.qs_ops.specs.Servers as numbers
-use Rattle.qs_ops.specs.declared.reply.Reply.{Reply}
 use Rattle.qs_ops.specs.declared.reply.Reply.TheVariants as replies
 use Rattle.qs_packet.specs.declared.message.Message.TheVariants as messages
-use Rattle.qs_book_machine.specs.Transaction.{TransactionValue, served_in, has_note}
-use Rattle.qs_book_machine.specs.declared.transaction.RequestNo.{RequestNo}
-use Rattle.qs_book_machine.specs.Book.{BookValue, find_transaction, is_done}
+use Rattle.qs_book_machine.specs.Book.{is_done}
 use Rattle.qs_book_machine.specs.Clauses.{note_text}
 use Rattle.qs_tm.specs.Manager as tm
-use Rattle.qs_tm.specs.Members.{class_here, is_told_class}
 use Rattle.qs_tm.specs.Participant as participant
-use Rattle.qs_tm.specs.Participant.{member_of, has_noted, awaits_note, is_answered_by, is_by_files, is_undecided, waiting_for}
-use Rattle.qs_tm.specs.declared.participant.Outstanding.{Outstanding}
-use Rattle.qs_tm.specs.declared.participant.Participant.{Participant}
-use Rattle.qs_node_servers.specs.Servers.{is_client, server_at}
-use Rattle.qs_node_step.specs.Bringing.{member_here, send}
+use Rattle.qs_tm.specs.Participant.{is_by_files}
 use Rattle.qs_node_step.specs.Requests as requests
-use Rattle.qs_node_step.specs.Requests.{reply_came, take_reply}
-use Rattle.qs_node_step.specs.Serving.{enter_serve, make_loan, lent_to, give_reply, serve, serve_or_drop, serve_next, reply_here}
-use Rattle.qs_node_step.specs.State.{Work, here, with_manager, with_queues, change_server}
-use Rattle.qs_world_lawful.specs.Face.{face_of, waiting_at, at_server}
-use Rattle.qs_world_lawful.specs.Filed.{HoldsFiles}
-use Rattle.qs_world_lawful.specs.Holds.{HoldsAt, is_kept}
-use Rattle.qs_world_lawful.specs.Entering.{HoldsWork, book_at}
+use Rattle.qs_node_step.specs.Serving.{serve}
+use Rattle.qs_world_lawful.specs.Face.{waiting_at}
+use Rattle.qs_world_lawful.specs.Holds.{is_kept}
 use Rattle.qs_world_lawful.proofs.Asking.{by_send}
 use Rattle.qs_world_lawful.proofs.Steps.{waits_of}
-use Rattle.qs_world_lawful.specs.Waits.{IsWithin, waiting_ops, standing_ops}
-use Rattle.qs_ops.specs.declared.operation.Op.{Op}
 use Rattle.qs_world_lawful.proofs.Faces.{part_changed, left_here}
 use Rattle.qs_world_lawful.proofs.Replying.{by_reply}
 use Rattle.qs_world_lawful.proofs.ServingFiled.{by_serving_filed}
 use Rattle.qs_world_lawful.proofs.ReplyRules.{may_serve_first}
 use Rattle.qs_world_lawful.proofs.Silent.{by_next}
-
-of_some : {X : Type 0} {x y : X} → Some x ≡ Some y → x ≡ y
-of_some {x = x} e = ap (λ o. elim o [ None ↦ x | Some z ↦ z ]) e
 
 -- what the node knows the machine knows
 pub found_of : (stamp : ℕ) (before : BookValue) (work : Work) → HoldsWork stamp before work → (tid : Tid) (part : Participant) → tm.part_of tid work.node.manager ≡ Some part → (tx : TransactionValue) × (find_transaction (book_at stamp before work) tid ≡ Some tx)
@@ -136,18 +106,15 @@ client_comes stamp before work server delivery reply part known none near served
     waiting_is p is =
         let it : Some (participant.served server part) ≡ Some p =
         sym (part_changed delivery.tid (participant.served server) work.node.manager part known) ∙ (sym (ap (tm.part_of delivery.tid) (loan_alike server delivery reply work (lent_to delivery.op)).1) ∙ is) in
-        ap (λ (q : Participant). q.waiting) (sym (of_some it)) ∙ served_waiting server part
+        ap (λ (q : Participant). q.waiting) (sym (some_same it)) ∙ served_waiting server part
 
 -- what waits first waits before those behind it
 first_more : (delivery : Delivery) (at : RequestNo) → at.link.from ≡ delivery.from → at.number ≡ delivery.number → (waiting : List Delivery) → first_of waiting ≡ Some delivery
     → waiting_ops at (filter (is_of delivery.tid) waiting) ≡ delivery.op ∷ waiting_ops at (filter (is_of delivery.tid) (drop 1 waiting))
 first_more delivery at from same [] is = absurd (cc is)
 first_more delivery at from same (d ∷ ds) is =
-    subst (λ (e : Delivery). waiting_ops at (filter (is_of delivery.tid) (e ∷ ds)) ≡ delivery.op ∷ waiting_ops at (filter (is_of delivery.tid) ds)) (sym (of_some is))
-    (rw (same_tid-self delivery.tid) (rw (itself delivery.from.0 at.link.from.0 (sym (ap (λ n. n.0) from)), itself delivery.number at.number (sym same)) refl))
-  where
-    itself : (a b : ℕ) → a ≡ b → (a == b) ≡ true
-    itself a b e = grind (arith, nat_tests, e)
+    subst (λ (e : Delivery). waiting_ops at (filter (is_of delivery.tid) (e ∷ ds)) ≡ delivery.op ∷ waiting_ops at (filter (is_of delivery.tid) ds)) (sym (some_same is))
+    (rw (same_tid-self delivery.tid) (rw (eq-eqb delivery.from.0 at.link.from.0 (sym (ap (λ n. n.0) from)), eq-eqb delivery.number at.number (sym same)) refl))
 
 module _ (stamp : ℕ) (before : BookValue) (work : Work) (h : HoldsWork stamp before work) (files : HoldsFiles work.node.servers) (server : ServerNo) where
   abbrev left_work : Work
@@ -173,13 +140,10 @@ module _ (stamp : ℕ) (before : BookValue) (work : Work) (h : HoldsWork stamp b
       → (is_for server delivery.op ≡ true) × ((server.0 == numbers.files_no) ≡ true → reply_of work.node.servers.files delivery.tid delivery.op ≡ Some reply)
   replies_by delivery reply is = by (is_for server delivery.op) refl is
     where
-      same : (a b : ℕ) → (a == b) ≡ true → a ≡ b
-      same a b e = grind (arith, nat_tests, e)
-
       by : (b : Bool) → is_for server delivery.op ≡ b → (if not b then None else if is_client server then Some replies.Done else reply_of (server_at work.node.servers server) delivery.tid delivery.op) ≡ Some reply
           → (is_for server delivery.op ≡ true) × ((server.0 == numbers.files_no) ≡ true → reply_of work.node.servers.files delivery.tid delivery.op ≡ Some reply)
       by false so e = absurd (cc e)
-      by true so e = (so, λ at. own (same server.0 numbers.files_no at) e)
+      by true so e = (so, λ at. own (eqb-true server.0 numbers.files_no at) e)
         where
           own : server.0 ≡ numbers.files_no → (if is_client server then Some replies.Done else reply_of (server_at work.node.servers server) delivery.tid delivery.op) ≡ Some reply → reply_of work.node.servers.files delivery.tid delivery.op ≡ Some reply
           own at = subst (λ (n : ℕ). (if numbers.is_client_no n then Some replies.Done else reply_of (server_at work.node.servers (record { 0 = n })) delivery.tid delivery.op) ≡ Some reply → reply_of work.node.servers.files delivery.tid delivery.op ≡ Some reply) (sym at) (λ x. x)
@@ -203,10 +167,6 @@ module _ (stamp : ℕ) (before : BookValue) (work : Work) (h : HoldsWork stamp b
     pub by_next_served : HoldsWork stamp before (serve_next work server)
     by_next_served = by (ipc.next server work.node.queues) refl
       where
-        none : (o : Option Outcome) → is_none o ≡ true → o ≡ None
-        none None e = refl
-        none (Some outcome) e = absurd (cc e)
-
         replied : (delivery : Delivery) → ipc.next server work.node.queues ≡ Some delivery → (part : Participant) → tm.part_of delivery.tid work.node.manager ≡ Some part → part.outcome ≡ None
             → (o : Option Reply) → reply_here server delivery.tid delivery.op work.node ≡ o → HoldsWork stamp before (elim o [ None ↦ left_work | Some reply ↦ serve server delivery reply left_work ])
         replied delivery next part known unknown None says = left
@@ -214,7 +174,7 @@ module _ (stamp : ℕ) (before : BookValue) (work : Work) (h : HoldsWork stamp b
 
         undecided : (delivery : Delivery) → ipc.next server work.node.queues ≡ Some delivery → (part : Participant) → tm.part_of delivery.tid work.node.manager ≡ Some part → (b : Bool) → is_undecided part ≡ b
             → HoldsWork stamp before (if b then elim (reply_here server delivery.tid delivery.op work.node) [ None ↦ left_work | Some reply ↦ serve server delivery reply left_work ] else left_work)
-        undecided delivery next part known true is = replied delivery next part known (none part.outcome is) (reply_here server delivery.tid delivery.op work.node) refl
+        undecided delivery next part known true is = replied delivery next part known (none_is part.outcome is) (reply_here server delivery.tid delivery.op work.node) refl
         undecided delivery next part known false is = left
 
         of_part : (delivery : Delivery) → ipc.next server work.node.queues ≡ Some delivery → (o : Option Participant) → tm.part_of delivery.tid work.node.manager ≡ o

@@ -1,25 +1,7 @@
 -- A member serves a request: the rule as a whole, but for its loan and its reply.
-use Rattle.std.proofs.lemmas.Bool.Decides.{nat_tests}
-use Rattle.std.proofs.Common.{arith, ◌≢◌, ◌≡◌, ◌⊎◌, ℕ, ◌==◌, ◌≤◌, Bool, true, false, [], ◌∷◌, ◌++◌, ◌+◌, Option, Some, None, suc, refl, sym, ap, subst, ◌∙◌, length}
-use Rattle.std.specs.Prelude.{not, ◌||◌, if◌then◌else◌}
-use Rattle.std.specs.List.{filter}
-use Rattle.std.specs.BTreeMap.{is_at}
-use Rattle.qs_base.specs.Order.{tid_cmp}
-use Rattle.qs_base.specs.declared.identifiers.NodeNo.{NodeNo}
-use Rattle.qs_base.specs.declared.identifiers.ServerNo.{ServerNo}
-use Rattle.qs_base.specs.declared.identifiers.Tid.{Tid}
-use Rattle.qs_engage.specs.Engage.{last_number}
-use Rattle.qs_ipc.specs.declared.delivery.Delivery.{Delivery}
-use Rattle.qs_book_laws.proofs.Maps.{changed_at_here, changed_alike}
-use Rattle.qs_ops.specs.Members.{class_of}
-use Rattle.qs_ops.specs.Server.{ServerValue, changes_in, after_serving}
+use Rattle.qs_world_lawful.proofs.Words.{arith, ◌≡◌, ◌⊎◌, ℕ, ◌==◌, ◌≤◌, Bool, true, false, [], ◌∷◌, ◌++◌, ◌+◌, Option, Some, None, suc, refl, sym, ap, subst, ◌∙◌, length, not, ◌||◌, if◌then◌else◌, filter, is_at, tid_cmp, NodeNo, ServerNo, Tid, last_number, Delivery, changed_at_here, changed_alike, class_of, ServerValue, changes_in, after_serving, share_of, Op, Part, Request, HoldsServers, is_seen, HoldsWaits, IsWithin, op_in, op_of, waiting_ops, standing_ops, is_idle, Reply, TransactionValue}
+use Rattle.qs_world_lawful.proofs.Words.{is_crossed, life, serving_part, standing_request, served_in, is_standing, requests_at, has_note, RequestNo, BookValue, find_transaction, inc_at, serve_node, crossed_in, crossed_serve, server_serve, broken, member_of, with_member, has_noted, awaits_note, Participant, ServersValue, with_server, is_client, enter_serve, Work, entry_of, face_of, at_server, Holds, HoldsTid, HoldsClients, HoldsWork, book_at, eqb-true, eqb-false}
 use Rattle.qs_ops.specs.Servers as numbers
-use Rattle.qs_ops.specs.Table.{share_of}
-use Rattle.qs_ops.specs.declared.operation.Op.{Op}
-use Rattle.qs_book_machine.specs.declared.transaction.Part.{Part}
-use Rattle.qs_book_machine.specs.declared.transaction.Request.{Request}
-use Rattle.qs_world_lawful.specs.Tables.{HoldsServers, is_seen}
-use Rattle.qs_world_lawful.specs.Waits.{HoldsWaits, IsWithin, op_in, op_of, waiting_ops, standing_ops, is_idle}
 use Rattle.qs_world_lawful.proofs.MemberTid.{lives_apart}
 use Rattle.qs_world_lawful.proofs.MemberWaits.{seen_here}
 use Rattle.qs_world_lawful.proofs.Parts.{put_part_apart}
@@ -28,26 +10,17 @@ use Rattle.qs_world_lawful.proofs.Served.{part_served}
 use Rattle.qs_world_lawful.proofs.ServedTables.{served_client, served_hidden, served_seen}
 use Rattle.qs_world_lawful.proofs.Stands.{alone, served_waits}
 use Rattle.qs_world_lawful.proofs.Within.{map_length, within_count}
-use Rattle.qs_ops.specs.declared.reply.Reply.{Reply}
 use Rattle.qs_book_journal.specs.declared.entry.Act.TheVariants as acts
-use Rattle.qs_book_machine.specs.Transaction.{TransactionValue, is_crossed, life, serving_part, standing_request, part_of, served_in, is_standing, requests_at, has_note}
-use Rattle.qs_book_machine.specs.declared.transaction.RequestNo.{RequestNo}
-use Rattle.qs_book_machine.specs.Book.{BookValue, find_transaction, inc_at, serve_node, crossed_in, crossed_serve, server_serve, is_done}
+use Rattle.qs_book_machine.specs.Transaction.{part_of}
+use Rattle.qs_book_machine.specs.Book.{is_done}
 use Rattle.qs_book_machine.specs.Clauses.{note_text}
-use Rattle.qs_book_machine.specs.Lawful.{broken}
 use Rattle.qs_book_machine.specs.Nodes as machine
 use Rattle.qs_tm.specs.Manager as tm
 use Rattle.qs_tm.specs.Members as rules
 use Rattle.qs_tm.specs.Participant as participant
-use Rattle.qs_tm.specs.Participant.{member_of, with_member, has_noted, awaits_note}
-use Rattle.qs_tm.specs.declared.participant.Participant.{Participant}
-use Rattle.qs_node_servers.specs.Servers.{ServersValue, with_server, is_client}
-use Rattle.qs_node_step.specs.Serving.{enter_serve}
-use Rattle.qs_node_step.specs.State.{Work, NodeValue}
-use Rattle.qs_world.specs.Posting.{entry_of}
-use Rattle.qs_world_lawful.specs.Face.{face_of, waiting_at, at_server, is_numbered}
-use Rattle.qs_world_lawful.specs.Holds.{Holds, HoldsTid, HoldsClients, is_kept}
-use Rattle.qs_world_lawful.specs.Entering.{HoldsWork, book_at}
+use Rattle.qs_node_step.specs.State.{NodeValue}
+use Rattle.qs_world_lawful.specs.Face.{waiting_at, is_numbered}
+use Rattle.qs_world_lawful.specs.Holds.{is_kept}
 use Rattle.qs_world_lawful.proofs.Apart.{Apart}
 use Rattle.qs_world_lawful.proofs.Clauses.{of_tid}
 use Rattle.qs_ipc.specs.Queue.{is_for}
@@ -199,12 +172,6 @@ module _ (stamp : ℕ) (before : BookValue) (work : Work) (server : ServerNo) (d
     due_on : is_idle (share_of servers_after.files.table tid) ≡ false → (part_of after (at_server here rules.files_no) node.setting.inc).due ≡ true
     due_on busy = by (server.0 == numbers.files_no) refl
       where
-        number_is : (a b : ℕ) → (a == b) ≡ true → a ≡ b
-        number_is a b e = grind (arith, nat_tests, e)
-
-        differ : (a b : ℕ) → (a == b) ≡ false → a ≢ b
-        differ a b e s = grind (arith, nat_tests, e, s)
-
         elsewhere : (c : Bool) → (server.0 == numbers.files_no) ≡ false → is_idle (share_of (if c then node.servers else with_server server (λ value. after_serving value tid delivery.op reply) node.servers).files.table tid) ≡ false → is_idle (share_of node.servers.files.table tid) ≡ false
         elsewhere true far b = b
         elsewhere false far b = subst (λ (v : ServerValue). is_idle (share_of v.table tid) ≡ false) (files_elsewhere server (λ value. after_serving value tid delivery.op reply) node.servers far) b
@@ -214,10 +181,10 @@ module _ (stamp : ℕ) (before : BookValue) (work : Work) (server : ServerNo) (d
 
         by : (b : Bool) → (server.0 == numbers.files_no) ≡ b → (part_of after (at_server here rules.files_no) node.setting.inc).due ≡ true
         by true is =
-            let at_files : server.0 ≡ numbers.files_no = number_is server.0 numbers.files_no is in
+            let at_files : server.0 ≡ numbers.files_no = eqb-true server.0 numbers.files_no is in
             subst (λ (s : ServerNo). (part_of after (at_server here s) node.setting.inc).due ≡ true) (ap (λ (n : ℕ). record { 0 = n }) at_files) (own_due at_files)
         by false is =
-            ap (λ (p : Part). p.due) (put_part_apart (life (at_server here server) node.setting.inc) _ tx.parts (at_server here rules.files_no) node.setting.inc (lives_apart here node.setting.inc server rules.files_no (differ server.0 numbers.files_no is)))
+            ap (λ (p : Part). p.due) (put_part_apart (life (at_server here server) node.setting.inc) _ tx.parts (at_server here rules.files_no) node.setting.inc (lives_apart here node.setting.inc server rules.files_no (eqb-false server.0 numbers.files_no is)))
             ∙ its_waits.due (elsewhere (is_client server) is busy)
 
     own_waits : HoldsWaits here node.setting.inc tid (f tx) (face_of new tid).waiting servers_after

@@ -1,36 +1,15 @@
 -- A member serves a request, and a client that takes a loan makes it at once: the rule as a whole, but for its reply.
-use Rattle.qs_world_lawful.specs.Waits.{IsWithin, waiting_ops, standing_ops}
-use Rattle.std.proofs.Common.{◌∷◌, ◌≡◌, ◌⊎◌, ℕ, ◌==◌, ◌≤◌, Bool, true, false, Option, Some, None, refl, ap, subst, ◌∙◌, arith, length, nat_lt}
-use Rattle.std.proofs.lemmas.Bool.Decides.{nat_tests}
-use Rattle.std.specs.Prelude.{if◌then◌else◌}
-use Rattle.qs_base.specs.declared.identifiers.ClientNo.{ClientNo}
-use Rattle.qs_base.specs.declared.identifiers.NodeNo.{NodeNo}
-use Rattle.qs_base.specs.declared.identifiers.ServerNo.{ServerNo}
-use Rattle.qs_engage.specs.Engage.{last_number}
+use Rattle.qs_world_lawful.proofs.Words.{IsWithin, waiting_ops, standing_ops, ◌∷◌, ◌≡◌, ◌⊎◌, ℕ, ◌==◌, ◌≤◌, Bool, true, false, Option, Some, None, refl, ap, subst, ◌∙◌, length, nat_lt, if◌then◌else◌, ClientNo, NodeNo, ServerNo, last_number, Delivery, changes_in, after_serving, client_no, Op, Lend, Reply, TransactionValue, served_in, has_note, is_loan_due, RequestNo, BookValue, find_transaction, broken, member_of, has_noted, awaits_note, Participant, is_client, with_server, enter_serve, make_loan}
+use Rattle.qs_world_lawful.proofs.Words.{lent_to, Work, entry_of, at_server, HoldsWork, book_at, eqb-true}
 use Rattle.qs_ipc.specs.Queue.{is_for}
-use Rattle.qs_ipc.specs.declared.delivery.Delivery.{Delivery}
-use Rattle.qs_ops.specs.Server.{changes_in, after_serving}
-use Rattle.qs_ops.specs.Servers.{client_no}
-use Rattle.qs_ops.specs.declared.operation.Op.{Op}
-use Rattle.qs_ops.specs.declared.operation.Op.TheVariants.{Lend}
-use Rattle.qs_ops.specs.declared.reply.Reply.{Reply}
 use Rattle.qs_book_journal.specs.declared.entry.Act.TheVariants as acts
-use Rattle.qs_book_machine.specs.Transaction.{TransactionValue, part_of, served_in, has_note, is_loan_due, borrower}
-use Rattle.qs_book_machine.specs.declared.transaction.RequestNo.{RequestNo}
-use Rattle.qs_book_machine.specs.Book.{BookValue, find_transaction, is_done}
+use Rattle.qs_book_machine.specs.Transaction.{part_of, borrower}
+use Rattle.qs_book_machine.specs.Book.{is_done}
 use Rattle.qs_book_machine.specs.Clauses.{note_text}
-use Rattle.qs_book_machine.specs.Lawful.{broken}
 use Rattle.qs_tm.specs.Manager as tm
 use Rattle.qs_tm.specs.Members as rules
-use Rattle.qs_tm.specs.Participant.{member_of, has_noted, awaits_note}
-use Rattle.qs_tm.specs.declared.participant.Participant.{Participant}
-use Rattle.qs_node_servers.specs.Servers.{is_client, with_server}
-use Rattle.qs_node_step.specs.Serving.{enter_serve, make_loan, lent_to}
-use Rattle.qs_node_step.specs.State.{Work}
-use Rattle.qs_world.specs.Posting.{entry_of}
-use Rattle.qs_world_lawful.specs.Face.{waiting_at, at_server}
+use Rattle.qs_world_lawful.specs.Face.{waiting_at}
 use Rattle.qs_world_lawful.specs.Holds.{is_kept}
-use Rattle.qs_world_lawful.specs.Entering.{HoldsWork, book_at}
 use Rattle.qs_world_lawful.proofs.Lending.{by_loan}
 use Rattle.qs_world_lawful.proofs.LoanDue.{serve_due}
 use Rattle.qs_world_lawful.proofs.ServingOne.{by_serve, found_served, served_setting}
@@ -59,11 +38,8 @@ module _ (stamp : ℕ) (before : BookValue) (work : Work) (server : ServerNo) (d
   lender : (client : ClientNo) → is_for server (Lend client) ≡ true → (nat_lt client.0 224 ≡ true) × (client_no client.0 ≡ server.0)
   lender client fits = by (nat_lt client.0 224) refl fits
     where
-      number_is : (a b : ℕ) → (a == b) ≡ true → a ≡ b
-      number_is a b e = grind (arith, nat_tests, e)
-
       by : (b : Bool) → nat_lt client.0 224 ≡ b → is_its server (if b then Some (record { 0 = client_no client.0 }) else None) ≡ true → (nat_lt client.0 224 ≡ true) × (client_no client.0 ≡ server.0)
-      by true is e = (is, number_is (client_no client.0) server.0 e)
+      by true is e = (is, eqb-true (client_no client.0) server.0 e)
       by false is e = absurd (cc e)
 
   pub by_serving : (is_kept server ≡ true → ((member_of part server).served == last_number) ≡ false)

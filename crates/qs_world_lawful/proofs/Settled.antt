@@ -1,28 +1,15 @@
 -- A transaction is settled: its votes, then what is ready, refused and forgotten. The rules as wholes, and all that are due.
-use Rattle.std.proofs.Common.{◌≡◌, ℕ, Bool, true, false, List, [], ◌∷◌, Option, Some, None, refl, fold}
-use Rattle.std.specs.Prelude.{is_some, slice_get, if◌then◌else◌}
-use Rattle.qs_base.specs.declared.identifiers.ClientNo.{ClientNo}
-use Rattle.qs_base.specs.declared.identifiers.NodeNo.{NodeNo}
+use Rattle.qs_world_lawful.proofs.Words.{◌≡◌, ℕ, Bool, true, false, List, [], ◌∷◌, Option, Some, None, refl, fold, is_some, slice_get, if◌then◌else◌, ClientNo, NodeNo, Tid, release_of, listed, BookValue, find_transaction, TransactionValue, Cause, decide_commit, answer_superior, due_tids, forget_rule, is_quiet, may_answer, pass_rule, ready_rule, refusal_goes_to, refuse_elsewhere, refuse_rule, say_yes, send_refusal, settle, settle_tid, try, Work, doings_of, here, with_manager, told_with_own}
+use Rattle.qs_world_lawful.proofs.Words.{needs_pass, Participant, HoldsWork, book_at, HasCause, MayCommit, MayDecide, MaySettle, AtEach}
 use Rattle.qs_base.specs.declared.identifiers.Outcome.TheVariants as outcomes
-use Rattle.qs_base.specs.declared.identifiers.Tid.{Tid}
 use Rattle.qs_engage.specs.Engage as engage
-use Rattle.qs_engage.specs.Engage.{is_passive, release_of}
-use Rattle.qs_engage.specs.Nodes.{listed}
-use Rattle.qs_book_machine.specs.Book.{BookValue, find_transaction}
-use Rattle.qs_book_machine.specs.Transaction.{TransactionValue}
-use Rattle.qs_ops.specs.declared.answer.Cause.{Cause}
+use Rattle.qs_engage.specs.Engage.{is_passive}
 use Rattle.qs_ops.specs.declared.answer.Cause.TheVariants as causes
 use Rattle.qs_packet.specs.declared.message.Message.TheVariants as messages
-use Rattle.qs_node_step.specs.Deciding.{decide, decide_commit}
-use Rattle.qs_node_step.specs.Settling.{answer_superior, due_tids, forget_rule, is_quiet, may_answer, pass_rule, ready_rule, refusal_goes_to, refuse_elsewhere, refuse_rule, say_yes, send_refusal, settle, settle_tid, try}
-use Rattle.qs_node_step.specs.State.{Work, doings_of, here, with_manager}
+use Rattle.qs_node_step.specs.Deciding.{decide}
 use Rattle.qs_tm.specs.Manager as tm
-use Rattle.qs_tm.specs.Outcomes.{told_with_own}
 use Rattle.qs_tm.specs.Participant as participant
-use Rattle.qs_tm.specs.Participant.{all_agree, needs_pass}
-use Rattle.qs_tm.specs.declared.participant.Participant.{Participant}
-use Rattle.qs_world_lawful.specs.Entering.{HoldsWork, book_at}
-use Rattle.qs_world_lawful.specs.Given.{HasCause, MayCommit, MayDecide, MaySettle, AtEach}
+use Rattle.qs_tm.specs.Participant.{all_agree}
 use Rattle.qs_world_lawful.proofs.Asking.{by_send}
 use Rattle.qs_world_lawful.proofs.Bare.{by_bare}
 use Rattle.qs_world_lawful.proofs.DecidingByRules.{by_abort, by_commit}

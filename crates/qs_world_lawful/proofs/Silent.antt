@@ -1,40 +1,16 @@
 -- What a node does without an entry that changes what is held: a request leaves its queue, a label is kept, a command comes, a
 -- loan is taken; and the tick of its clock.
-use Rattle.std.proofs.Common.{◌≡◌, ◌≢◌, ◌⊎◌, inl, inr, ℕ, ◌≤◌, Bool, true, false, List, [], ◌∷◌, Option, Some, None, Equal, suc, refl, sym, ap, subst, ◌∙◌, arith, length, drop}
-use Rattle.std.specs.List.{filter, find}
-use Rattle.std.specs.Map.{lookup}
-use Rattle.std.specs.BTreeMap.{is_at}
+use Rattle.qs_world_lawful.proofs.Words.{◌≡◌, ◌≢◌, ◌⊎◌, inl, inr, ℕ, ◌≤◌, Bool, true, false, List, [], ◌∷◌, Option, Some, None, Equal, suc, refl, sym, ap, subst, ◌∙◌, arith, length, drop, le_refl, filter, find, lookup, is_at, tied_itself, nat_cmp_total, exact_unsigned, ClientNo, NodeNo, ServerNo, Tid, IpcValue, queue_at, QueueValue, Delivery, ScriptLine, lookup_put, lookup_put_apart, changed_at_here, put_rises, TransactionValue, RequestNo, BookValue, find_transaction, tick_node, ticked}
+use Rattle.qs_world_lawful.proofs.Words.{enter, put_label, label_at, has_label, Work, with_queues, with_manager, change_server, client_cmp, with_command, Begun, OpenCommand, face_of, HoldsTid, HoldsAt, HoldsClients, IsBehind, IsOwner, IsAsking, HoldsWork, book_at, is_seen, HoldsWaitsAt, IsWithin, waiting_ops, op_of, Op, some_same, le_le}
 use Rattle.std.specs.Cmp.{IsTotalOrder}
-use Rattle.std.proofs.lemmas.Cmp.{tied_itself, nat_cmp_total, on_total}
-use Rattle.std.proofs.lemmas.Map.Lookups.{exact_unsigned}
-use Rattle.qs_base.specs.declared.identifiers.ClientNo.{ClientNo}
-use Rattle.qs_base.specs.declared.identifiers.NodeNo.{NodeNo}
-use Rattle.qs_base.specs.declared.identifiers.ServerNo.{ServerNo}
-use Rattle.qs_base.specs.declared.identifiers.Tid.{Tid}
+use Rattle.std.proofs.lemmas.Cmp.{on_total}
 use Rattle.qs_ipc.specs.Ipc as ipc
-use Rattle.qs_ipc.specs.Ipc.{IpcValue, queue_at}
-use Rattle.qs_ipc.specs.Queue.{QueueValue, is_of}
-use Rattle.qs_ipc.specs.declared.delivery.Delivery.{Delivery}
+use Rattle.qs_ipc.specs.Queue.{is_of}
 use Rattle.qs_book_journal.specs.declared.entry.Act.TheVariants as acts
-use Rattle.qs_book_journal.specs.declared.script_line.ScriptLine.{ScriptLine}
-use Rattle.qs_book_laws.proofs.Maps.{lookup_put, lookup_put_apart, changed_at_here}
-use Rattle.qs_book_laws.proofs.Rising.{put_rises}
-use Rattle.qs_book_machine.specs.Transaction.{TransactionValue}
-use Rattle.qs_book_machine.specs.declared.transaction.RequestNo.{RequestNo}
-use Rattle.qs_book_machine.specs.Book.{BookValue, find_transaction, tick_node}
-use Rattle.qs_ops.specs.Timers.{ticked}
 use Rattle.qs_tm.specs.Manager as tm
-use Rattle.qs_node_step.specs.Bringing.{enter}
-use Rattle.qs_node_step.specs.Serving.{put_label, label_at}
-use Rattle.qs_node_kept.specs.Keeping.{has_label}
 use Rattle.qs_node_servers.specs.Servers.{timers_no}
-use Rattle.qs_node_step.specs.State.{Work, NodeValue, with_queues, with_manager, change_server, client_cmp}
-use Rattle.qs_node_step.specs.Step.{with_command}
-use Rattle.qs_node_kept.specs.declared.kept.KeptLabel.{KeptLabel}
-use Rattle.qs_node_step.specs.declared.state.OpenCommand.{OpenCommand}
-use Rattle.qs_world_lawful.specs.Face.{Face, face_of, is_numbered}
-use Rattle.qs_world_lawful.specs.Holds.{HoldsTid, HoldsAt, HoldsClients, IsBehind, IsOwner, IsAsking}
-use Rattle.qs_world_lawful.specs.Entering.{HoldsWork, book_at}
+use Rattle.qs_node_step.specs.State.{NodeValue}
+use Rattle.qs_world_lawful.specs.Face.{Face, is_numbered}
 use Rattle.qs_world_lawful.proofs.Answers.{AreApart, same_client_or}
 use Rattle.qs_world_lawful.proofs.Begins.{label_stays, label_more}
 use Rattle.qs_world_lawful.proofs.Clauses.{may_tick}
@@ -45,9 +21,6 @@ use Rattle.qs_world_lawful.proofs.SameWaits.{waits_alike}
 use Rattle.qs_world_lawful.proofs.ServedTables.{ticked_servers}
 use Rattle.qs_world_lawful.proofs.Steps.{next_again, changed_length}
 use Rattle.qs_world_lawful.proofs.Within.{within_left}
-use Rattle.qs_world_lawful.specs.Tables.{is_seen}
-use Rattle.qs_world_lawful.specs.Waits.{HoldsWaitsAt, IsWithin, waiting_ops, op_of}
-use Rattle.qs_ops.specs.declared.operation.Op.{Op}
 
 -- ---- a request leaves its queue
 
@@ -58,12 +31,9 @@ dropped p (x ∷ xs) = by (p x) refl
     up : (n : ℕ) → n ≤ suc n
     up n = grind arith
 
-    itself : (n : ℕ) → n ≤ n
-    itself n = grind arith
-
     by : (b : Bool) → p x ≡ b → length (filter p xs) ≤ length (filter p (x ∷ xs))
     by true is = rw is (up (length (filter p xs)))
-    by false is = rw is (itself (length (filter p xs)))
+    by false is = rw is (le_refl (length (filter p xs)))
 
 -- of each kind no more waits than before
 abbrev pub Fewer : (ServerNo → List Delivery) → (ServerNo → List Delivery) → Type 0
@@ -83,14 +53,11 @@ tid_fewer here inc tid tx face waiting fewer h = record {
   sent = h.sent;
   pending = h.pending;
   noted = h.noted;
-  queued = λ server at near. less _ _ _ (fewer server at) (h.queued server at near);
+  queued = λ server at near. le_le _ _ _ (fewer server at) (h.queued server at near);
   made = h.made;
   yielded = h.yielded;
   home = h.home;
 }
-  where
-    less : (a b c : ℕ) → a ≤ b → b ≤ c → a ≤ c
-    less a b c p q = grind (arith, p, q)
 
 pub at_fewer : (here : NodeNo) (inc : ℕ) (tid : Tid) (o : Option TransactionValue) (face : Face) (waiting : ServerNo → List Delivery) → Fewer waiting face.waiting → NoneMore waiting face.waiting → HoldsAt here inc tid o face → HoldsAt here inc tid o (record face { waiting = waiting })
 at_fewer here inc tid (Some tx) face waiting fewer none h = tid_fewer here inc tid tx face waiting fewer h
@@ -110,12 +77,9 @@ module _ (stamp : ℕ) (before : BookValue) (work : Work) (h : HoldsWork stamp b
   filter_drop t at [] = grind arith
   filter_drop t at (d ∷ ds) = by (is_of t d) refl
     where
-      itself : (n : ℕ) → n ≤ n
-      itself n = grind arith
-
       by : (b : Bool) → is_of t d ≡ b → length (filter (is_numbered at) (filter (is_of t) ds)) ≤ length (filter (is_numbered at) (filter (is_of t) (d ∷ ds)))
       by true is = rw is (dropped (is_numbered at) (d ∷ filter (is_of t) ds))
-      by false is = rw is (itself _)
+      by false is = rw is (le_refl _)
 
   filter_none : (t : Tid) (ds : List Delivery) → filter (is_of t) ds ≡ [] → filter (is_of t) (drop 1 ds) ≡ []
   filter_none t [] e = refl
@@ -135,14 +99,11 @@ module _ (stamp : ℕ) (before : BookValue) (work : Work) (h : HoldsWork stamp b
       new : NodeValue
       new = record work.node { queues = ipc.after_next server work.node.queues }
 
-      itself : (n : ℕ) → n ≤ n
-      itself n = grind arith
-
       fewer : (t : Tid) → Fewer (face_of new t).waiting (face_of node t).waiting
       fewer t other at = same_server_or server other _
           (λ same. subst (λ (s : ServerNo). length (filter (is_numbered at) (filter (is_of t) (queue_at (ipc.after_next server node.queues) s).waiting)) ≤ length (filter (is_numbered at) (filter (is_of t) (queue_at node.queues s).waiting))) same
           (rw (left_here server node.queues) (filter_drop t at (queue_at node.queues server).waiting)))
-          (λ far apart. rw (left_elsewhere server other node.queues apart) (itself _))
+          (λ far apart. rw (left_elsewhere server other node.queues apart) (le_refl _))
 
       none : (t : Tid) → NoneMore (face_of new t).waiting (face_of node t).waiting
       none t other is = same_server_or server other _
@@ -177,7 +138,7 @@ module _ (stamp : ℕ) (before : BookValue) (work : Work) (h : HoldsWork stamp b
 
   -- ---- a label is kept: of a begin that was refused, or of a transaction of another node's client
 
-  pub by_label : (b : KeptLabel) → ((t : Tid) (c : ClientNo) → b.tid ≡ Some t → b.owner ≡ Some c → ⊥) → HoldsWork stamp before (put_label b work)
+  pub by_label : (b : Begun) → ((t : Tid) (c : ClientNo) → b.tid ≡ Some t → b.owner ≡ Some c → ⊥) → HoldsWork stamp before (put_label b work)
   by_label b nobody = kept_on stamp before work (put_label b work) h refl refl
       (held_on stamp book book node new h.holds (record { setting = refl; at = refl; in_inc = refl }) refl h.holds.state (record { up = refl; inc = refl; begun = refl; format = refl })
       h.holds.order refl h.holds.there (λ t is. is) (at_none here node.setting.inc book node new h.holds.at faces) clients h.holds.servers h.holds.waits)
@@ -191,12 +152,12 @@ module _ (stamp : ℕ) (before : BookValue) (work : Work) (h : HoldsWork stamp b
       asking_on : (t : Tid) (c : ClientNo) → IsAsking node t c → IsAsking new t c
       asking_on t c a = record { command = a.command; waits = a.waits; commits = a.commits; unissued = a.unissued; begun = a.begun; labelled = label_stays a.command.line.label b node.kept.now.labels a.begun a.labelled; of = a.of; owned = a.owned }
 
-      labels_on : (label : List ℕ) (begun : KeptLabel) (t : Tid) (c : ClientNo) → label_at label new ≡ Some begun → begun.tid ≡ Some t → begun.owner ≡ Some c → IsOwner book t c
+      labels_on : (label : List ℕ) (begun : Begun) (t : Tid) (c : ClientNo) → label_at label new ≡ Some begun → begun.tid ≡ Some t → begun.owner ≡ Some c → IsOwner book t c
       labels_on label begun t c is of owned = by (label_more label b node.kept.now.labels begun is)
         where
           by : (find (has_label label) node.kept.now.labels ≡ Some begun) ⊎ (b ≡ begun) → IsOwner book t c
           by (inl was) = h.holds.clients.labels label begun t c was of owned
-          by (inr same) = absurd (nobody t c (ap (λ (x : KeptLabel). x.tid) same ∙ of) (ap (λ (x : KeptLabel). x.owner) same ∙ owned))
+          by (inr same) = absurd (nobody t c (ap (λ (x : Begun). x.tid) same ∙ of) (ap (λ (x : Begun). x.owner) same ∙ owned))
 
       clients : HoldsClients book new
       clients = record {
@@ -232,16 +193,6 @@ module _ (stamp : ℕ) (before : BookValue) (work : Work) (h : HoldsWork stamp b
       lines_on : (c : ClientNo) (other : OpenCommand) → lookup (is_at (client_cmp c)) new.commands ≡ Some other → IsBehind book c other.line.line
       lines_on c other is = by (same_client_or c line.client)
         where
-          of_some : {X : Type 0} {x y : X} → Some x ≡ Some y → x ≡ y
-          of_some e = cc e
-
-          clash : true ≡ false → ⊥
-          clash e = cc e
-
-          false_by : (b : Bool) → (b ≡ true → ⊥) → b ≡ false
-          false_by false e = refl
-          false_by true e = absurd (e refl)
-
           itself : is_at (client_cmp line.client) line.client ≡ true
           itself = rw (tied_itself nat_cmp_total line.client.0) refl
 
@@ -249,7 +200,7 @@ module _ (stamp : ℕ) (before : BookValue) (work : Work) (h : HoldsWork stamp b
           by (inl same) =
               let now : Some (record { line = line; issued = None }) ≡ Some other =
               sym (lookup_put client_cmp line.client (record { line = line; issued = None }) (tied_itself nat_cmp_total line.client.0) node.commands) ∙ subst (λ (x : ClientNo). lookup (is_at (client_cmp x)) new.commands ≡ Some other) same is in
-              subst (λ (o : OpenCommand). IsBehind book c o.line.line) (of_some now) (subst (λ (x : ClientNo). IsBehind book x line.line) (sym same) behind)
+              subst (λ (o : OpenCommand). IsBehind book c o.line.line) (some_same now) (subst (λ (x : ClientNo). IsBehind book x line.line) (sym same) behind)
           by (inr far) = h.holds.clients.lines c other (sym (client_at c (far.1 line.client itself)) ∙ is)
 
       asking_on : (t : Tid) (c : ClientNo) → IsAsking node t c → IsAsking new t c

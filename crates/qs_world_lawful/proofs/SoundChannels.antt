@@ -1,11 +1,10 @@
 -- Channels are sound as a run begins, and after each thing that may happen to them.
-use Rattle.std.proofs.Common.{◌≡◌, ℕ, ◌<◌, ◌≤◌, ◌+◌, ◌++◌, suc, List, [], ◌∷◌, length, refl, sym, ap, subst, ◌∙◌, arith}
+use Rattle.qs_world_lawful.proofs.Words.{◌≡◌, ℕ, ◌<◌, ◌≤◌, ◌+◌, ◌++◌, suc, List, [], ◌∷◌, length, refl, sym, ap, subst, ◌∙◌, arith, Channels, with_at, with_at2, Parcel, AreSound, is_zero_plus}
 use Rattle.qs_session_channels.specs.Channels as channel
-use Rattle.qs_session_channels.specs.Channels.{Channels, with_at4}
-use Rattle.qs_session_channels.specs.Network.{with_at, with_at2}
-use Rattle.qs_world.specs.World.{Parcel}
-use Rattle.qs_world_lawful.specs.WayLaws.{AreSound, EachMovesSoundly, EachOpensSound}
+use Rattle.qs_session_channels.specs.Channels.{with_at4}
+use Rattle.qs_world_lawful.specs.WayLaws.{EachMovesSoundly, EachOpensSound}
 use Rattle.qs_world_lawful.proofs.ParcelsKept.{at_one, at_two}
+use Rattle.qs_base_lemmas.proofs.Tests.{lt_lt}
 
 never : {A : Type 0} (n : ℕ) → n < n → A
 never n e = absurd (no_less n e)
@@ -17,10 +16,7 @@ low : (a b : ℕ) → a ≤ b → b < a → ⊥
 low a b e f = grind (arith, e, f)
 
 pub length_both : (xs ys : List Parcel) → length (xs ++ ys) ≡ length xs + length ys
-length_both [] ys = zero_plus (length ys)
-  where
-    zero_plus : (n : ℕ) → n ≡ 0 + n
-    zero_plus n = grind (arith)
+length_both [] ys = is_zero_plus (length ys)
 length_both (x ∷ xs) ys = ap suc (length_both xs ys) ∙ suc_plus (length xs) (length ys)
   where
     suc_plus : (m n : ℕ) → suc (m + n) ≡ suc m + n
@@ -80,11 +76,8 @@ module _ (c : Channels Parcel) (known : (n m : ℕ) → c.peer n m ≤ c.inc m) 
     within = s.within;
   }
     where
-      trans : (a b d : ℕ) → a < b → b < d → a < d
-      trans a b d e f = grind (arith, e, f)
-
       before : (p k : ℕ) → with_at c.inc n i p < k → c.inc p < k
-      before p k = at_one (λ (p l : ℕ). l < k → c.inc p < k) c.inc n i (λ late. trans (c.inc n) i k may.1 late) (λ p late. late) p
+      before p k = at_one (λ (p l : ℕ). l < k → c.inc p < k) c.inc n i (λ late. lt_lt (c.inc n) i k may.1 late) (λ p late. late) p
 
 pub opens_sound : EachOpensSound
 opens_sound o = record { by_none = λ n m i j late. refl; for_none = λ n m i j late. refl; within = λ n m i j. none }

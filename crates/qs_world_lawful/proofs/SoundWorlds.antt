@@ -1,21 +1,12 @@
 -- The channels of a world are sound after each of its moves.
-use Rattle.std.proofs.Common.{◌≡◌, ℕ, ◌==◌, ◌<◌, ◌≤◌, ◌+◌, ◌++◌, ◌&&◌, not, Bool, true, false, List, [], ◌∷◌, length, Option, Some, None, refl, ap, arith, is_some, nat_le, nat_lt, if◌then◌else◌}
-use Rattle.std.proofs.lemmas.Bool.Decides.{nat_tests}
-use Rattle.std.proofs.lemmas.Option.{slice_get_within}
-use Rattle.std.specs.Prelude.{slice_get}
+use Rattle.qs_world_lawful.proofs.Words.{◌≡◌, ℕ, ◌==◌, ◌<◌, ◌≤◌, ◌+◌, ◌++◌, ◌&&◌, not, Bool, true, false, List, [], ◌∷◌, length, Option, Some, None, refl, ap, arith, is_some, nat_le, nat_lt, if◌then◌else◌, nat_tests, slice_get_within, slice_get, Channels, with_at, with_at2, effects_of, Event, Sending, Commanded, Clock, Handed, Meet, Noticed, Queues, Rise, Source, Step, event_of, is_later, next_parcel, post_all, post_next, Parcel, World, known_of, AreSound}
 use Rattle.qs_session_channels.specs.Channels as channel
-use Rattle.qs_session_channels.specs.Channels.{Channels}
-use Rattle.qs_session_channels.specs.Network.{with_at, with_at2}
-use Rattle.qs_node_step.specs.Step.{effects_of}
-use Rattle.qs_node_step.specs.declared.event.Event.{Event}
 use Rattle.qs_node_step.specs.declared.event.Event.TheVariants as events
-use Rattle.qs_node_step.specs.declared.event.Sending.{Sending}
-use Rattle.qs_world.specs.Moves.{Commanded, Clock, Cut, Handed, Meet, Noticed, Queues, Rise, Source, Step, Stop, cut_with, event_of, hand_next, is_before, is_in_order, is_later, node_no, step_with, taken_by}
-use Rattle.qs_world.specs.Posting.{next_parcel, post_all, post_next}
-use Rattle.qs_world.specs.World.{Parcel, World, known_of}
-use Rattle.qs_world_lawful.specs.WayLaws.{AreSound, EachWorldMovesSoundly}
+use Rattle.qs_world.specs.Moves.{Cut, Stop, cut_with, hand_next, is_before, is_in_order, node_no, step_with, taken_by}
+use Rattle.qs_world_lawful.specs.WayLaws.{EachWorldMovesSoundly}
 use Rattle.qs_world_lawful.proofs.ParcelsKept.{at_one, at_two}
 use Rattle.qs_world_lawful.proofs.SoundChannels.{length_both, more_posted, same_sound}
+use Rattle.std.proofs.lemmas.Bool.{leb-true}
 
 -- sound channels of nodes that know incarnations that began
 record AreGood (c : Channels Parcel) : Type 0 where
@@ -48,9 +39,6 @@ hands c n m x next g = record {
     own = of (length (c.handed m n (c.peer n m) (c.inc n))) (length (c.handed m n (c.peer n m) (c.inc n) ++ x ∷ [])) (length (c.posted m n (c.peer n m) (c.inc n))) (length_both (c.handed m n (c.peer n m) (c.inc n)) (x ∷ []))
         (slice_get_within (c.posted m n (c.peer n m) (c.inc n)) (length (c.handed m n (c.peer n m) (c.inc n))) x next)
 
-is_low : (k l : ℕ) → nat_le k l ≡ true → k ≤ l
-is_low k l e = grind (arith, nat_tests, e)
-
 takes : (world : World) (n stamp : ℕ) (source : Source) → is_some (event_of world n stamp source) ≡ true → AreGood world.channels → AreGood (taken_by world n source)
 takes world n stamp (Commanded k) is g = g
 takes world n stamp Queues is g = g
@@ -62,7 +50,7 @@ takes world n stamp (Handed m) is g = by (next_parcel world n m) refl
     by (Some parcel) next = hands world.channels n m parcel next g
 takes world n stamp (Noticed m new) is g = record {
   sound = same_sound world.channels g.known g.sound _ refl refl refl;
-  known = at_two (λ (p q k : ℕ). k ≤ world.channels.inc q) world.channels.peer n m new (is_low new (world.channels.inc m) (begun (nat_lt 0 (known_of world n m)) (nat_lt (known_of world n m) new) (nat_le new (world.channels.inc m)) (is_before stamp (world.born m new)) is)) g.known;
+  known = at_two (λ (p q k : ℕ). k ≤ world.channels.inc q) world.channels.peer n m new (leb-true new (world.channels.inc m) (begun (nat_lt 0 (known_of world n m)) (nat_lt (known_of world n m) new) (nat_le new (world.channels.inc m)) (is_before stamp (world.born m new)) is)) g.known;
 }
   where
     begun : (a b c d : Bool) → is_some (if a && (b && (c && d)) then Some (events.PeerRestarted (node_no m) (known_of world n m) new) else None) ≡ true → c ≡ true
@@ -119,7 +107,7 @@ world_moves_soundly (Meet n stamp m inc) world may known sound = record { by_non
     begun false t u w x y z e = absurd (cc e)
 
     low : inc ≤ world.channels.inc m
-    low = is_low inc (world.channels.inc m) (begun (world.channels.up n) (is_later world n stamp) (not (m == n) && nat_lt m world.size) (known_of world n m == 0) (nat_lt 0 inc) (nat_le inc (world.channels.inc m)) (is_before stamp (world.born m inc)) may)
+    low = leb-true inc (world.channels.inc m) (begun (world.channels.up n) (is_later world n stamp) (not (m == n) && nat_lt m world.size) (known_of world n m == 0) (nat_lt 0 inc) (nat_le inc (world.channels.inc m)) (is_before stamp (world.born m inc)) may)
 
     p : AreSound (record world.channels { posted = channel.with_at4 world.channels.posted n m (world.channels.inc n) inc (world.channels.posted n m (world.channels.inc n) inc ++ world.channels.waits n m) })
     p = more_posted world.channels known sound n m inc (world.channels.waits n m) low

@@ -1,22 +1,8 @@
 -- What waits of a transaction stands, as requests that came are served.
-use Rattle.std.proofs.Common.{◌≡◌, ◌≢◌, ◌⊎◌, inl, inr, ℕ, ◌≤◌, Bool, true, false, List, [], ◌∷◌, Some, refl, sym, ap, subst, ◌∙◌, length, drop, map}
-use Rattle.std.specs.List.{filter, find}
-use Rattle.qs_base.specs.Order.{same_member}
-use Rattle.qs_base.specs.declared.identifiers.Member.{Member}
-use Rattle.qs_base.specs.declared.identifiers.NodeNo.{NodeNo}
-use Rattle.qs_base.specs.declared.identifiers.ServerNo.{ServerNo}
-use Rattle.qs_base.specs.declared.identifiers.Tid.{Tid}
-use Rattle.qs_base.proofs.Same.{same_member-self, same_member-true}
-use Rattle.qs_ipc.specs.declared.delivery.Delivery.{Delivery}
-use Rattle.qs_book_machine.specs.Transaction.{TransactionValue, is_crossed, is_standing, part_of, requests_at, served_in, standing_request, request_cmp}
-use Rattle.qs_book_machine.specs.declared.transaction.Request.{Request}
-use Rattle.qs_book_machine.specs.declared.transaction.RequestNo.{RequestNo}
-use Rattle.qs_ops.specs.Table.{share_of}
-use Rattle.qs_ops.specs.declared.operation.Op.{Op}
-use Rattle.qs_node_servers.specs.Servers.{ServersValue}
+use Rattle.qs_world_lawful.proofs.Words.{◌≡◌, ◌≢◌, ◌⊎◌, inl, inr, ℕ, ◌≤◌, Bool, true, false, List, [], ◌∷◌, Some, refl, sym, ap, subst, ◌∙◌, length, drop, map, filter, find, same_member, Member, NodeNo, ServerNo, Tid, same_member-self, same_member-true, Delivery, TransactionValue, is_crossed, is_standing, requests_at, served_in, standing_request, request_cmp, Request, RequestNo, share_of, Op, ServersValue, at_server, AreFor, HoldsWaits, IsWithin, op_in, waiting_ops, standing_ops, is_idle}
+use Rattle.qs_world_lawful.proofs.Words.{false≢true}
+use Rattle.qs_book_machine.specs.Transaction.{part_of}
 use Rattle.qs_tm.specs.Members as rules
-use Rattle.qs_world_lawful.specs.Face.{at_server}
-use Rattle.qs_world_lawful.specs.Waits.{AreFor, HoldsWaits, IsWithin, op_in, waiting_ops, standing_ops, is_idle}
 use Rattle.qs_world_lawful.proofs.Keys.{KeyApart, same_key_or, request_exact, request_itself}
 use Rattle.qs_world_lawful.proofs.ServedTid as serving
 use Rattle.qs_world_lawful.proofs.Within.{within_served, within_one, map_length, mark_first, mark_apart, mark_fewer}
@@ -50,10 +36,7 @@ module _ (here : NodeNo) (inc stamp number : ℕ) (from : NodeNo) (server : Serv
 
         at_key : (b : Bool) → same_member member (at_server here other) ≡ b → IsWithin (waiting_ops at (waiting other)) (standing_ops now at here other)
         at_key true is = subst (λ (s : ServerNo). IsWithin (waiting_ops at (waiting s)) (standing_ops now at here s)) (ap (λ (m : Member). m.server) (same_member-true member (at_server here other) is)) own
-        at_key false is = elsewhere (λ e. clash (sym is ∙ subst (λ (m : Member). same_member member m ≡ true) e (same_member-self member)))
-          where
-            clash : false ≡ true → ⊥
-            clash c = cc c
+        at_key false is = elsewhere (λ e. false≢true (sym is ∙ subst (λ (m : Member). same_member member m ≡ true) e (same_member-self member)))
 
         by : (at ≡ key) ⊎ KeyApart request_cmp request_exact request_itself at key → IsWithin (waiting_ops key (waiting other)) (standing_ops now key here other)
         by (inl same) = subst (λ (k : RequestNo). IsWithin (waiting_ops k (waiting other)) (standing_ops now k here other)) same (at_key (same_member member (at_server here other)) refl)
@@ -78,10 +61,7 @@ module _ (here : NodeNo) (inc stamp number : ℕ) (from : NodeNo) (server : Serv
 
         at_key : (b : Bool) → same_member member (at_server here other) ≡ b → AreFor other (standing_ops now at here other)
         at_key true is = subst (λ (s : ServerNo). AreFor s (standing_ops now at here s)) (ap (λ (m : Member). m.server) (same_member-true member (at_server here other) is)) own
-        at_key false is = elsewhere (λ e. clash (sym is ∙ subst (λ (m : Member). same_member member m ≡ true) e (same_member-self member)))
-          where
-            clash : false ≡ true → ⊥
-            clash c = cc c
+        at_key false is = elsewhere (λ e. false≢true (sym is ∙ subst (λ (m : Member). same_member member m ≡ true) e (same_member-self member)))
 
         by : (at ≡ key) ⊎ KeyApart request_cmp request_exact request_itself at key → AreFor other (standing_ops now key here other)
         by (inl same) = subst (λ (k : RequestNo). AreFor other (standing_ops now k here other)) same (at_key (same_member member (at_server here other)) refl)

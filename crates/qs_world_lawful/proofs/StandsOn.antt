@@ -1,22 +1,7 @@
 -- What stands at each stage of a step stands on: the node's setting and its own facts, and what the homes have, by themselves; the rest as given.
-use Rattle.std.proofs.Common.{◌≡◌, ℕ, refl, ap, sym, subst, ◌∙◌}
-use Rattle.qs_book_machine.specs.Book.{BookValue}
-use Rattle.qs_node_step.specs.Serving.{serve_next}
-use Rattle.qs_node_step.specs.Settling.{forget_rule, is_pass_due, pass_rule, ready_rule, refuse_rule, try}
-use Rattle.qs_node_step.specs.State.{NodeValue, Work, work_on}
-use Rattle.qs_node_step.specs.Step.{happen, wait_on}
-use Rattle.qs_node_step.specs.Telling.{forget}
-use Rattle.qs_node_step.specs.Voting.{vote_pass}
-use Rattle.qs_node_step.specs.declared.event.Event.{Event}
-use Rattle.qs_node_step.specs.declared.setting.Setting.{Setting}
-use Rattle.qs_tm.specs.Participant.{is_forgotten}
-use Rattle.qs_world_lawful.specs.Beside.{HoldsBeside}
-use Rattle.qs_world_lawful.specs.Entering.{HoldsWork, book_at}
-use Rattle.qs_world_lawful.specs.GivenStep.{MayStep, first_work}
-use Rattle.qs_world_lawful.specs.NodeFacts.{FitsEvent, HasNodeFacts}
-use Rattle.qs_world_lawful.specs.Standing.{HoldsHomes, KeepsStanding, Stands, StandsBy}
+use Rattle.qs_world_lawful.proofs.Words.{◌≡◌, ℕ, refl, ap, sym, subst, ◌∙◌, BookValue, serve_next, forget_rule, is_pass_due, pass_rule, ready_rule, refuse_rule, try, Work, work_on, happen, wait_on, forget, vote_pass, Event, Setting, is_forgotten, HoldsBeside, HoldsWork, book_at, MayStep, first_work, FitsEvent, HasNodeFacts, HoldsHomes, KeepsStanding, Stands, StandsBy, StepStands}
+use Rattle.qs_node_step.specs.State.{NodeValue}
 use Rattle.qs_world_lawful.specs.StandingOn.{KeepsBeside, StepBeside}
-use Rattle.qs_world_lawful.specs.StepStands.{StepStands}
 use Rattle.qs_world_lawful.proofs.FactsRules.{serve_next_keeps}
 use Rattle.qs_world_lawful.proofs.FactsStages.{forgets_keep, happens_keep, passes_keep, readies_keep, refuses_keep, waits_keep}
 use Rattle.qs_world_lawful.proofs.FactsTold.{begin_incarnation_keeps}

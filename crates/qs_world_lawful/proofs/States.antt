@@ -1,22 +1,12 @@
 -- What an entry does at the servers of a node leaves whether it is up, its incarnation, its count of begun transactions, its format.
-use Rattle.std.proofs.Common.{ℕ, Bool, true, false, Option, Some, None, refl, ◌∙◌, map}
-use Rattle.std.specs.Prelude.{◌==◌, ◌&&◌, if◌then◌else◌}
-use Rattle.qs_base.specs.declared.identifiers.Member.{Member}
-use Rattle.qs_base.specs.declared.identifiers.Tid.{Tid}
-use Rattle.qs_ops.specs.Servers.{files_no, audit_no, names_no, timers_no, windows_no, scratch_no}
-use Rattle.qs_ops.specs.Table.{TableValue, released, served, committed, with_vote}
-use Rattle.qs_ops.specs.Timers.{timers_ended, timer_served}
-use Rattle.qs_ops.specs.declared.operation.Op.{Op}
-use Rattle.qs_ops.specs.declared.reply.Reply.{Reply}
-use Rattle.qs_ops.specs.declared.vote.Vote.{Vote}
+use Rattle.qs_world_lawful.proofs.Words.{ℕ, Bool, true, false, Option, Some, None, refl, ◌∙◌, map, ◌==◌, ◌&&◌, if◌then◌else◌, Member, Tid, names_no, windows_no, scratch_no, TableValue, released, served, committed, timers_ended, timer_served, Op, Reply, Vote, Outcome, server_serve, serve_node, crossed_serve, vote_node, learn_node, doubts_after, TransactionValue, is_crossed, standing_request, requests_at, Request, RequestNo, with_table, crossed_node, crossed_names, crossed_table, with_doubts}
+use Rattle.qs_world_lawful.proofs.Words.{bound_names}
+use Rattle.qs_ops.specs.Servers.{files_no, audit_no, timers_no}
+use Rattle.qs_ops.specs.Table.{with_vote}
 use Rattle.qs_ops.specs.declared.vote.Vote.TheVariants as votes
-use Rattle.qs_base.specs.declared.identifiers.Outcome.{Outcome}
 use Rattle.qs_base.specs.declared.identifiers.Outcome.TheVariants as outcomes
-use Rattle.qs_book_machine.specs.Book.{server_serve, serve_node, crossed_serve, is_done, vote_node, learn_node, doubts_after}
-use Rattle.qs_book_machine.specs.Transaction.{TransactionValue, is_crossed, standing_request, requests_at}
-use Rattle.qs_book_machine.specs.declared.transaction.Request.{Request}
-use Rattle.qs_book_machine.specs.declared.transaction.RequestNo.{RequestNo}
-use Rattle.qs_book_machine.specs.Nodes.{NodeValue, with_table, crossed_node, crossed_names, crossed_table, with_doubts, without_doubts, bound_names}
+use Rattle.qs_book_machine.specs.Book.{is_done}
+use Rattle.qs_book_machine.specs.Nodes.{NodeValue, without_doubts}
 use Rattle.qs_world_lawful.proofs.Frames.{SameState}
 
 pub state_itself : (node : NodeValue) → SameState node node

@@ -1,21 +1,7 @@
 -- A whole step of a node of a run, all of it: its entries are lawful, what is held of the node is held after it, and channels hold what is so.
-use Rattle.std.proofs.Common.{◌≡◌, ◌++◌, ℕ, List, ap, sym, subst, ◌∙◌}
-use Rattle.std.specs.Prelude.{length}
-use Rattle.qs_book_journal.specs.declared.entry.Entry.{Entry}
-use Rattle.qs_book_laws.proofs.Steps.{after_both}
-use Rattle.qs_book_machine.specs.Book.{BookValue}
-use Rattle.qs_book_machine.specs.Lawful.{IsLawful, book_after}
-use Rattle.qs_book_machine.specs.Opening.{opening}
+use Rattle.qs_world_lawful.proofs.Words.{◌≡◌, ◌++◌, ℕ, List, ap, sym, subst, ◌∙◌, length, Entry, after_both, BookValue, IsLawful, book_after, opening, after_step, effects_of, step_work, Event, Setting, entries_of, InRun, book_at, entries_so_far, Holds, StepOn}
 use Rattle.qs_node_step.specs.State.{NodeValue}
-use Rattle.qs_node_step.specs.Step.{after_step, effects_of, step_work}
-use Rattle.qs_node_step.specs.declared.event.Event.{Event}
-use Rattle.qs_node_step.specs.declared.setting.Setting.{Setting}
-use Rattle.qs_world.specs.Posting.{entries_of}
-use Rattle.qs_world_lawful.specs.Amid.{InRun}
-use Rattle.qs_world_lawful.specs.Entering.{book_at, entries_so_far}
-use Rattle.qs_world_lawful.specs.Holds.{Holds}
 use Rattle.qs_world_lawful.specs.StepKeeps.{KeptThen, StepKeeps, entered_by}
-use Rattle.qs_world_lawful.specs.StepOn.{StepOn}
 use Rattle.qs_world_lawful.proofs.BesideGoes.{joined}
 use Rattle.qs_world_lawful.proofs.BesideSent.{channels_after, lawful_on}
 use Rattle.qs_world_lawful.proofs.BesideWhole.{beside_after, held_after, logged_after, may_step_on}

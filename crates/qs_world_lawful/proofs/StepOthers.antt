@@ -1,12 +1,6 @@
 -- In the world a whole step of one node leaves all that is held of each other.
-use Rattle.std.proofs.Common.{◌≡◌, ℕ, ◌++◌, Bool, sym, subst}
-use Rattle.qs_book_machine.specs.Book.{BookValue}
-use Rattle.qs_book_machine.specs.Lawful.{book_after}
-use Rattle.qs_book_machine.specs.Opening.{opening}
-use Rattle.qs_world.specs.Moves.{Step, moved}
-use Rattle.qs_world.specs.World.{Host, World, inc_of}
+use Rattle.qs_world_lawful.proofs.Words.{◌≡◌, ℕ, ◌++◌, Bool, sym, subst, BookValue, book_after, opening, Step, moved, Host, World, inc_of, HoldsNodeAt, HoldsNodeOf}
 use Rattle.qs_world_lawful.specs.AsideLaws.{EachStepKeepsOtherNodes}
-use Rattle.qs_world_lawful.specs.Worlds.{HoldsNodeAt, HoldsNodeOf}
 use Rattle.qs_world_lawful.proofs.AsideWhole.{keeps_others}
 use Rattle.qs_world_lawful.proofs.StepWays.{KeepsWay, step_keeps}
 

@@ -1,24 +1,10 @@
 -- A whole step of one node leaves what two others have on its way between them.
-use Rattle.std.proofs.Common.{◌≡◌, ℕ, ◌+◌, ◌-◌, ◌==◌, ◌++◌, Bool, true, false, List, [], ◌∷◌, drop, length, Option, Some, None, refl, sym, ap, ◌∙◌, if◌then◌else◌}
-use Rattle.qs_base.specs.declared.identifiers.ServerNo.{ServerNo}
-use Rattle.qs_base.specs.declared.identifiers.Tid.{Tid}
+use Rattle.qs_world_lawful.proofs.Words.{◌≡◌, ℕ, ◌+◌, ◌-◌, ◌==◌, ◌++◌, Bool, true, false, List, [], ◌∷◌, drop, length, Option, Some, None, refl, sym, ap, ◌∙◌, if◌then◌else◌, ServerNo, Tid, Channels, after_both, lawful_front, lawful_rest, BookValue, find_transaction, book_after, opening, after_step, effects_of, Effects, Event, Sending, Commanded, Clock, Handed, Noticed, Queues, Source, Step, event_of, moved, next_parcel, post_all, post_next, Parcel, World, on_its_way, ops_of, pending_from}
+use Rattle.qs_world_lawful.proofs.Words.{way_between, waiting_ops}
 use Rattle.qs_session_channels.specs.Channels as channel
-use Rattle.qs_session_channels.specs.Channels.{Channels}
-use Rattle.qs_book_laws.proofs.Steps.{after_both, lawful_front, lawful_rest}
-use Rattle.qs_book_machine.specs.Book.{BookValue, find_transaction}
-use Rattle.qs_book_machine.specs.Lawful.{book_after}
-use Rattle.qs_book_machine.specs.Opening.{opening}
 use Rattle.qs_node_step.specs.State.{NodeValue}
-use Rattle.qs_node_step.specs.Step.{after_step, effects_of}
-use Rattle.qs_node_step.specs.declared.event.Effects.{Effects}
-use Rattle.qs_node_step.specs.declared.event.Event.{Event}
-use Rattle.qs_node_step.specs.declared.event.Sending.{Sending}
-use Rattle.qs_world.specs.Moves.{Commanded, Clock, Handed, Noticed, Queues, Source, Step, event_of, hand_next, moved, step_with, stepped, taken_by}
-use Rattle.qs_world.specs.Posting.{next_parcel, post_all, post_next}
-use Rattle.qs_world.specs.World.{Parcel, World}
+use Rattle.qs_world.specs.Moves.{hand_next, step_with, stepped, taken_by}
 use Rattle.qs_world_lawful.specs.Face.{waiting_at}
-use Rattle.qs_world_lawful.specs.Parcels.{on_its_way, ops_of, pending_from, way_between}
-use Rattle.qs_world_lawful.specs.Waits.{waiting_ops}
 use Rattle.qs_world_lawful.specs.WayLaws.{EachStepKeepsOtherWays}
 use Rattle.qs_world_lawful.proofs.LastsOpening.{lasts_first, lasts_ran}
 use Rattle.qs_world_lawful.proofs.NumberedLogs.{opening_named}

@@ -1,25 +1,8 @@
 -- What an entry of a node leaves of the order, of the nodes, and of what clients see.
-use Rattle.std.proofs.Common.{◌≡◌, ◌⊎◌, inl, inr, ℕ, ◌==◌, Bool, true, List, [], ◌∷◌, Option, Some, None, zero, suc, refl, sym, ap, subst, ◌∙◌, arith, nat_lt, length}
-use Rattle.std.proofs.lemmas.Bool.Decides.{nat_tests}
-use Rattle.std.specs.Prelude.{not, ◌&&◌, ◌||◌, ◌^◌, slice_get, slice_set, is_some}
-use Rattle.std.specs.Option.{option_map}
-use Rattle.std.specs.Map.{lookup}
-use Rattle.std.specs.BTreeMap.{is_at}
-use Rattle.qs_base.specs.Order.{tid_cmp}
-use Rattle.qs_base.specs.declared.identifiers.Tid.{Tid}
-use Rattle.qs_book_machine.specs.Transaction.{TransactionValue, changed_value}
-use Rattle.qs_book_machine.specs.Book.{BookValue, find_transaction, changed_at}
-use Rattle.qs_book_machine.specs.declared.state.Owner.{Owner}
-use Rattle.qs_book_laws.proofs.Maps.{lookup_changed, changed_apart, changed_alike, changed_at_alike}
+use Rattle.qs_world_lawful.proofs.Words.{◌≡◌, ◌⊎◌, inl, inr, ℕ, ◌==◌, Bool, true, List, [], ◌∷◌, Option, Some, None, zero, suc, refl, sym, ap, subst, ◌∙◌, arith, nat_lt, length, nat_tests, not, ◌&&◌, ◌||◌, ◌^◌, slice_get, slice_set, is_some, option_map, lookup, is_at, tid_cmp, Tid, TransactionValue, changed_value, BookValue, find_transaction, changed_at, Owner, lookup_changed, changed_apart, changed_alike, changed_at_alike, face_of, Holds, HoldsTid, HoldsAt, HoldsClients, is_next, NodeNo, share_of}
+use Rattle.qs_world_lawful.proofs.Words.{ServersValue, HoldsServers, is_seen, HoldsWaits, HoldsWaitsAt, is_idle}
 use Rattle.qs_book_machine.specs.Nodes as machine
 use Rattle.qs_node_step.specs.State.{NodeValue}
-use Rattle.qs_world_lawful.specs.Face.{face_of}
-use Rattle.qs_world_lawful.specs.Holds.{Holds, HoldsTid, HoldsAt, HoldsClients, is_next}
-use Rattle.qs_base.specs.declared.identifiers.NodeNo.{NodeNo}
-use Rattle.qs_ops.specs.Table.{share_of}
-use Rattle.qs_node_servers.specs.Servers.{ServersValue}
-use Rattle.qs_world_lawful.specs.Tables.{HoldsServers, is_seen}
-use Rattle.qs_world_lawful.specs.Waits.{HoldsWaits, HoldsWaitsAt, is_idle}
 use Rattle.qs_world_lawful.proofs.Apart.{Apart, same_or_apart}
 use Rattle.qs_world_lawful.proofs.CrossedTables.{servers_alike}
 use Rattle.qs_world_lawful.proofs.SameWaits.{waits_alike, crossings, seen_alike}

@@ -1,8 +1,6 @@
 -- What is held of a node is held whichever stamp its next entry has.
-use Rattle.std.proofs.Common.{◌≡◌, ℕ, true, sym, subst}
-use Rattle.qs_book_machine.specs.Book.{BookValue}
+use Rattle.qs_world_lawful.proofs.Words.{◌≡◌, ℕ, true, sym, subst, BookValue, Holds, HoldsStill, is_next}
 use Rattle.qs_node_step.specs.State.{NodeValue}
-use Rattle.qs_world_lawful.specs.Holds.{Holds, HoldsStill, is_next}
 
 pub still_held : (stamp : ℕ) (book : BookValue) (node : NodeValue) → Holds stamp book node → HoldsStill book node
 still_held stamp book node h = record { run = h.run; state = h.state; there = h.there; same = h.same; at = h.at; begun = h.begun; clients = h.clients; servers = h.servers; waits = h.waits }

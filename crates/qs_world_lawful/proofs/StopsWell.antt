@@ -1,50 +1,17 @@
 -- A node stops, in place of a step or in one whose batch is lost: what its log says on the disk is what a restart will find, and no more.
-use Rattle.std.proofs.Common.{◌≡◌, inl, inr, ℕ, ◌<◌, ◌==◌, ◌&&◌, ◌||◌, ◌++◌, not, Bool, true, false, List, [], ◌∷◌, flat_map, Option, Some, None, fold, refl, sym, ap, subst, ◌∙◌, arith, if◌then◌else◌, is_some, nat_lt}
-use Rattle.std.proofs.lemmas.Bool.Decides.{nat_tests}
-use Rattle.std.proofs.lemmas.Grind.{flat_map-append}
-use Rattle.std.specs.Prelude.{slice_get}
-use Rattle.std.specs.Map.{lookup}
-use Rattle.std.specs.BTreeMap.{is_at}
-use Rattle.qs_base.specs.Order.{same_tid, tid_cmp}
-use Rattle.qs_base.proofs.Same.{same_tid-self}
-use Rattle.qs_base.specs.declared.identifiers.ClientNo.{ClientNo}
-use Rattle.qs_base.specs.declared.identifiers.NodeNo.{NodeNo}
-use Rattle.qs_base.specs.declared.identifiers.Tid.{Tid}
+use Rattle.qs_world_lawful.proofs.Words.{◌≡◌, inl, inr, ℕ, ◌<◌, ◌==◌, ◌&&◌, ◌||◌, ◌++◌, not, Bool, true, false, List, [], ◌∷◌, flat_map, Option, Some, None, fold, refl, sym, ap, subst, ◌∙◌, if◌then◌else◌, is_some, nat_lt, flat_map-append, slice_get, lookup, is_at, same_tid, tid_cmp, same_tid-self, ClientNo, NodeNo, Tid, CrashCause, Entry, Found, Decided, changed_at_here, keeps_contents, BookValue, cell_of_transaction, crash_node, find_transaction, has_vote, is_crash, broken, effect, record_of}
+use Rattle.qs_world_lawful.proofs.Words.{add_commit, commits_found, could_vote, has_record, is_among, is_new_vote, is_on_record, new_vote, new_votes, put_new_votes, record_at, with_votes, TransactionValue, is_commit, OnRecord, Voter, Cell, applied, Op, Record, Prepared, Recovery, recovery, stopped, stopped_host, entry_of, Host, World, inc_of, HasEnded, IsOwner, MayBeTold, Lasts, HasCommitted, HoldsLogged, IsCommitMade, Later, Every, IsVoteLogged, found_of, found_votes, HoldsLeft, HoldsSaid}
+use Rattle.qs_world_lawful.proofs.Words.{IsMadeBy, IsApart, IsAsRecorded, IsRecorded, IsToBeRecorded, HoldsDown, HoldsKept, HoldsNodeAt, HoldsNodeOf, HoldsUp, HoldsWorld, IsLeftOpen, IsLoanOf, IsOpenStill, lt-ltb, and_right, or_left, or_right, ltb-true, and_parts, eqb-self}
 use Rattle.qs_book_journal.specs.declared.entry.Act.TheVariants as acts
-use Rattle.qs_book_journal.specs.declared.entry.CrashCause.{CrashCause}
-use Rattle.qs_book_journal.specs.declared.entry.Entry.{Entry}
-use Rattle.qs_book_journal.specs.declared.entry.Found.{Found}
-use Rattle.qs_node_kept.specs.declared.kept.Decided.{Decided}
 use Rattle.qs_node_kept.specs.declared.kept.Kept.{Kept}
-use Rattle.qs_book_laws.proofs.Maps.{changed_at_here}
-use Rattle.qs_book_laws.specs.Served.{keeps_contents}
-use Rattle.qs_book_machine.specs.Book.{BookValue, cell_of_transaction, crash_node, find_transaction}
-use Rattle.qs_book_machine.specs.Clauses.{has_vote, is_crash}
-use Rattle.qs_book_machine.specs.Lawful.{broken, effect}
 use Rattle.qs_book_machine.specs.Nodes as machine
-use Rattle.qs_book_machine.specs.Nodes.{record_of}
-use Rattle.qs_book_machine.specs.Restart.{add_commit, changes_at, commits_found, could_vote, has_record, is_among, is_new_vote, is_on_record, new_vote, new_votes, put_new_votes, record_at, vote_as_stopped, with_votes}
-use Rattle.qs_book_machine.specs.Transaction.{TransactionValue, is_before, is_commit, was_committed, was_in_commit}
-use Rattle.qs_book_machine.specs.declared.state.OnRecord.{OnRecord}
-use Rattle.qs_book_machine.specs.declared.state.Voter.{Voter}
-use Rattle.qs_book_machine.specs.declared.transaction.Cell.{Cell}
+use Rattle.qs_book_machine.specs.Restart.{changes_at, vote_as_stopped}
+use Rattle.qs_book_machine.specs.Transaction.{is_before, was_committed, was_in_commit}
 use Rattle.qs_book_machine.specs.declared.transaction.Cell.TheVariants as cells
 use Rattle.qs_ops.specs.Servers.{audit_no, files_no}
-use Rattle.qs_ops.specs.Table.{applied}
-use Rattle.qs_ops.specs.declared.operation.Op.{Op}
 use Rattle.qs_ops.specs.declared.vote.Vote.TheVariants as votes
-use Rattle.qs_record.specs.declared.record.Record.{Record}
-use Rattle.qs_restart.specs.Recovery.{Prepared, Recovery, recovery}
-use Rattle.qs_world.specs.Moves.{is_in_order, stopped, stopped_host}
+use Rattle.qs_world.specs.Moves.{is_in_order}
 use Rattle.qs_world.specs.Moves as moves
-use Rattle.qs_world.specs.Posting.{entry_of}
-use Rattle.qs_world.specs.World.{Host, World, inc_of}
-use Rattle.qs_world_lawful.specs.Holds.{HasEnded, IsOwner, MayBeTold}
-use Rattle.qs_world_lawful.specs.Lasting.{Lasts}
-use Rattle.qs_world_lawful.specs.Logged.{HasCommitted, HoldsLogged, IsCommitMade, Later}
-use Rattle.qs_world_lawful.specs.Logs.{Every, IsVoteLogged, found_of, found_votes}
-use Rattle.qs_world_lawful.specs.Said.{HoldsLeft, HoldsSaid, IsMadeBy, IsApart, IsAsRecorded, IsRecorded, IsToBeRecorded}
-use Rattle.qs_world_lawful.specs.Worlds.{HoldsDown, HoldsKept, HoldsNodeAt, HoldsNodeOf, HoldsUp, HoldsWorld, IsLeftOpen, IsLoanOf, IsOpenStill}
 use Rattle.qs_world_lawful.proofs.LogCrashes.{may_crash}
 use Rattle.qs_world_lawful.proofs.LogCrashes as crashes
 use Rattle.qs_world_lawful.proofs.LogFrames.{every_on, logged_on}
@@ -99,15 +66,8 @@ none_found here book changes done all = from done [] all refl
 -- ---- the whole
 
 module _ (book : BookValue) (world : World) (n stamp : ℕ) (cause : CrashCause) (lasts : Lasts book) (h : HoldsWorld book world) (up : world.channels.up n ≡ true) (ordered : is_in_order world n stamp ≡ true) (crash : is_crash cause ≡ true) (disk : List Record) where
-  and_both : (a b : Bool) → (a && b) ≡ true → (a ≡ true) × (b ≡ true)
-  and_both true b e = (refl, e)
-  and_both false b e = absurd (cc e)
-
   in_run : n < world.size
-  in_run = less n world.size (and_both (nat_lt n world.size) (nat_lt stamp moves.stamp_limit) (and_both (nat_lt n world.size && nat_lt stamp moves.stamp_limit) _ ordered).0).0
-    where
-      less : (a b : ℕ) → nat_lt a b ≡ true → a < b
-      less a b e = grind (arith, nat_tests, e)
+  in_run = ltb-true n world.size (and_parts (nat_lt n world.size) (nat_lt stamp moves.stamp_limit) (and_parts (nat_lt n world.size && nat_lt stamp moves.stamp_limit) _ ordered).0).0
 
   pub at : HoldsNodeAt book world n
   at = h.nodes n in_run
@@ -153,10 +113,7 @@ module _ (book : BookValue) (world : World) (n stamp : ℕ) (cause : CrashCause)
 
   -- the entry is lawful, and the machine has the node that is down, where it has what its log says
   pub stops_by : HoldsDown n now state_now host → (broken book entry ≡ None) × HoldsNodeAt now (stopped world n stamp cause disk) n
-  stops_by down = (lawful, subst (λ (b : Bool). HoldsNodeOf now world.size n (inc_of world n) (if b then false else world.channels.up n) (if b then host else world.hosts n)) (sym (self n)) (node_now down))
-    where
-      self : (k : ℕ) → (k == k) ≡ true
-      self k = grind (arith, nat_tests)
+  stops_by down = (lawful, subst (λ (b : Bool). HoldsNodeOf now world.size n (inc_of world n) (if b then false else world.channels.up n) (if b then host else world.hosts n)) (sym (eqb-self n)) (node_now down))
 
   -- a log that has nothing new
   module _ (logged : HoldsLogged n book at.state log) (said : HoldsSaid n book at.state log) where
@@ -191,17 +148,10 @@ module _ (book : BookValue) (world : World) (n stamp : ℕ) (cause : CrashCause)
 
         before : (o : Option ℕ) → applied.tx.decided ≡ o → (is_commit applied.tx.cell && (not (is_some o) || is_before book.place o)) ≡ true
         before None e = rw cell refl
-        before (Some p) e = rw cell (low p book.place (lasts.past v.tid applied.tx p applied.found e))
-          where
-            low : (a b : ℕ) → a < b → nat_lt a b ≡ true
-            low a b e = grind (arith, nat_tests, e)
+        before (Some p) e = rw cell (lt-ltb p book.place (lasts.past v.tid applied.tx p applied.found e))
 
         past : was_committed book.place applied.tx ≡ true
         past = before applied.tx.decided refl
-
-        and_false : (a b : Bool) → b ≡ false → (a && b) ≡ false
-        and_false true b e = e
-        and_false false b e = refl
 
         between : (a b c : Bool) → b ≡ false → (a && (b && c)) ≡ false
         between true true c e = absurd (cc e)
@@ -209,10 +159,10 @@ module _ (book : BookValue) (world : World) (n stamp : ℕ) (cause : CrashCause)
         between false b c e = refl
 
         in_commit : was_in_commit book.place applied.tx ≡ false
-        in_commit = and_false (is_before book.place applied.tx.asked) (not (was_committed book.place applied.tx)) (ap not past)
+        in_commit = and_right (is_before book.place applied.tx.asked) (not (was_committed book.place applied.tx)) (ap not past)
 
         clear : (not (is_on_record state_now (found_of v)) && could_vote n state_now applied.tx (found_of v)) ≡ false
-        clear = and_false (not (is_on_record state_now (found_of v))) (could_vote n state_now applied.tx (found_of v)) (between (has_vote v.server.0 votes.Recoverable) (was_in_commit book.place applied.tx) _ in_commit)
+        clear = and_right (not (is_on_record state_now (found_of v))) (could_vote n state_now applied.tx (found_of v)) (between (has_vote v.server.0 votes.Recoverable) (was_in_commit book.place applied.tx) _ in_commit)
 
     votes_none : new_votes n now (found_votes log) ≡ []
     votes_none = new_votes_are n now state_now (found_votes log) there_now ∙ none_new n now state_now (found_votes log)
@@ -230,15 +180,7 @@ module _ (book : BookValue) (world : World) (n stamp : ℕ) (cause : CrashCause)
 
     every_self : (P : Tid → Type 0) (tids : List Tid) → ((tid : Tid) → is_among tids tid ≡ true → P tid) → Every P tids
     every_self P [] gives = tt
-    every_self P (t ∷ tids) gives = (gives t (first (same_tid t t) (is_among tids t) (same_tid-self t)), every_self P tids (λ u is. gives u (any (same_tid u t) (is_among tids u) is)))
-      where
-        first : (a b : Bool) → a ≡ true → (a || b) ≡ true
-        first true b e = refl
-        first false b e = absurd (cc e)
-
-        any : (a b : Bool) → b ≡ true → (a || b) ≡ true
-        any true b e = refl
-        any false b e = e
+    every_self P (t ∷ tids) gives = (gives t (or_left (same_tid t t) (is_among tids t) (same_tid-self t)), every_self P tids (λ u is. gives u (or_right (same_tid u t) (is_among tids u) is)))
 
     nothing_found : (server : ℕ) → keeps_contents server ≡ true → flat_map (changes_at n mid server) (commits_found n mid log.committed) ≡ []
     nothing_found server keeps = none_found n mid (changes_at n mid server) log.committed (every_self (λ (tid : Tid). changes_at n mid server tid ≡ []) log.committed (gone server keeps))

@@ -1,35 +1,13 @@
 -- A node stops, in place of a step or in one whose batch is lost: the machine after the entry has the whole world after it.
-use Rattle.std.proofs.Common.{◌≡◌, ◌⊎◌, inl, inr, ℕ, ◌<◌, ◌==◌, ◌&&◌, ◌||◌, ◌++◌, not, Bool, true, false, List, [], ◌∷◌, ap, append-nil, length, Option, Some, None, refl, sym, subst, ◌∙◌, arith, if◌then◌else◌, is_some, nat_lt, nat_le}
-use Rattle.std.proofs.lemmas.Bool.Decides.{nat_tests}
-use Rattle.std.specs.Prelude.{slice_get}
+use Rattle.qs_world_lawful.proofs.Words.{◌≡◌, ◌⊎◌, inl, inr, ℕ, ◌<◌, ◌==◌, ◌&&◌, ◌||◌, ◌++◌, not, Bool, true, false, List, [], ◌∷◌, ap, append-nil, length, Option, Some, None, refl, sym, subst, ◌∙◌, arith, if◌then◌else◌, is_some, nat_lt, nat_le, nat_tests, slice_get, CrashCause, elsewhere, ran_run, BookValue, crash_node, is_crash, broken, effect, Record, recovery, effects_of, Effects, Event, Source, event_of, is_later, may_move, moved, stamp_limit, stopped, stopped_host, entry_of, World, inc_of}
+use Rattle.qs_world_lawful.proofs.Words.{is_next, Lasts, HoldsLogged, HoldsDown, HoldsNodeAt, HoldsNodeOf, HoldsWorld, eqb-true, and_parts, apart_turned}
 use Rattle.qs_book_journal.specs.declared.entry.Act.TheVariants as acts
-use Rattle.qs_book_journal.specs.declared.entry.CrashCause.{CrashCause}
-use Rattle.qs_book_laws.proofs.Holds.{elsewhere}
-use Rattle.qs_book_laws.proofs.InRun.{ran_run}
-use Rattle.qs_book_machine.specs.Book.{BookValue, crash_node}
-use Rattle.qs_book_machine.specs.Clauses.{is_crash}
-use Rattle.qs_book_machine.specs.Lawful.{broken, effect}
 use Rattle.qs_book_machine.specs.Nodes as machine
-use Rattle.qs_record.specs.declared.record.Record.{Record}
-use Rattle.qs_restart.specs.Recovery.{recovery}
-use Rattle.qs_node_step.specs.Step.{effects_of}
-use Rattle.qs_node_step.specs.declared.event.Effects.{Effects}
-use Rattle.qs_node_step.specs.declared.event.Event.{Event}
-use Rattle.qs_world.specs.Moves.{Cut, Source, cut_log, cut_with, event_of, is_in_order, is_later, may_move, may_step, moved, stamp_limit, stopped, stopped_host}
-use Rattle.qs_world.specs.Posting.{entry_of}
-use Rattle.qs_world.specs.World.{World, inc_of}
-use Rattle.qs_world_lawful.specs.Holds.{is_next}
-use Rattle.qs_world_lawful.specs.Lasting.{Lasts}
+use Rattle.qs_world.specs.Moves.{Cut, cut_log, cut_with, is_in_order, may_step}
 use Rattle.qs_world_lawful.specs.CutLaws.{EachCutIsHeld, EachKeepsItsQuietBatch, IsCutSaid, IsQuietStep}
-use Rattle.qs_world_lawful.specs.Logged.{HoldsLogged}
 use Rattle.qs_world_lawful.specs.WorldLaws.{EachLosesItsBatch, EachStops, StopsWell}
-use Rattle.qs_world_lawful.specs.Worlds.{HoldsDown, HoldsNodeAt, HoldsNodeOf, HoldsWorld}
 use Rattle.qs_world_lawful.proofs.OtherNodes.{node_on}
 use Rattle.qs_world_lawful.proofs.StopsWell.{at, stops_by, stops_own, u}
-
-and_both : (a b : Bool) → (a && b) ≡ true → (a ≡ true) × (b ≡ true)
-and_both true b e = (refl, e)
-and_both false b e = absurd (cc e)
 
 -- an order of stamps, and of nodes where these are one, goes on
 pub back_by : (limit last0 last1 stamp n s k : ℕ) → (nat_lt stamp limit && (nat_lt last0 stamp || ((last0 == stamp) && not (nat_lt n last1)))) ≡ true → (nat_lt s limit && (nat_lt stamp s || ((stamp == s) && not (nat_lt k n)))) ≡ true → (nat_lt s limit && (nat_lt last0 s || ((last0 == s) && not (nat_lt k last1)))) ≡ true
@@ -58,16 +36,10 @@ module _ (book : BookValue) (world : World) (n stamp : ℕ) (cause : CrashCause)
   nodes_now : (k : ℕ) → k < world.size → HoldsNodeAt now next k
   nodes_now k low = by (k == n) refl
     where
-      no_is : (a b : ℕ) → (a == b) ≡ true → a ≡ b
-      no_is a b e = grind (arith, nat_tests, e)
-
-      turned : (a b : ℕ) → (a == b) ≡ false → (b == a) ≡ false
-      turned a b e = grind (arith, nat_tests, e)
-
       by : (b : Bool) → (k == n) ≡ b → HoldsNodeAt now next k
-      by true near = subst (λ (j : ℕ). HoldsNodeAt now next j) (sym (no_is k n near)) own
+      by true near = subst (λ (j : ℕ). HoldsNodeAt now next j) (sym (eqb-true k n near)) own
       by false far = subst (λ (b : Bool). HoldsNodeOf now world.size k (inc_of world k) (if b then false else world.channels.up k) (if b then stopped_host stamp disk (world.hosts n) else world.hosts k)) (sym far)
-          (node_on book stamp n now.place now.nodes k (elsewhere (crash_node book.place) book.nodes n k (turned k n far)) size_now world.size (inc_of world k) (world.channels.up k) (world.hosts k) (h.nodes k low))
+          (node_on book stamp n now.place now.nodes k (elsewhere (crash_node book.place) book.nodes n k (apart_turned k n far)) size_now world.size (inc_of world k) (world.channels.up k) (world.hosts k) (h.nodes k low))
 
   pub stops_well : StopsWell book next n stamp cause
   stops_well = record {
@@ -105,8 +77,8 @@ module _ (book : BookValue) (world : World) (n stamp : ℕ) (cause : CrashCause)
 
 pub by_stop : EachStops
 by_stop book world n stamp cause lasts h may =
-    let one = and_both (world.channels.up n) _ may in
-    let two = and_both (is_in_order world n stamp) (is_crash cause) one.1 in
+    let one = and_parts (world.channels.up n) _ may in
+    let two = and_parts (is_in_order world n stamp) (is_crash cause) one.1 in
     as_on_disk book world n stamp cause lasts h one.0 two.0 two.1
 
 -- a step that is cut off
@@ -120,11 +92,11 @@ module _ (book : BookValue) (world : World) (n stamp free : ℕ) (source : Sourc
 
   cuts : Cuts
   cuts =
-      let whole = and_both (may_step world n stamp source) (is_crash cause) may in
-      let one = and_both (world.channels.up n) _ whole.0 in
-      let two = and_both (is_later world n stamp) _ one.1 in
-      let three = and_both (is_some (event_of world n stamp source)) _ two.1 in
-      by one.0 (and_both (is_in_order world n stamp) _ two.0).0 whole.1 (event_of world n stamp source) refl three.0
+      let whole = and_parts (may_step world n stamp source) (is_crash cause) may in
+      let one = and_parts (world.channels.up n) _ whole.0 in
+      let two = and_parts (is_later world n stamp) _ one.1 in
+      let three = and_parts (is_some (event_of world n stamp source)) _ two.1 in
+      by one.0 (and_parts (is_in_order world n stamp) _ two.0).0 whole.1 (event_of world n stamp source) refl three.0
     where
       by : world.channels.up n ≡ true → is_in_order world n stamp ≡ true → is_crash cause ≡ true → (o : Option Event) → event_of world n stamp source ≡ o → is_some o ≡ true → Cuts
       by up ordered crash None is e = absurd (cc e)

@@ -1,20 +1,7 @@
 -- The table of a server and the machine's after a change: what is hidden of the machine's goes on being hidden.
-use Rattle.std.proofs.Common.{◌≡◌, Bool, true, false, List, Option, sym, ap, subst, ◌∙◌}
-use Rattle.std.specs.Prelude.{not, ◌&&◌, unwrap_or, fold}
-use Rattle.std.specs.Map.{lookup, remove_entry}
-use Rattle.std.specs.BTreeMap.{insert_entry, is_at}
-use Rattle.qs_base.specs.Order.{tid_cmp}
-use Rattle.qs_base.specs.declared.identifiers.Tid.{Tid}
-use Rattle.qs_base.proofs.TidOrder.{tid_exact, tid_total}
-use Rattle.qs_book_laws.proofs.Alikes.{at_exact}
-use Rattle.qs_book_laws.proofs.Rising.{put_rises, remove_rises}
-use Rattle.qs_ops.specs.Table.{TableValue, share_of, nothing_held, with_share, released, applied, apply_change, apply_note, committed, with_vote, served, after_serve}
-use Rattle.qs_ops.specs.Timers.{TimersValue, TimerShareValue, timer_share_of, no_timer_share, timer_served, after_timer, timers_ended}
-use Rattle.qs_ops.specs.declared.file.File.{File}
-use Rattle.qs_ops.specs.declared.operation.Op.{Op}
-use Rattle.qs_ops.specs.declared.reply.Reply.{Reply}
-use Rattle.qs_ops.specs.declared.share.Share.{Share}
-use Rattle.qs_world_lawful.specs.Tables.{HoldsTable, HoldsTimers, of_seen}
+use Rattle.qs_world_lawful.proofs.Words.{◌≡◌, Bool, true, false, List, Option, sym, ap, subst, ◌∙◌, not, ◌&&◌, unwrap_or, fold, lookup, remove_entry, insert_entry, is_at, tid_cmp, Tid, tid_exact, tid_total, at_exact, put_rises, remove_rises, TableValue, share_of, nothing_held, with_share, released, applied, apply_change, apply_note, committed, served, after_serve, TimersValue, timer_served, timers_ended, File, Op, Reply, Share, HoldsTable, HoldsTimers, of_seen}
+use Rattle.qs_ops.specs.Table.{with_vote}
+use Rattle.qs_ops.specs.Timers.{TimerShareValue, timer_share_of, no_timer_share, after_timer}
 use Rattle.qs_world_lawful.proofs.Unseen.{filter_alike, filter_put, filter_hide, filter_removed, filter_crossed, lookup_seen}
 
 -- ---- a table

@@ -1,18 +1,10 @@
 -- The least taken name of a transaction: where a table has all that another has, and the name is taken in that other too, it is
 -- the least there.
-use Rattle.std.proofs.Common.{◌≡◌, ◌⊎◌, inl, inr, ℕ, Bool, true, false, List, [], ◌∷◌, Option, Some, None, Less, Equal, Greater, refl, sym, ap, subst, ◌∙◌}
-use Rattle.std.specs.Prelude.{◌||◌, if◌then◌else◌, ⊤}
-use Rattle.std.specs.List.{list_any}
+use Rattle.qs_world_lawful.proofs.Words.{◌≡◌, ◌⊎◌, inl, inr, ℕ, Bool, true, false, List, [], ◌∷◌, Option, Some, None, Less, Equal, Greater, refl, sym, ap, subst, ◌∙◌, if◌then◌else◌, ⊤, list_any, Ordering, bytes_cmp, Tid, same_bytes-self, same_bytes-true, TableValue, is_change_of, Op, Put, Append, Del, Get, Listing, Note, Notes, Bind, Find, Timer, Left, Window, Title, Keep, Fetch, Lend, Extra, or-true, same_Some}
 use Rattle.std.specs.Ordering.{is_eq, match_ordering, ordering_reverse}
 use Rattle.std.specs.Cmp.Lexicographic.{texts_ties}
-use Rattle.std.specs.declared.cmp.Ordering.{Ordering}
-use Rattle.qs_base.specs.Order.{bytes_cmp}
-use Rattle.qs_base.specs.declared.identifiers.Tid.{Tid}
-use Rattle.qs_base.proofs.Same.{same_bytes-self, same_bytes-true}
 use Rattle.qs_ops.proofs.FileOrder.{bytes_total}
-use Rattle.qs_ops.specs.Table.{TableValue, is_change_of, is_taken, least_taken_in, lesser, taken_by}
-use Rattle.qs_ops.specs.declared.operation.Op.{Op}
-use Rattle.qs_ops.specs.declared.operation.Op.TheVariants.{Put, Append, Del, Get, Listing, Note, Notes, Bind, Find, Timer, Left, Window, Title, Keep, Fetch, Lend, Extra}
+use Rattle.qs_ops.specs.Table.{is_taken, least_taken_in, lesser, taken_by}
 
 -- ---- names in order
 
@@ -81,9 +73,6 @@ none_less : (n : Option (List ℕ)) → IsNoLess n None → n ≡ None
 none_less None h = refl
 none_less (Some n) h = absurd h
 
-of_some : (a b : List ℕ) → Some a ≡ Some b → a ≡ b
-of_some a b e = cc e
-
 -- ---- the least of two tables' taken names
 
 module _ (kept held : TableValue) (me : Tid) (more : (name : List ℕ) → is_taken kept me name ≡ true → is_taken held me name ≡ true) where
@@ -133,7 +122,7 @@ module _ (kept held : TableValue) (me : Tid) (more : (name : List ℕ) → is_ta
     where
       by : (b : Bool) → is_taken held me n ≡ b → if_taken b n ≡ Some name → IsBound name (Bind n text)
       by false is f = absurd (cc f)
-      by true is f = subst (λ (w : List ℕ). IsBound w (Bind n text)) (of_some n name f) (record { taken = is; binds = same_bytes-self n; own = λ has. rw has refl })
+      by true is f = subst (λ (w : List ℕ). IsBound w (Bind n text)) (same_Some n name f) (record { taken = is; binds = same_bytes-self n; own = λ has. rw has refl })
   bound (Put n text) name e = absurd (cc e)
   bound (Append n text) name e = absurd (cc e)
   bound (Del n) name e = absurd (cc e)
@@ -160,10 +149,6 @@ module _ (kept held : TableValue) (me : Tid) (more : (name : List ℕ) → is_ta
   least [] name e = absurd (cc e)
   least (op ∷ ops) name e = by (taken_by held me op) refl (least_taken_in held me ops) refl e (least ops)
     where
-      or_right : (b : Bool) → (b || true) ≡ true
-      or_right true = refl
-      or_right false = refl
-
       -- the first is the least
       first : (n : List ℕ) → taken_by held me op ≡ Some n → ((y : List ℕ) → least_taken_in kept me ops ≡ Some y → IsAtMost n y) → IsLeast n (op ∷ ops)
       first n at most = let b = bound op n at in record {
@@ -184,7 +169,7 @@ module _ (kept held : TableValue) (me : Tid) (more : (name : List ℕ) → is_ta
       later : (m : List ℕ) → IsLeast m ops → ((x : List ℕ) → taken_by kept me op ≡ Some x → bytes_cmp m x ≡ Less) → IsLeast m (op ∷ ops)
       later m k most = record {
         taken = k.taken;
-        binds = rw k.binds (or_right (is_change_of m op));
+        binds = rw k.binds (or-true (is_change_of m op));
         same = λ has. ap (λ (o : Option (List ℕ)). lesser (taken_by kept me op) o) (k.same has) ∙ of (taken_by kept me op) refl;
       }
         where
@@ -198,12 +183,12 @@ module _ (kept held : TableValue) (me : Tid) (more : (name : List ℕ) → is_ta
       by : (a : Option (List ℕ)) → taken_by held me op ≡ a → (b : Option (List ℕ)) → least_taken_in held me ops ≡ b → lesser a b ≡ Some name
           → ((n : List ℕ) → least_taken_in held me ops ≡ Some n → IsLeast n ops) → IsLeast name (op ∷ ops)
       by None at None has f rest = absurd (cc f)
-      by None at (Some m) has f rest = subst (λ (w : List ℕ). IsLeast w (op ∷ ops)) (of_some m name f)
+      by None at (Some m) has f rest = subst (λ (w : List ℕ). IsLeast w (op ∷ ops)) (same_Some m name f)
           (later m (rest m has) (λ x is. absurd (no (sym (none_less (taken_by kept me op) (subst (λ (o : Option (List ℕ)). IsNoLess (taken_by kept me op) o) at (one_less op))) ∙ is))))
         where
           no : {x : List ℕ} → None ≡ Some x → ⊥
           no e = cc e
-      by (Some n) at None has f rest = subst (λ (w : List ℕ). IsLeast w (op ∷ ops)) (of_some n name f)
+      by (Some n) at None has f rest = subst (λ (w : List ℕ). IsLeast w (op ∷ ops)) (same_Some n name f)
           (first n at (λ y is. absurd (no (sym (none_taken ops has) ∙ is))))
         where
           no : {x : List ℕ} → None ≡ Some x → ⊥
@@ -217,6 +202,6 @@ module _ (kept held : TableValue) (me : Tid) (more : (name : List ℕ) → is_ta
           first_most x is = there (taken_by kept me op) x n is (subst (λ (o : Option (List ℕ)). IsNoLess (taken_by kept me op) o) at (one_less op))
 
           of : (r : Ordering) → bytes_cmp n m ≡ r → match_ordering r (Some n) (Some n) (Some m) ≡ Some name → IsLeast name (op ∷ ops)
-          of Less is g = subst (λ (w : List ℕ). IsLeast w (op ∷ ops)) (of_some n name g) (first n at (λ y there_is. inl (less_most n m y is (least_most y there_is))))
-          of Equal is g = subst (λ (w : List ℕ). IsLeast w (op ∷ ops)) (of_some n name g) (first n at (λ y there_is. subst (λ (w : List ℕ). IsAtMost w y) (sym (exact n m is)) (least_most y there_is)))
-          of Greater is g = subst (λ (w : List ℕ). IsLeast w (op ∷ ops)) (of_some m name g) (later m (rest m has) (λ x there_is. less_most m n x (turned n m is) (first_most x there_is)))
+          of Less is g = subst (λ (w : List ℕ). IsLeast w (op ∷ ops)) (same_Some n name g) (first n at (λ y there_is. inl (less_most n m y is (least_most y there_is))))
+          of Equal is g = subst (λ (w : List ℕ). IsLeast w (op ∷ ops)) (same_Some n name g) (first n at (λ y there_is. subst (λ (w : List ℕ). IsAtMost w y) (sym (exact n m is)) (least_most y there_is)))
+          of Greater is g = subst (λ (w : List ℕ). IsLeast w (op ∷ ops)) (same_Some m name g) (later m (rest m has) (λ x there_is. less_most m n x (turned n m is) (first_most x there_is)))

@@ -1,21 +1,7 @@
 -- A Commit that is still to be told is taken up as a node opens; every other transaction is as before.
-use Rattle.std.proofs.Common.{◌≡◌, ◌⊎◌, inl, inr, ◌==◌, Bool, true, false, List, [], ◌∷◌, length, map, fold, Option, Some, refl, sym, ap, subst, ◌∙◌, if◌then◌else◌}
-use Rattle.std.specs.List.{filter}
-use Rattle.std.specs.BTreeMap.{is_at}
-use Rattle.qs_base.specs.Order.{tid_cmp}
-use Rattle.qs_base.specs.declared.identifiers.NodeNo.{NodeNo}
-use Rattle.qs_base.specs.declared.identifiers.Tid.{Tid}
-use Rattle.qs_engage.specs.Nodes.{same_node}
-use Rattle.qs_book_laws.proofs.Alikes.{at_exact, tid_itself}
-use Rattle.qs_book_laws.proofs.Maps.{lookup_put, lookup_put_apart}
-use Rattle.qs_book_machine.specs.Restart.{is_among}
-use Rattle.qs_restart.specs.Recovery.{Untold, commit_of, names_transaction}
-use Rattle.qs_node_step.specs.Opening.{take_up}
+use Rattle.qs_world_lawful.proofs.Words.{◌≡◌, ◌⊎◌, inl, inr, ◌==◌, Bool, true, false, List, [], ◌∷◌, length, map, fold, Option, Some, refl, sym, ap, subst, ◌∙◌, if◌then◌else◌, filter, is_at, tid_cmp, NodeNo, Tid, same_node, at_exact, tid_itself, lookup_put, lookup_put_apart, is_among, Untold, names_transaction, take_up, committed_before, Manager, Participant, Every}
+use Rattle.qs_restart.specs.Recovery.{commit_of}
 use Rattle.qs_tm.specs.Manager as tm
-use Rattle.qs_tm.specs.Outcomes.{committed_before}
-use Rattle.qs_tm.specs.declared.manager.Manager.{Manager}
-use Rattle.qs_tm.specs.declared.participant.Participant.{Participant}
-use Rattle.qs_world_lawful.specs.Logs.{Every}
 use Rattle.qs_world_lawful.proofs.Apart.{Apart, same_or_apart}
 use Rattle.qs_world_lawful.proofs.TakenUp.{node_taken}
 

@@ -1,32 +1,9 @@
 -- What a node that opens over its log knows of a transaction: its votes in doubt, and a Commit that is still to be told.
-use Rattle.std.proofs.Common.{◌≡◌, ◌≢◌, ◌⊎◌, inl, inr, ℕ, ◌<◌, ◌==◌, ◌&&◌, zero, suc, replicate, Bool, true, false, List, [], ◌∷◌, length, map, fold, Option, Some, None, is_some, unwrap_or, refl, sym, ap, subst, ◌∙◌, arith, if◌then◌else◌}
-use Rattle.std.specs.Prelude.{slice_index_or}
-use Rattle.std.specs.List.{filter, list_all}
-use Rattle.std.specs.BTreeMap.{insert_entry, is_at}
-use Rattle.std.proofs.lemmas.Bool.Decides.{nat_tests}
-use Rattle.qs_base.specs.Order.{tid_cmp}
-use Rattle.qs_base.proofs.Same.{same_tid-self}
-use Rattle.qs_base.specs.declared.identifiers.NodeNo.{NodeNo}
+use Rattle.qs_world_lawful.proofs.Words.{◌≡◌, ◌⊎◌, inl, inr, ℕ, ◌<◌, ◌==◌, zero, suc, replicate, Bool, true, false, List, [], ◌∷◌, length, map, fold, Option, Some, None, is_some, unwrap_or, refl, sym, ap, subst, ◌∙◌, arith, if◌then◌else◌, slice_index_or, filter, list_all, insert_entry, is_at, nat_tests, tid_cmp, same_tid-self, NodeNo, Outcome, ServerNo, Tid, new_engage, same_node, at_exact, tid_itself, changed_apart, lookup_changed, lookup_put, lookup_put_apart, is_recoverable, Record, Prepared}
+use Rattle.qs_world_lawful.proofs.Words.{is_in_doubt, prepare_of, no_member, voted_before, committed_before, new_participant, member_of, Manager, Participant, Every, last_doubt, member_as, and_parts, eqb-true, eqb-false}
 use Rattle.qs_base.specs.declared.identifiers.Outcome.TheVariants as outcomes
-use Rattle.qs_base.specs.declared.identifiers.Outcome.{Outcome}
-use Rattle.qs_base.specs.declared.identifiers.ServerNo.{ServerNo}
-use Rattle.qs_base.specs.declared.identifiers.Tid.{Tid}
-use Rattle.qs_engage.specs.Engage.{new_engage}
-use Rattle.qs_engage.specs.Nodes.{same_node}
-use Rattle.qs_book_laws.proofs.Alikes.{at_exact, tid_itself}
-use Rattle.qs_book_laws.proofs.Maps.{changed_apart, lookup_changed, lookup_put, lookup_put_apart}
-use Rattle.qs_book_machine.specs.Nodes.{is_recoverable}
-use Rattle.qs_record.specs.declared.record.Record.{Record}
 use Rattle.qs_record.specs.declared.record.Record.TheVariants as records
-use Rattle.qs_restart.specs.Recovery.{Prepared, is_in_doubt, prepare_of}
 use Rattle.qs_tm.specs.Manager as tm
-use Rattle.qs_tm.specs.Members.{no_member}
-use Rattle.qs_tm.specs.Outcomes.{voted_before, committed_before}
-use Rattle.qs_tm.specs.Participant.{new_participant, member_of}
-use Rattle.qs_tm.specs.declared.manager.Manager.{Manager}
-use Rattle.qs_tm.specs.declared.participant.Participant.{Participant}
-use Rattle.qs_world_lawful.specs.Logs.{Every}
-use Rattle.qs_world_lawful.specs.Doubtful.{last_doubt, member_as}
 use Rattle.qs_world_lawful.proofs.Apart.{Apart, same_or_apart}
 use Rattle.qs_world_lawful.proofs.Parts.{index_set, index_apart, set_size}
 
@@ -113,15 +90,9 @@ so_taken home votes vote part low h = record {
     decided true is = refl
     decided false is = is refl
 
-    same_no : (m n : ℕ) → (m == n) ≡ true → m ≡ n
-    same_no m n e = grind (arith, nat_tests, e)
-
-    other_no : (m n : ℕ) → (m == n) ≡ false → m ≢ n
-    other_no m n e same = grind (arith, nat_tests, e, same)
-
     by : (s : ℕ) → s < 7 → (b : Bool) → (vote.server.0 == s) ≡ b → member_of (voted_before home vote.server vote.covers part) (server_at s) ≡ member_as (if b then Some vote else votes s)
-    by s small true is = subst (λ (n : ℕ). member_of (voted_before home vote.server vote.covers part) (server_at n) ≡ member_as (Some vote)) (same_no vote.server.0 s is) (index_set part.members vote.server.0 (member_as (Some vote)) no_member (subst (λ (n : ℕ). vote.server.0 < n) (sym h.places) low))
-    by s small false is = index_apart part.members vote.server.0 s (member_as (Some vote)) no_member (other_no vote.server.0 s is) ∙ h.members s small
+    by s small true is = subst (λ (n : ℕ). member_of (voted_before home vote.server vote.covers part) (server_at n) ≡ member_as (Some vote)) (eqb-true vote.server.0 s is) (index_set part.members vote.server.0 (member_as (Some vote)) no_member (subst (λ (n : ℕ). vote.server.0 < n) (sym h.places) low))
+    by s small false is = index_apart part.members vote.server.0 s (member_as (Some vote)) no_member (eqb-false vote.server.0 s is) ∙ h.members s small
 
 -- ---- one record after another
 
@@ -167,14 +138,10 @@ module _ (tid : Tid) where
   pub votes_taken : (home : Bool) (votes : List Prepared) (before : ℕ → Option Prepared) (m : Manager) → list_all (λ (v : Prepared). is_recoverable v.server.0) votes ≡ true → tm.is_home tid m ≡ home → Taken home before (tm.part_of tid m)
       → Taken home (λ s. fold (last_doubt tid s) (before s) votes) (tm.part_of tid (fold take_up m (map prepare_of (filter is_in_doubt votes))))
   votes_taken home [] before m may here h = h
-  votes_taken home (v ∷ votes) before m may here h = by (is_in_doubt v) refl (same_or_apart v.tid tid) (λ m before here h. votes_taken home votes before m (and_both (is_recoverable v.server.0) _ may).1 here h)
+  votes_taken home (v ∷ votes) before m may here h = by (is_in_doubt v) refl (same_or_apart v.tid tid) (λ m before here h. votes_taken home votes before m (and_parts (is_recoverable v.server.0) _ may).1 here h)
     where
-      and_both : (a b : Bool) → (a && b) ≡ true → (a ≡ true) × (b ≡ true)
-      and_both true b e = (refl, e)
-      and_both false b e = absurd (cc e)
-
       low : v.server.0 < 7
-      low = small v.server.0 (and_both (is_recoverable v.server.0) _ may).0
+      low = small v.server.0 (and_parts (is_recoverable v.server.0) _ may).0
         where
           small : (n : ℕ) → is_recoverable n ≡ true → n < 7
           small n e = grind (arith, nat_tests, e)

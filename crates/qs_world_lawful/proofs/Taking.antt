@@ -1,21 +1,11 @@
 -- A node takes in the outcome that the machine's cell has.
-use Rattle.std.proofs.Common.{◌≡◌, ◌⊎◌, inl, inr, ℕ, true, Option, Some, None, refl, sym, ap, subst, ◌∙◌}
-use Rattle.qs_base.specs.declared.identifiers.ClientNo.{ClientNo}
-use Rattle.qs_base.specs.declared.identifiers.NodeNo.{NodeNo}
-use Rattle.qs_base.specs.declared.identifiers.Outcome.{Outcome}
+use Rattle.qs_world_lawful.proofs.Words.{◌≡◌, ◌⊎◌, inl, inr, ℕ, true, Option, Some, None, refl, sym, ap, subst, ◌∙◌, ClientNo, NodeNo, Outcome, Tid, TransactionValue, is_open, is_outcome, Cell, BookValue, find_transaction, Participant, Work, with_manager, face_of, HoldsTid, HoldsAt, IsOwner, IsAsking, HoldsWork, book_at, some_same}
 use Rattle.qs_base.specs.declared.identifiers.Outcome.TheVariants as outcomes
-use Rattle.qs_base.specs.declared.identifiers.Tid.{Tid}
-use Rattle.qs_book_machine.specs.Transaction.{TransactionValue, is_open, is_outcome}
-use Rattle.qs_book_machine.specs.declared.transaction.Cell.{Cell}
 use Rattle.qs_book_machine.specs.declared.transaction.Cell.TheVariants as cells
-use Rattle.qs_book_machine.specs.Book.{BookValue, find_transaction}
 use Rattle.qs_tm.specs.Manager as tm
 use Rattle.qs_tm.specs.Outcomes as outcome_rules
-use Rattle.qs_tm.specs.declared.participant.Participant.{Participant}
-use Rattle.qs_node_step.specs.State.{Work, NodeValue, with_manager}
-use Rattle.qs_world_lawful.specs.Face.{Face, face_of}
-use Rattle.qs_world_lawful.specs.Holds.{HoldsTid, HoldsAt, IsOwner, IsAsking}
-use Rattle.qs_world_lawful.specs.Entering.{HoldsWork, book_at}
+use Rattle.qs_node_step.specs.State.{NodeValue}
+use Rattle.qs_world_lawful.specs.Face.{Face}
 use Rattle.qs_world_lawful.proofs.Apart.{Apart, same_or_apart}
 use Rattle.qs_world_lawful.proofs.Clauses.{of_tid}
 use Rattle.qs_world_lawful.proofs.Faces.{part_apart, part_changed}
@@ -34,7 +24,7 @@ took_tid outcome here inc tid tx face part unknown cell h = record {
   sized = h.sized;
   members = λ held server kept. h.members refl server kept;
   asked = h.asked;
-  outcome = λ o is. subst (λ (x : Outcome). is_outcome x tx.cell ≡ true) (of_some is) cell;
+  outcome = λ o is. subst (λ (x : Outcome). is_outcome x tx.cell ≡ true) (some_same is) cell;
   silent = λ is. absurd (nothing (sym unknown ∙ h.silent is));
   local = h.local;
   sent = λ held. h.sent refl;
@@ -45,14 +35,11 @@ took_tid outcome here inc tid tx face part unknown cell h = record {
   yielded = h.yielded;
   home = λ near in_inc. record {
     runs = λ is. refl;
-    undecided = λ p same none. absurd (clash (ap (λ (q : Participant). q.outcome) (of_some same) ∙ none));
+    undecided = λ p same none. absurd (clash (ap (λ (q : Participant). q.outcome) (some_same same) ∙ none));
     asked = λ p same is. absurd (none_open outcome tx.cell cell is);
   };
 }
   where
-    of_some : {X : Type 0} {x y : X} → Some x ≡ Some y → x ≡ y
-    of_some e = cc e
-
     nothing : None ≡ Some outcomes.Abort → ⊥
     nothing e = cc e
 
@@ -85,9 +72,6 @@ by_took stamp before work tid outcome part tx h known found unknown cell = kept_
     asking : (t : Tid) (c : ClientNo) (p : Participant) → t.home ≡ node.setting.node → tm.part_of t new.manager ≡ Some p → p.outcome ≡ None → p.asked ≡ true → IsOwner book t c → IsAsking new t c
     asking t c p at is none asked owns = by (same_or_apart tid t)
       where
-        of_some : {X : Type 0} {x y : X} → Some x ≡ Some y → x ≡ y
-        of_some e = cc e
-
         clash : Some outcome ≡ None → ⊥
         clash e = cc e
 
@@ -95,5 +79,5 @@ by_took stamp before work tid outcome part tx h known found unknown cell = kept_
         by (inl same) =
             let it : Some (outcome_rules.took_outcome outcome part) ≡ Some p =
             sym (part_changed tid (outcome_rules.took_outcome outcome) node.manager part known) ∙ subst (λ (u : Tid). tm.part_of u new.manager ≡ Some p) (sym same) is in
-            absurd (clash (ap (λ (q : Participant). q.outcome) (of_some it) ∙ none))
+            absurd (clash (ap (λ (q : Participant). q.outcome) (some_same it) ∙ none))
         by (inr far) = asking_on node new (record { commands = refl; labels = refl; outcomes = refl }) t c (h.holds.clients.asking t c p at (sym (part_apart tid t (outcome_rules.took_outcome outcome) node.manager far) ∙ is) none asked owns)

@@ -1,27 +1,10 @@
 -- A Told comes to the home: who took a commit in is noted, and all of it is forgotten once each did; those that an abort names are told.
-use Rattle.std.proofs.Common.{◌≡◌, ℕ, Bool, true, false, List, [], ◌∷◌, Option, Some, None, refl}
-use Rattle.std.specs.Prelude.{cond, if◌then◌else◌}
-use Rattle.std.specs.List.{list_any}
-use Rattle.std.specs.Map.{lookup, set_value}
-use Rattle.std.specs.BTreeMap.{is_at}
-use Rattle.std.specs.declared.cmp.Ordering.{Ordering}
-use Rattle.qs_base.specs.Order.{tid_cmp}
-use Rattle.qs_base.specs.declared.identifiers.NodeNo.{NodeNo}
-use Rattle.qs_base.specs.declared.identifiers.Outcome.{Outcome}
+use Rattle.qs_world_lawful.proofs.Words.{◌≡◌, ℕ, Bool, true, false, List, [], ◌∷◌, Option, Some, None, refl, cond, if◌then◌else◌, list_any, lookup, set_value, is_at, Ordering, tid_cmp, NodeNo, Outcome, Tid, listed, same_node, IsBelow, IsRising, BookValue, log, Work, here, with_manager, end_told, is_other_node, keep_abort_told, take_names, take_told, told_at_home, told_came, told_known, told_unknown, Participant, HoldsWork, IsAborted}
 use Rattle.qs_base.specs.declared.identifiers.Outcome.TheVariants as outcomes
-use Rattle.qs_base.specs.declared.identifiers.Tid.{Tid}
-use Rattle.qs_engage.specs.Nodes.{listed, same_node}
-use Rattle.qs_book_laws.proofs.Rising.{IsBelow, IsRising}
-use Rattle.qs_book_machine.specs.Book.{BookValue}
 use Rattle.qs_packet.specs.declared.message.Message.TheVariants as messages
 use Rattle.qs_record.specs.declared.record.Record.TheVariants as records
-use Rattle.qs_node_step.specs.Bringing.{log}
-use Rattle.qs_node_step.specs.State.{Work, here, with_manager}
-use Rattle.qs_node_step.specs.Telling.{end_told, is_other_node, keep_abort_told, take_names, take_told, told_at_home, told_came, told_known, told_unknown}
 use Rattle.qs_tm.specs.Manager as tm
 use Rattle.qs_tm.specs.Outcomes as outcome_rules
-use Rattle.qs_tm.specs.declared.participant.Participant.{Participant}
-use Rattle.qs_world_lawful.specs.Entering.{HoldsWork, IsAborted}
 use Rattle.qs_world_lawful.proofs.Asking.{by_send_each}
 use Rattle.qs_world_lawful.proofs.Bare.{by_bare, by_log}
 use Rattle.qs_world_lawful.proofs.Faces.{part_changed}

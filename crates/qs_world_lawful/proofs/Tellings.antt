@@ -1,28 +1,14 @@
 -- What is told and asked of outcomes, and causes that are passed on: nothing is entered, and nothing is held of it.
-use Rattle.std.proofs.Common.{◌≡◌, ℕ, Bool, true, false, Option, Some, None, refl}
-use Rattle.std.specs.Prelude.{is_none, if◌then◌else◌}
-use Rattle.qs_base.specs.declared.identifiers.NodeNo.{NodeNo}
-use Rattle.qs_base.specs.declared.identifiers.Outcome.{Outcome}
+use Rattle.qs_world_lawful.proofs.Words.{◌≡◌, ℕ, Bool, true, false, Option, Some, None, refl, if◌then◌else◌, NodeNo, Outcome, Tid, same_node, BookValue, find_transaction, TransactionValue, is_outcome, Cell, Cause, answer_known, answer_unknown, inquiry_at_home, inquiry_came, block, pass_unknown, refusal_came, Work, here, with_manager, send, keep_abort_told, learn_unknown, names_at, take_outcome, tell_came, is_undecided, Participant, HoldsWork, IsAborted, book_at, none_is}
 use Rattle.qs_base.specs.declared.identifiers.Outcome.TheVariants as outcomes
-use Rattle.qs_base.specs.declared.identifiers.Tid.{Tid}
-use Rattle.qs_engage.specs.Nodes.{same_node}
-use Rattle.qs_book_machine.specs.Book.{BookValue, find_transaction}
-use Rattle.qs_book_machine.specs.Transaction.{TransactionValue, is_abort, is_outcome}
-use Rattle.qs_book_machine.specs.declared.transaction.Cell.{Cell}
+use Rattle.qs_book_machine.specs.Transaction.{is_abort}
 use Rattle.qs_book_machine.specs.declared.transaction.Cell.TheVariants as cells
-use Rattle.qs_ops.specs.declared.answer.Cause.{Cause}
 use Rattle.qs_packet.specs.declared.message.Message.TheVariants as messages
-use Rattle.qs_node_step.specs.Answering.{answer_known, answer_unknown, inquiry_at_home, inquiry_came, was_committed}
-use Rattle.qs_node_step.specs.Asking.{block, pass_unknown, refusal_came}
-use Rattle.qs_node_step.specs.State.{Work, here, with_manager}
-use Rattle.qs_node_step.specs.Bringing.{send}
-use Rattle.qs_node_step.specs.Telling.{keep_abort_told, learn, learn_unknown, names_at, take_outcome, tell_came}
+use Rattle.qs_node_step.specs.Answering.{was_committed}
+use Rattle.qs_node_step.specs.Telling.{learn}
 use Rattle.qs_tm.specs.Manager as tm
 use Rattle.qs_tm.specs.Outcomes as outcome_rules
 use Rattle.qs_tm.specs.Participant as participant
-use Rattle.qs_tm.specs.Participant.{is_undecided}
-use Rattle.qs_tm.specs.declared.participant.Participant.{Participant}
-use Rattle.qs_world_lawful.specs.Entering.{HoldsWork, IsAborted, book_at}
 use Rattle.qs_world_lawful.proofs.Asking.{by_send}
 use Rattle.qs_world_lawful.proofs.Bare.{by_bare}
 use Rattle.qs_world_lawful.proofs.Decisions.{by_told}
@@ -83,10 +69,6 @@ module _ (stamp : ℕ) (before : BookValue) (work : Work) (h : HoldsWork stamp b
   pub by_tell : (peer : NodeNo) (outcome : Outcome) (tx : TransactionValue) → find_transaction (book_at stamp before work) tid ≡ Some tx → is_outcome outcome tx.cell ≡ true → HoldsWork stamp before (tell_came peer tid outcome work)
   by_tell peer outcome tx found cell = told (same_node tid.home (here work))
     where
-      none : (o : Option Outcome) → is_none o ≡ true → o ≡ None
-      none None e = refl
-      none (Some x) e = absurd (cc e)
-
       as_abort : (c : Cell) → is_outcome outcomes.Abort c ≡ true → is_abort c ≡ true
       as_abort cells.Abort e = refl
       as_abort cells.Commit e = absurd (cc e)
@@ -97,7 +79,7 @@ module _ (stamp : ℕ) (before : BookValue) (work : Work) (h : HoldsWork stamp b
       unknown outcomes.Abort is = by_keep_abort stamp before work h tid (λ n. record { tx = tx; found = found; aborted = as_abort tx.cell is })
 
       learnt : (part : Participant) → tm.part_of tid work.node.manager ≡ Some part → (b : Bool) → is_undecided part ≡ b → HoldsWork stamp before (if b then learn tid outcome part work else work)
-      learnt part known true is = by_told stamp before work tid outcome part tx h (files_held stamp before work h) known found (none part.outcome is) cell
+      learnt part known true is = by_told stamp before work tid outcome part tx h (files_held stamp before work h) known found (none_is part.outcome is) cell
       learnt part known false is = h
 
       by : (o : Option Participant) → tm.part_of tid work.node.manager ≡ o → HoldsWork stamp before (elim o [ None ↦ learn_unknown tid outcome work | Some part ↦ if is_undecided part then learn tid outcome part work else work ])

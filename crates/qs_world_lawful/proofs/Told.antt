@@ -1,28 +1,12 @@
 -- What an owner may be told once its transaction is decided, and that it may be told still what it could.
-use Rattle.std.proofs.Common.{◌≡◌, Bool, true, false, List, [], ◌∷◌, Option, Some, None, Less, Equal, Greater, refl, sym, ◌∙◌, arith}
-use Rattle.std.proofs.lemmas.Bool.Decides.{nat_tests}
-use Rattle.std.specs.Prelude.{◌||◌}
-use Rattle.std.specs.List.{list_any}
-use Rattle.std.specs.BTreeMap.{is_at}
-use Rattle.std.specs.BTreeSet.{insert_key}
-use Rattle.std.specs.declared.cmp.Ordering.{Ordering}
-use Rattle.qs_base.specs.declared.identifiers.Outcome.{Outcome}
+use Rattle.qs_world_lawful.proofs.Words.{◌≡◌, Bool, true, false, List, [], ◌∷◌, Option, Some, None, Less, Equal, Greater, refl, sym, ◌∙◌, arith, nat_tests, ◌||◌, list_any, is_at, insert_key, Ordering, Outcome, Tid, same_bytes-self, same_member-self, Answer, Cause, Reason, told, is_known, Owner, outcome_answer, or-true}
 use Rattle.qs_base.specs.declared.identifiers.Outcome.TheVariants as outcomes
-use Rattle.qs_base.specs.declared.identifiers.Tid.{Tid}
-use Rattle.qs_base.proofs.Same.{same_bytes-self, same_member-self}
 use Rattle.qs_book_machine.proofs.CauseOrder.{among_causes}
 use Rattle.qs_ops.specs.Alike.{same_cause, same_reason}
-use Rattle.qs_ops.specs.declared.answer.Answer.{Answer}
 use Rattle.qs_ops.specs.declared.answer.Answer.TheVariants as answers
-use Rattle.qs_ops.specs.declared.answer.Cause.{Cause}
 use Rattle.qs_ops.specs.declared.answer.Cause.TheVariants.{Asked, Voted, Gone, Home, Room, Old}
-use Rattle.qs_ops.specs.declared.vote.Reason.{Reason}
 use Rattle.qs_ops.specs.declared.vote.Reason.TheVariants.{Quota, LogRoom, Taken, Code}
-use Rattle.qs_book_machine.specs.Book.{told}
 use Rattle.qs_book_machine.specs.Causes.{cause_cmp}
-use Rattle.qs_book_machine.specs.Clauses.{is_known}
-use Rattle.qs_book_machine.specs.declared.state.Owner.{Owner}
-use Rattle.qs_node_step.specs.Commands.{outcome_answer}
 use Rattle.qs_world_lawful.proofs.Casting.{any_insert}
 
 pub same_reason-self : (r : Reason) → same_reason r r ≡ true
@@ -44,14 +28,10 @@ any_put : {K : Type 0} (cmp : K → K → Ordering) (k : K) (xs : List K) → is
 any_put cmp k [] self = rw self refl
 any_put cmp k (x ∷ xs) self = by (cmp k x) refl (any_put cmp k xs self)
   where
-    or_true : (b : Bool) → (b || true) ≡ true
-    or_true true = refl
-    or_true false = refl
-
     by : (r : Ordering) → cmp k x ≡ r → list_any (is_at (cmp k)) (insert_key cmp xs k) ≡ true → list_any (is_at (cmp k)) (insert_key cmp (x ∷ xs) k) ≡ true
     by Less is more = rw is (rw self refl)
     by Equal is more = rw is (rw is refl)
-    by Greater is more = rw is (rw more (or_true (is_at (cmp k) x)))
+    by Greater is more = rw is (rw more (or-true (is_at (cmp k) x)))
 
 itself : (c : Cause) → is_at (cause_cmp c) c ≡ true
 itself c = one (is_at (cause_cmp c) c) (among_causes c (c ∷ []) ∙ alone)

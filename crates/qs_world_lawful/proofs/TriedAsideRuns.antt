@@ -1,12 +1,8 @@
 -- The tests of what an entry of another node finds, each group by evaluation.
-use Rattle.std.proofs.Common.{◌≡◌, true, refl}
+use Rattle.qs_world_lawful.proofs.Words.{◌≡◌, true, refl, Global, late, both, rich}
 use Rattle.std.specs.Fmt.{digits}
-use Rattle.std.specs.Global.{Global}
 use Rattle.qs_engage.specs.Nodes.{all_nodes}
 use Rattle.qs_tm.specs.Members.{all_servers}
-use Rattle.qs_world.specs.DrivenRuns.{late}
-use Rattle.qs_world.specs.Faults.{both}
-use Rattle.qs_world_lawful.specs.Tried.{rich}
 use Rattle.qs_world_lawful.specs.TriedAside.{issued_in, some_in, stays_in}
 
 pub early : (alloc : Global) → issued_in (rich alloc) 3 0 100 ≡ true

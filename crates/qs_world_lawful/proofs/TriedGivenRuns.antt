@@ -1,11 +1,8 @@
 -- What a step is given, on the states of runs, each group by evaluation.
-use Rattle.std.proofs.Common.{◌≡◌, true, false, refl}
+use Rattle.qs_world_lawful.proofs.Words.{◌≡◌, true, false, refl, Global, both, rich}
 use Rattle.std.specs.Fmt.{digits}
-use Rattle.std.specs.Global.{Global}
 use Rattle.qs_engage.specs.Nodes.{all_nodes}
 use Rattle.qs_tm.specs.Members.{all_servers}
-use Rattle.qs_world.specs.Faults.{both}
-use Rattle.qs_world_lawful.specs.Tried.{rich}
 use Rattle.qs_world_lawful.specs.TriedGiven.{midways_given, stages_given, timed, timed_ok}
 
 pub timers : (alloc : Global) → timed_ok (timed alloc) 0 50 ≡ true

@@ -1,11 +1,8 @@
 -- The tests of a world over old logs, each group by evaluation.
-use Rattle.std.proofs.Common.{◌≡◌, true, false, refl}
+use Rattle.qs_world_lawful.proofs.Words.{◌≡◌, true, false, refl, Global, IsOpening, start}
 use Rattle.std.specs.Fmt.{digits}
-use Rattle.std.specs.Global.{Global}
 use Rattle.qs_engage.specs.Nodes.{all_nodes}
 use Rattle.qs_tm.specs.Members.{all_servers}
-use Rattle.qs_world.specs.Openings.{IsOpening}
-use Rattle.qs_world.specs.World.{start}
 use Rattle.qs_world_lawful.specs.TriedOpenings.{old}
 use Rattle.qs_world_lawful.specs.TriedWorlds.{all_ok, downs_ok, worlds_ok}
 

@@ -1,12 +1,10 @@
 -- The tests on the states of runs, each group by evaluation.
-use Rattle.std.proofs.Common.{◌≡◌, true, false, refl}
+use Rattle.qs_world_lawful.proofs.Words.{◌≡◌, true, false, refl, Global, late, both, rich}
 use Rattle.std.specs.Fmt.{digits}
-use Rattle.std.specs.Global.{Global}
 use Rattle.qs_engage.specs.Nodes.{all_nodes}
 use Rattle.qs_tm.specs.Members.{all_servers}
-use Rattle.qs_world.specs.DrivenRuns.{late, taken}
-use Rattle.qs_world.specs.Faults.{both}
-use Rattle.qs_world_lawful.specs.Tried.{rich, stages_ok, midways_ok, fails_without_history}
+use Rattle.qs_world.specs.DrivenRuns.{taken}
+use Rattle.qs_world_lawful.specs.Tried.{stages_ok, midways_ok, fails_without_history}
 
 pub early : (alloc : Global) → stages_ok (rich alloc) 3 0 100 ≡ true
 unfolding all_nodes all_servers digits

@@ -1,11 +1,8 @@
 -- What stands at each stage of a step, on the steps of runs, each group by evaluation.
-use Rattle.std.proofs.Common.{◌≡◌, true, false, refl}
+use Rattle.qs_world_lawful.proofs.Words.{◌≡◌, true, false, refl, Global, both, rich}
 use Rattle.std.specs.Fmt.{digits}
-use Rattle.std.specs.Global.{Global}
 use Rattle.qs_engage.specs.Nodes.{all_nodes}
 use Rattle.qs_tm.specs.Members.{all_servers}
-use Rattle.qs_world.specs.Faults.{both}
-use Rattle.qs_world_lawful.specs.Tried.{rich}
 use Rattle.qs_world_lawful.specs.TriedGiven.{timed}
 use Rattle.qs_world_lawful.specs.TriedStages.{blind_ok, within_ok}
 

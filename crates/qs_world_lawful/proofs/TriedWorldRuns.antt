@@ -1,12 +1,8 @@
 -- The tests of whole worlds on the states of runs, each group by evaluation.
-use Rattle.std.proofs.Common.{◌≡◌, true, false, refl}
+use Rattle.qs_world_lawful.proofs.Words.{◌≡◌, true, false, refl, Global, late, both, rich}
 use Rattle.std.specs.Fmt.{digits}
-use Rattle.std.specs.Global.{Global}
 use Rattle.qs_engage.specs.Nodes.{all_nodes}
 use Rattle.qs_tm.specs.Members.{all_servers}
-use Rattle.qs_world.specs.DrivenRuns.{late}
-use Rattle.qs_world.specs.Faults.{both}
-use Rattle.qs_world_lawful.specs.Tried.{rich}
 use Rattle.qs_world_lawful.specs.TriedWorlds.{worlds_ok, downs_ok, fails_without_logs, fails_without_history}
 
 pub early : (alloc : Global) → worlds_ok (rich alloc) 3 0 100 ≡ true

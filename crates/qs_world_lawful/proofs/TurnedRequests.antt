@@ -1,30 +1,14 @@
 -- Under each number an entry leaves the requests, puts one more behind them, or has the first that stands at a member of its node served;
 -- so what stands at a member stands once, where it is not crossed there, and is the member's.
-use Rattle.std.proofs.Common.{◌≡◌, ◌⊎◌, inl, inr, ℕ, ◌≤◌, Bool, true, false, List, [], ◌∷◌, ◌++◌, length, map, Option, Some, None, refl, sym, ap, subst, ◌∙◌, arith, is_some}
-use Rattle.std.specs.Prelude.{drop, unwrap_or}
-use Rattle.std.specs.List.{filter, find}
-use Rattle.std.specs.Map.{lookup}
-use Rattle.std.specs.BTreeMap.{insert_entry, is_at}
-use Rattle.qs_base.specs.Order.{member_cmp, same_member}
-use Rattle.qs_base.proofs.Same.{same_member-self, same_member-true}
-use Rattle.qs_base.specs.declared.identifiers.Member.{Member}
-use Rattle.qs_base.specs.declared.identifiers.ServerNo.{ServerNo}
+use Rattle.qs_world_lawful.proofs.Words.{◌≡◌, ◌⊎◌, inl, inr, ℕ, ◌≤◌, Bool, true, false, List, [], ◌∷◌, ◌++◌, length, map, Option, Some, None, refl, sym, ap, subst, ◌∙◌, arith, is_some, true≢false, drop, unwrap_or, filter, find, lookup, insert_entry, is_at, member_cmp, same_member, same_member-self, same_member-true, Member, ServerNo, changed_apart, changed_none, lookup_changed, lookup_put, lookup_put_apart, TransactionValue, changed_value, crossed_by, crossed_from, is_crossed, is_standing}
+use Rattle.qs_world_lawful.proofs.Words.{mark_served, request_cmp, requests_at, requests_in, standing_request, Request, RequestNo, Op, StandsOnce, AreFor, op_in, standing_ops}
 use Rattle.qs_ipc.specs.Queue as queue
-use Rattle.qs_book_laws.proofs.Maps.{changed_apart, changed_none, lookup_changed, lookup_put, lookup_put_apart, put_known}
+use Rattle.qs_book_laws.proofs.Maps.{put_known}
 use Rattle.qs_book_machine.specs.Clauses.{is_for}
-use Rattle.qs_book_machine.specs.Transaction.{TransactionValue, changed_value, crossed_by, crossed_from, is_crossed, is_standing, mark_served, request_cmp, requests_at, requests_in, standing_request}
-use Rattle.qs_book_machine.specs.declared.transaction.Request.{Request}
-use Rattle.qs_book_machine.specs.declared.transaction.RequestNo.{RequestNo}
-use Rattle.qs_ops.specs.declared.operation.Op.{Op}
-use Rattle.qs_world_lawful.specs.Lasting.{StandsOnce}
-use Rattle.qs_world_lawful.specs.Waits.{AreFor, op_in, standing_ops}
 use Rattle.qs_world_lawful.proofs.Faces.{filter_last, filter_more}
 use Rattle.qs_world_lawful.proofs.Keys.{KeyApart, member_itself, request_exact, request_itself, same_key_or}
 use Rattle.qs_world_lawful.proofs.Turning.{Issues, Leaves, Serves}
 use Rattle.qs_world_lawful.proofs.Within.{map_last, mark_apart, mark_fewer, mark_first}
-
-clash : true ≡ false → ⊥
-clash e = cc e
 
 -- ---- what is crossed
 
@@ -92,7 +76,7 @@ module _ (here now place : ℕ) (tx later : TransactionValue) (r : Leaves tx lat
         where
           none : (o : Option Request) → standing_request tx i.at i.request.member ≡ o → is_some (lookup (is_at (member_cmp i.request.member)) (crossed_by (standing_request tx i.at i.request.member) place i.request.member tx.crossed)) ≡ false → o ≡ None
           none None is e = refl
-          none (Some earlier) is e = absurd (clash (sym (crossing_new place i.request.member tx.crossed) ∙ subst (λ (o : Option Request). is_some (lookup (is_at (member_cmp i.request.member)) (crossed_by o place i.request.member tx.crossed)) ≡ false) is e))
+          none (Some earlier) is e = absurd (true≢false (sym (crossing_new place i.request.member tx.crossed) ∙ subst (λ (o : Option Request). is_some (lookup (is_at (member_cmp i.request.member)) (crossed_by o place i.request.member tx.crossed)) ≡ false) is e))
 
       by : (i.at ≡ at) ⊎ KeyApart request_cmp request_exact request_itself i.at at → AtNumber here tx later at
       by (inl same) = inr (inl (subst (λ (k : RequestNo). OneMore here tx later k) same own))
@@ -138,7 +122,7 @@ module _ (here now place : ℕ) (tx later : TransactionValue) (r : Leaves tx lat
 
       by : (b : Bool) → is_crossed tx m ≡ b → is_crossed tx m ≡ false
       by false is = is
-      by true is = absurd (clash (sym (grown r is) ∙ whole))
+      by true is = absurd (true≢false (sym (grown r is) ∙ whole))
 
   -- ---- what stands
 
@@ -194,7 +178,7 @@ module _ (here now place : ℕ) (tx later : TransactionValue) (r : Leaves tx lat
           of : (b : Bool) → same_member s.member member ≡ b → AreFor member.server (map op_in (filter (is_standing member) (mark_served s.member (requests_at tx at))))
           of true is = subst (λ (x : Member). AreFor member.server (map op_in (filter (is_standing member) (mark_served x (requests_at tx at))))) (sym (same_member-true s.member member is))
               (rw (mark_first member (requests_at tx at)) (for_rest member.server (standing_ops tx at member.node member.server) (w.fits member at)))
-          of false is = rw (mark_apart s.member member (λ e. clash (sym (subst (λ (x : Member). same_member s.member x ≡ true) e (same_member-self s.member)) ∙ is)) (requests_at tx at)) (w.fits member at)
+          of false is = rw (mark_apart s.member member (λ e. true≢false (sym (subst (λ (x : Member). same_member s.member x ≡ true) e (same_member-self s.member)) ∙ is)) (requests_at tx at)) (w.fits member at)
       by (inr (inl m)) = subst (λ (rs : List Request). AreFor member.server (map op_in (filter (is_standing member) rs))) (sym m.requests) (of (same_member m.request.member member) refl)
         where
           of : (b : Bool) → same_member m.request.member member ≡ b → AreFor member.server (map op_in (filter (is_standing member) (requests_at tx at ++ m.request ∷ [])))

@@ -1,21 +1,9 @@
 -- What one entry makes of each transaction of the machine: at most one request is new or served, at one member, and all that other nodes
 -- did, or this one did in other incarnations, is left.
-use Rattle.std.proofs.Common.{◌≡◌, ◌⊎◌, inl, inr, ℕ, ◌==◌, ◌&&◌, Bool, true, false, List, [], ◌∷◌, ◌++◌, Option, Some, None, fold, refl, sym, ap, subst, ◌∙◌}
-use Rattle.std.specs.List.{list_any}
-use Rattle.std.specs.Map.{lookup}
-use Rattle.std.specs.BTreeMap.{insert_entry, is_at}
-use Rattle.qs_base.specs.Order.{tid_cmp}
-use Rattle.qs_base.specs.declared.identifiers.Member.{Member}
-use Rattle.qs_base.specs.declared.identifiers.NodeNo.{NodeNo}
-use Rattle.qs_base.specs.declared.identifiers.Tid.{Tid}
-use Rattle.qs_book_laws.proofs.Maps.{changed_apart, changed_none, lookup_changed}
-use Rattle.qs_book_machine.specs.Book.{BookValue, find_transaction}
+use Rattle.qs_world_lawful.proofs.Words.{◌≡◌, ◌⊎◌, inl, inr, ℕ, ◌==◌, ◌&&◌, Bool, true, false, List, [], ◌∷◌, ◌++◌, Option, Some, None, fold, refl, sym, ap, subst, ◌∙◌, list_any, lookup, insert_entry, is_at, tid_cmp, Member, NodeNo, Tid, changed_apart, changed_none, lookup_changed, BookValue, find_transaction, TransactionValue, changed_value, crossed_by, has_learnt, has_note, is_commit, is_open, is_start, mark_served, request_cmp, requests_at, sent_in, sent_on, standing_request, Link, Request}
+use Rattle.qs_world_lawful.proofs.Words.{RequestNo, has_issued}
 use Rattle.qs_book_machine.specs.Clauses.{is_for}
-use Rattle.qs_book_machine.specs.Transaction.{TransactionValue, changed_value, crossed_by, has_learnt, has_note, is_commit, is_open, is_start, mark_served, part_of, request_cmp, requests_at, sent_in, sent_on, standing_request}
-use Rattle.qs_book_machine.specs.declared.transaction.Link.{Link}
-use Rattle.qs_book_machine.specs.declared.transaction.Request.{Request}
-use Rattle.qs_book_machine.specs.declared.transaction.RequestNo.{RequestNo}
-use Rattle.qs_world_lawful.specs.Beside.{has_issued}
+use Rattle.qs_book_machine.specs.Transaction.{part_of}
 use Rattle.qs_world_lawful.proofs.Apart.{Apart, same_or_apart}
 use Rattle.qs_world_lawful.proofs.RestartGoes.{Goes, IsElsewhere, goes_self}
 

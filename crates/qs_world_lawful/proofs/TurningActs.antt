@@ -1,27 +1,13 @@
 -- Each act of a node that runs turns each transaction: at most one request is new or served, and what others did is left.
-use Rattle.std.proofs.Common.{◌≡◌, inl, inr, ℕ, ◌==◌, ◌&&◌, Bool, true, false, Option, Some, None, refl, ◌∙◌}
-use Rattle.std.specs.Prelude.{⊤, length, is_none}
-use Rattle.std.specs.List.{list_any}
-use Rattle.qs_base.specs.declared.identifiers.Member.{Member}
-use Rattle.qs_base.specs.declared.identifiers.NodeNo.{NodeNo}
-use Rattle.qs_base.specs.declared.identifiers.Outcome.{Outcome}
+use Rattle.qs_world_lawful.proofs.Words.{◌≡◌, inl, inr, ℕ, ◌==◌, ◌&&◌, Bool, true, false, Option, None, refl, ◌∙◌, ⊤, length, list_any, Member, NodeNo, Outcome, Tid, Act, clash, left_of, right_of, BookValue, crosses, find_transaction, inc_at, with_transaction, with_waiting, broken_decide, broken_issue, link_to, broken_act, effect_act, TransactionValue, asked_at, decided_at, ended_part, is_open, is_start, issued, learnt, learnt_part, life, served_in, serving_part, starts_after, voted, voted_part}
+use Rattle.qs_world_lawful.proofs.Words.{Link, Request, RequestNo, class_of, Cause, Op, Vote, none_is}
 use Rattle.qs_base.specs.declared.identifiers.Outcome.TheVariants as outcomes
-use Rattle.qs_base.specs.declared.identifiers.Tid.{Tid}
-use Rattle.qs_book_journal.specs.declared.entry.Act.{Act}
 use Rattle.qs_book_journal.specs.declared.entry.Act.TheVariants as acts
-use Rattle.qs_book_laws.proofs.Holding.{clash, crossing_transactions, learn_here, left_of, right_of, serve_here, vote_here, waiting_transactions}
-use Rattle.qs_book_machine.specs.Book.{BookValue, crosses, decide, find_transaction, inc_at, is_done, issue, with_transaction, with_waiting}
-use Rattle.qs_book_machine.specs.Clauses.{broken_ask, broken_decide, broken_issue, link_to, may_ask}
-use Rattle.qs_book_machine.specs.Lawful.{broken_act, effect_act}
+use Rattle.qs_book_laws.proofs.Holding.{crossing_transactions, learn_here, serve_here, vote_here, waiting_transactions}
+use Rattle.qs_book_machine.specs.Book.{decide, is_done, issue}
+use Rattle.qs_book_machine.specs.Clauses.{broken_ask, may_ask}
 use Rattle.qs_book_machine.specs.Nodes as machine
-use Rattle.qs_book_machine.specs.Transaction.{TransactionValue, asked_at, counted, decided_at, ended, ended_part, is_open, is_start, issued, learnt, learnt_part, life, part_of, served_in, serving_part, starts_after, voted, voted_part}
-use Rattle.qs_book_machine.specs.declared.transaction.Link.{Link}
-use Rattle.qs_book_machine.specs.declared.transaction.Request.{Request}
-use Rattle.qs_book_machine.specs.declared.transaction.RequestNo.{RequestNo}
-use Rattle.qs_ops.specs.Members.{class_of}
-use Rattle.qs_ops.specs.declared.answer.Cause.{Cause}
-use Rattle.qs_ops.specs.declared.operation.Op.{Op}
-use Rattle.qs_ops.specs.declared.vote.Vote.{Vote}
+use Rattle.qs_book_machine.specs.Transaction.{counted, ended, part_of}
 use Rattle.qs_ops.specs.declared.vote.Vote.TheVariants as votes
 use Rattle.qs_world_lawful.proofs.ActsHere.{MayIssue, ask_here, decide_here, end_here, issue_here}
 use Rattle.qs_world_lawful.proofs.LearntOn.{more_learnt}
@@ -150,17 +136,13 @@ module _ (book : BookValue) (stamp here : ℕ) (state : machine.NodeValue) where
   ask_turns : (tid : Tid) → broken_ask here tid (find_transaction book tid) ≡ None → Turned R book (with_transaction tid (asked_at book.place) book)
   ask_turns tid h = turned_by R own tid (asked_at book.place) book (with_transaction tid (asked_at book.place) book) refl (λ tx found. turns tx (ask_here here tid (find_transaction book tid) h tx found))
     where
-      none_of : (o : Option ℕ) → is_none o ≡ true → o ≡ None
-      none_of None e = refl
-      none_of (Some n) e = absurd (cc e)
-
       turns : (tx : TransactionValue) → may_ask here tid tx ≡ true → R tid tx (asked_at book.place tx)
       turns tx may = record {
         requests = inl (record { requests = refl; crossed = refl });
         sent = λ link i far. inl refl;
         issued = λ node i text far. refl;
         noted = λ node i text is. inl is;
-        asked = inr (left_of (tid.home.0 == here) _ may, (none_of tx.asked (right_of (is_open tx.cell) _ (right_of (tid.home.0 == here) _ may)), refl));
+        asked = inr (left_of (tid.home.0 == here) _ may, (none_is tx.asked (right_of (is_open tx.cell) _ (right_of (tid.home.0 == here) _ may)), refl));
         owner = refl;
         when = inl (refl, refl);
         decided = λ shut. refl;

@@ -1,15 +1,8 @@
 -- A loan, its return, and an answer to a client, which hears of what waits for it, turn each transaction.
-use Rattle.std.proofs.Common.{inl, ℕ, Bool, true, false, List, [], Some, None, refl, nat_lt, if◌then◌else◌}
-use Rattle.std.specs.Prelude.{fold, slice_get}
-use Rattle.qs_base.specs.declared.identifiers.ClientNo.{ClientNo}
-use Rattle.qs_base.specs.declared.identifiers.Member.{Member}
-use Rattle.qs_base.specs.declared.identifiers.Tid.{Tid}
-use Rattle.qs_book_machine.specs.Book.{BookValue, answer, give_back_from, hear, inc_at, loan_to, waiting_of, with_owner, with_transaction}
-use Rattle.qs_book_machine.specs.Clauses.{borrower_at}
+use Rattle.qs_world_lawful.proofs.Words.{inl, ℕ, Bool, true, false, List, [], Some, None, refl, nat_lt, if◌then◌else◌, fold, slice_get, ClientNo, Member, Tid, BookValue, give_back_from, hear, inc_at, loan_to, waiting_of, with_owner, with_transaction, borrower_at, TransactionValue, heard, lent, made_part, yielded_part, Asking, Owner}
+use Rattle.qs_book_machine.specs.Book.{answer}
 use Rattle.qs_book_machine.specs.Nodes as machine
-use Rattle.qs_book_machine.specs.Transaction.{TransactionValue, borrower, given_back, heard, lent, made_part, yielded_part}
-use Rattle.qs_book_machine.specs.declared.state.Asking.{Asking}
-use Rattle.qs_book_machine.specs.declared.state.Owner.{Owner}
+use Rattle.qs_book_machine.specs.Transaction.{borrower, given_back}
 use Rattle.qs_world_lawful.proofs.RestartGoes.{Goes, IsElsewhere, goes_self, goes_then}
 use Rattle.qs_world_lawful.proofs.Turning.{Plain, Turned, Turns, turned_as, turned_by, turned_fold, turned_same, turns_plain, turns_quiet, turns_self}
 use Rattle.qs_world_lawful.proofs.TurningParts.{part_changed}

@@ -1,33 +1,11 @@
 -- Each kind of change that an act makes of a transaction, one after the other: its parts, its requests, what was sent and noted.
-use Rattle.std.proofs.Common.{◌≡◌, ◌⊎◌, inl, inr, ℕ, ◌==◌, ◌&&◌, ◌||◌, ◌++◌, Bool, true, false, List, [], ◌∷◌, Option, Some, None, refl, sym, ap, subst, ◌∙◌, arith, if◌then◌else◌}
-use Rattle.std.proofs.lemmas.Bool.Decides.{nat_tests}
-use Rattle.std.specs.Prelude.{◌+◌, nat_lt, unwrap_or}
-use Rattle.std.specs.List.{list_any}
-use Rattle.std.specs.Map.{lookup, set_value}
-use Rattle.std.specs.BTreeMap.{insert_entry, is_at}
-use Rattle.std.specs.BTreeSet.{insert_key}
-use Rattle.std.specs.declared.cmp.Ordering.{Ordering}
-use Rattle.std.specs.declared.cmp.Ordering.TheVariants.{Less, Equal, Greater}
-use Rattle.qs_base.specs.Order.{same_member}
-use Rattle.qs_base.proofs.Same.{same_member-true}
-use Rattle.qs_base.specs.declared.identifiers.Member.{Member}
-use Rattle.qs_base.specs.declared.identifiers.NodeNo.{NodeNo}
-use Rattle.qs_book_laws.proofs.Maps.{changed_apart, lookup_changed, lookup_put, lookup_put_apart}
-use Rattle.qs_book_machine.specs.Transaction.{TransactionValue, changed_value, is_start, life, life_cmp, link_cmp, no_part, part_of, request_cmp, requests_at, requests_in, sent_in, sent_more, sent_on, start_cmp, with_counted}
-use Rattle.qs_book_machine.specs.declared.transaction.Life.{Life}
-use Rattle.qs_book_machine.specs.declared.transaction.Link.{Link}
-use Rattle.qs_book_machine.specs.declared.transaction.Part.{Part}
-use Rattle.qs_book_machine.specs.declared.transaction.Request.{Request}
-use Rattle.qs_book_machine.specs.declared.transaction.RequestNo.{RequestNo}
-use Rattle.qs_book_machine.specs.declared.transaction.Sent.{Sent}
-use Rattle.qs_book_machine.specs.declared.transaction.Start.{Start}
-use Rattle.qs_world_lawful.specs.Beside.{has_issued, has_note_in, is_note_by}
+use Rattle.qs_world_lawful.proofs.Words.{◌≡◌, ◌⊎◌, inl, inr, ℕ, ◌==◌, ◌&&◌, ◌||◌, ◌++◌, Bool, true, false, List, [], ◌∷◌, Option, Some, None, refl, sym, ap, subst, ◌∙◌, arith, if◌then◌else◌, nat_tests, ◌+◌, nat_lt, unwrap_or, list_any, lookup, set_value, insert_entry, is_at, insert_key, Ordering, Less, Equal, Greater, same_member, same_member-true, Member, NodeNo, changed_apart, lookup_changed, lookup_put, lookup_put_apart, TransactionValue, changed_value, is_start, life, life_cmp, link_cmp}
+use Rattle.qs_world_lawful.proofs.Words.{no_part, request_cmp, requests_at, requests_in, sent_in, sent_more, sent_on, start_cmp, Life, Link, Part, Request, RequestNo, Sent, Start, has_issued, has_note_in, is_note_by, or-true, eqb-self}
+use Rattle.qs_book_machine.specs.Transaction.{part_of, with_counted}
 use Rattle.qs_world_lawful.proofs.Keys.{KeyApart, life_exact, life_itself, link_exact, link_itself, same_key_or}
 use Rattle.qs_world_lawful.proofs.Parts.{LivesApart, changed_part_apart, put_part_apart}
 use Rattle.qs_world_lawful.proofs.Turning.{IsFar}
-
-itself : (n : ℕ) → (n == n) ≡ true
-itself n = grind (arith, nat_tests)
+use Rattle.qs_base_lemmas.proofs.Tests.{and_rest}
 
 -- ---- what a member of the node did in that incarnation
 
@@ -42,7 +20,7 @@ module _ (here now : ℕ) (m : Member) (own : m.node.0 ≡ here) where
       inc = sym (ap (λ (l : Life). l.inc) same)
 
       at : ((other.node.0 == here) && (i == now)) ≡ true
-      at = rw (node, inc, itself here) (itself now)
+      at = rw (node, inc, eqb-self here) (eqb-self now)
 
   pub part_put : (part : Part) (tx : TransactionValue) (other : Member) (i : ℕ) → IsFar here now other.node i
       → unwrap_or (lookup (is_at (life_cmp (life other i))) (insert_entry life_cmp tx.parts (life m now) part)) no_part ≡ part_of tx other i
@@ -89,7 +67,7 @@ module _ (here now : ℕ) (m : Member) (own : m.node.0 ≡ here) where
           of true same = absurd (cc (far, near same))
             where
               near : (now == i) ≡ true → ((other.node.0 == here) && (i == now)) ≡ true
-              near e = rw (node, itself here) (equal now i e)
+              near e = rw (node, eqb-self here) (equal now i e)
 
 -- ---- what was sent
 
@@ -148,14 +126,10 @@ module _ (here now : ℕ) (at : RequestNo) (request : Request) (from : at.link.f
       by (inl same) = subst (λ (l : Link). (sent_in i (now_sent l) ≡ sent_in i (sent_on tx l)) ⊎ (((l.from.0 == here) ≡ true) × (sent_in i (now_sent l) ≡ 0))) same (of (fewer i other (sent_on tx at.link)))
         where
           near : (at.link.from.0 == here) ≡ true
-          near = rw from (itself here)
+          near = rw from (eqb-self here)
 
           other : (i == now) ≡ false
-          other = rest (link.from.0 == here) (i == now) (ap (λ (l : Link). l.from.0 == here) (sym same) ∙ near) far
-            where
-              rest : (a b : Bool) → a ≡ true → (a && b) ≡ false → b ≡ false
-              rest true b p q = q
-              rest false b p q = absurd (cc p)
+          other = and_rest (link.from.0 == here) (i == now) (ap (λ (l : Link). l.from.0 == here) (sym same) ∙ near) far
 
           of : (sent_in i (Some (sent_more request (sent_on tx at.link))) ≡ sent_in i (sent_on tx at.link)) ⊎ (sent_in i (Some (sent_more request (sent_on tx at.link))) ≡ 0)
               → (sent_in i (now_sent at.link) ≡ sent_in i (sent_on tx at.link)) ⊎ (((at.link.from.0 == here) ≡ true) × (sent_in i (now_sent at.link) ≡ 0))
@@ -211,11 +185,7 @@ module _ (here now : ℕ) (at : RequestNo) (request : Request) (from : at.link.f
             where
               within : (a b c : Bool) → (a ≡ true → c ≡ true) → (a || (b || c)) ≡ (b || c)
               within false b c h = refl
-              within true b true h = sym (or_true b)
-                where
-                  or_true : (b : Bool) → (b || true) ≡ true
-                  or_true true = refl
-                  or_true false = refl
+              within true b true h = sym (or-true b)
               within true b false h = absurd (cc (h refl))
           by Equal is rest = rw is (ap (λ (b : Bool). b || list_any (has_note_in node i text) es) (rw is at same))
           by Greater is rest = rw is (ap (λ (b : Bool). has_note_in node i text e || b) (rest (rw is at same)))

@@ -1,12 +1,6 @@
 -- Entries of which some are hidden: what is put in, removed, found or hidden of all, is so of those that are not hidden.
-use Rattle.std.proofs.Common.{◌≡◌, Bool, true, false, List, [], ◌∷◌, Less, Equal, Greater, refl, sym, ap, subst, ◌∙◌}
-use Rattle.std.specs.Prelude.{not, ◌&&◌}
+use Rattle.qs_world_lawful.proofs.Words.{◌≡◌, Bool, true, false, List, [], ◌∷◌, Less, Equal, Greater, refl, sym, ap, subst, ◌∙◌, true≢false, not, ◌&&◌, filter, lookup, remove_entry, insert_entry, is_at, Ordering, IsBelow, IsRising, and_true}
 use Rattle.std.specs.Cmp.{IsTotalOrder}
-use Rattle.std.specs.List.{filter}
-use Rattle.std.specs.Map.{lookup, remove_entry}
-use Rattle.std.specs.BTreeMap.{insert_entry, is_at}
-use Rattle.std.specs.declared.cmp.Ordering.{Ordering}
-use Rattle.qs_book_laws.proofs.Rising.{IsBelow, IsRising}
 
 pub filter_alike : {A : Type 0} (p q : A → Bool) → ((x : A) → q x ≡ p x) → (xs : List A) → filter q xs ≡ filter p xs
 filter_alike p q same [] = refl
@@ -44,15 +38,12 @@ module _ {K X : Type 0} (cmp : K → K → Ordering) (exact : (a b : K) → cmp 
       key : k ≡ e.0 → seen e.0 ≡ true
       key is = subst (λ (x : K). seen x ≡ true) is keeps
 
-      clash : true ≡ false → ⊥
-      clash e = cc e
-
       by : (r : Ordering) → cmp k e.0 ≡ r → (b : Bool) → seen e.0 ≡ b → filter p (insert_entry cmp es k v) ≡ insert_entry cmp (filter p es) k v
           → filter p (insert_entry cmp (e ∷ es) k v) ≡ insert_entry cmp (filter p (e ∷ es)) k v
       by Less is true has more = rw (is, keeps, has, is) refl
       by Less is false has more = rw (is, keeps, has) (sym (front k v (filter p es) (kept_below k es (further k e.0 is es rising.0))))
       by Equal is true has more = rw (is, has, is) refl
-      by Equal is false has more = absurd (clash (sym (key (exact k e.0 is)) ∙ has))
+      by Equal is false has more = absurd (true≢false (sym (key (exact k e.0 is)) ∙ has))
       by Greater is true has more = rw (is, has, is) (ap (λ (es : List (K × X)). e ∷ es) more)
       by Greater is false has more = rw (is, has) more
 
@@ -64,12 +55,9 @@ module _ {K X : Type 0} (cmp : K → K → Ordering) (exact : (a b : K) → cmp 
       key : k ≡ e.0 → seen e.0 ≡ false
       key is = subst (λ (x : K). seen x ≡ false) is hides
 
-      clash : true ≡ false → ⊥
-      clash e = cc e
-
       by : (r : Ordering) → cmp k e.0 ≡ r → (b : Bool) → seen e.0 ≡ b → filter p (insert_entry cmp es k v) ≡ filter p es → filter p (insert_entry cmp (e ∷ es) k v) ≡ filter p (e ∷ es)
       by Less is b has more = rw (is, hides) refl
-      by Equal is true has more = absurd (clash (sym has ∙ key (exact k e.0 is)))
+      by Equal is true has more = absurd (true≢false (sym has ∙ key (exact k e.0 is)))
       by Equal is false has more = rw (is, has) refl
       by Greater is true has more = rw (is, has) (ap (λ (es : List (K × X)). e ∷ es) more)
       by Greater is false has more = rw (is, has) more
@@ -101,10 +89,6 @@ module _ {K X : Type 0} (cmp : K → K → Ordering) (exact : (a b : K) → cmp 
       where
         same : (b : Bool) → seen e.0 ≡ b → now e.0 ≡ b
         same b is = let less : cmp k e.0 ≡ Less = below.0 in hides e.0 ∙ rw (is, less) (and_true b)
-          where
-            and_true : (b : Bool) → (b && true) ≡ b
-            and_true true = refl
-            and_true false = refl
 
         by : (b : Bool) → seen e.0 ≡ b → filter (λ (e : K × X). now e.0) es ≡ filter p es → filter (λ (e : K × X). now e.0) (e ∷ es) ≡ filter p (e ∷ es)
         by true is more = rw (same true is, is) (ap (λ (es : List (K × X)). e ∷ es) more)
@@ -129,11 +113,8 @@ module _ {K X : Type 0} (cmp : K → K → Ordering) (exact : (a b : K) → cmp 
   lookup_seen k keeps [] = refl
   lookup_seen k keeps (e ∷ es) = by (is_at (cmp k) e.0) (seen e.0) refl refl (lookup_seen k keeps es)
     where
-      clash : true ≡ false → ⊥
-      clash e = cc e
-
       by : (a b : Bool) → is_at (cmp k) e.0 ≡ a → seen e.0 ≡ b → lookup (is_at (cmp k)) (filter p es) ≡ lookup (is_at (cmp k)) es → lookup (is_at (cmp k)) (filter p (e ∷ es)) ≡ lookup (is_at (cmp k)) (e ∷ es)
       by true true is has more = rw (has, is) refl
-      by true false is has more = absurd (clash (sym (subst (λ (x : K). seen x ≡ true) (at_exact k e.0 is) keeps) ∙ has))
+      by true false is has more = absurd (true≢false (sym (subst (λ (x : K). seen x ≡ true) (at_exact k e.0 is) keeps) ∙ has))
       by false true is has more = rw (has, is) more
       by false false is has more = rw (has, is) more

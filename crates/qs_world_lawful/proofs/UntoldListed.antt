@@ -1,12 +1,6 @@
 -- A log that has a Commit still to be told has it among its Commits.
-use Rattle.std.proofs.Common.{◌≡◌, Bool, true, List, [], ◌∷◌, ◌++◌, fold, not, if◌then◌else◌}
-use Rattle.qs_base.specs.declared.identifiers.NodeNo.{NodeNo}
-use Rattle.qs_base.specs.declared.identifiers.Tid.{Tid}
-use Rattle.qs_book_machine.specs.Restart.{is_among}
-use Rattle.qs_record.specs.declared.record.Record.{Record}
+use Rattle.qs_world_lawful.proofs.Words.{◌≡◌, Bool, true, List, [], ◌∷◌, ◌++◌, fold, not, if◌then◌else◌, NodeNo, Tid, is_among, Record, Recovery, Untold, found_commit, found_record, is_untold_of, names_transaction, nothing_said, recovery, Every}
 use Rattle.qs_record.specs.declared.record.Record.TheVariants as records
-use Rattle.qs_restart.specs.Recovery.{Recovery, Untold, found_commit, found_record, is_untold_of, names_transaction, nothing_said, recovery}
-use Rattle.qs_world_lawful.specs.Logs.{Every}
 use Rattle.qs_world_lawful.proofs.LogFrames.{every_on}
 use Rattle.qs_world_lawful.proofs.LogRecords.{among_last, among_more, every_append, every_filter}
 use Rattle.qs_world_lawful.proofs.TakenCommits.{IsListed}

@@ -1,33 +1,20 @@
 -- Whatever files, audit and the further server vote is the vote by the rules, whether their transaction is crossed there or not.
-use Rattle.std.proofs.Common.{◌≡◌, ℕ, ◌==◌, ◌+◌, Bool, true, false, List, Some, refl, sym, ap, subst, ◌∙◌, arith, nat_lt}
-use Rattle.std.proofs.lemmas.Bool.Decides.{nat_tests}
-use Rattle.std.specs.Prelude.{not, ◌&&◌, length, fold, sum_by, if◌then◌else◌}
-use Rattle.qs_base.specs.declared.identifiers.Member.{Member}
-use Rattle.qs_base.specs.declared.identifiers.NodeNo.{NodeNo}
-use Rattle.qs_base.specs.declared.identifiers.ServerNo.{ServerNo}
-use Rattle.qs_base.specs.declared.identifiers.Tid.{Tid}
-use Rattle.qs_book_machine.specs.Book.{BookValue, find_transaction}
-use Rattle.qs_book_machine.specs.Clauses.{has_vote, is_vote, is_server_vote, prepare_need}
+use Rattle.qs_world_lawful.proofs.Words.{◌≡◌, ℕ, ◌==◌, ◌+◌, Bool, true, false, List, Some, refl, sym, ap, subst, ◌∙◌, arith, nat_lt, true≢false, nat_tests, not, length, fold, if◌then◌else◌, Member, NodeNo, ServerNo, Tid, BookValue, find_transaction, has_vote, is_vote, TransactionValue, is_crossed, vote_of, changes_vote, names_no, windows_no, scratch_no, class_of, is_two_phase, TableValue, share_of, has_changes, apply_change, File, Kind, Share, Vote, server_at, at_server, Holds, HoldsTable, is_seen}
+use Rattle.qs_world_lawful.proofs.Words.{seen_in, eqb-true, eq-eqb}
+use Rattle.std.specs.Prelude.{sum_by}
+use Rattle.qs_book_machine.specs.Clauses.{is_server_vote, prepare_need}
 use Rattle.qs_book_machine.specs.Nodes as machine
-use Rattle.qs_book_machine.specs.Transaction.{TransactionValue, is_crossed}
-use Rattle.qs_ops.specs.Server.{vote_of, changes_vote, vote_in_room, vote_need}
-use Rattle.qs_ops.specs.Servers.{files_no, audit_no, names_no, timers_no, windows_no, scratch_no, extra_no}
-use Rattle.qs_ops.specs.Members.{class_of, is_two_phase}
+use Rattle.qs_ops.specs.Server.{vote_in_room, vote_need}
+use Rattle.qs_ops.specs.Servers.{files_no, audit_no, timers_no, extra_no}
 use Rattle.qs_ops.specs.Spelled.{prepare_length}
-use Rattle.qs_ops.specs.Table.{TableValue, share_of, has_changes, view_bytes, apply_change}
-use Rattle.qs_ops.specs.declared.file.File.{File}
-use Rattle.qs_ops.specs.declared.server.ServerKind.{ServerKind}
-use Rattle.qs_ops.specs.declared.share.Share.{Share}
+use Rattle.qs_ops.specs.Table.{view_bytes}
 use Rattle.qs_ops.specs.declared.vote.Reason.TheVariants as reasons
-use Rattle.qs_ops.specs.declared.vote.Vote.{Vote}
 use Rattle.qs_ops.specs.declared.vote.Vote.TheVariants as votes
-use Rattle.qs_node_servers.specs.Servers.{server_at}
 use Rattle.qs_node_step.specs.State.{NodeValue}
 use Rattle.qs_tm.specs.Manager.{batch_frame}
-use Rattle.qs_world_lawful.specs.Face.{at_server}
-use Rattle.qs_world_lawful.specs.Holds.{Holds, is_kept}
-use Rattle.qs_world_lawful.specs.Tables.{HoldsTable, is_seen, seen_in}
+use Rattle.qs_world_lawful.specs.Holds.{is_kept}
 use Rattle.qs_world_lawful.proofs.Tables.{own_share}
+use Rattle.qs_base_lemmas.proofs.Tests.{and_three}
 
 module _ (stamp : ℕ) (book : BookValue) (node : NodeValue) (h : Holds stamp book node) (tid : Tid) (tx : TransactionValue) (found : find_transaction book tid ≡ Some tx) where
   abbrev here : NodeNo
@@ -67,12 +54,6 @@ module _ (stamp : ℕ) (book : BookValue) (node : NodeValue) (h : Holds stamp bo
         sums : (e k x y p q : ℕ) → x ≡ e → y ≡ k → q ≡ p → 41 + e + k + p ≡ (41 + x) + (q + y)
         sums e k x y p q a b c = grind (arith, a, b, c)
 
-  equal : (a b : ℕ) → a ≡ b → (a == b) ≡ true
-  equal a b e = grind (arith, nat_tests, e)
-
-  all_three : (a b c : Bool) → a ≡ true → b ≡ true → c ≡ true → (a && (b && c)) ≡ true
-  all_three a b c p q r = rw (p, q, r) refl
-
   abbrev pub IsRight : ℕ → Vote → Type 0
   IsRight n ballot = is_vote h.state tid tx (at_number n) ballot ≡ true
 
@@ -97,17 +78,17 @@ module _ (stamp : ℕ) (book : BookValue) (node : NodeValue) (h : Holds stamp bo
       roomy : has_changes held tid ≡ true → IsRight files_no (vote_in_room held tid free frame)
       roomy is = in_room held free (IsRight files_no)
           (λ less. right files_no (votes.Abort (reasons.LogRoom (vote_need held tid frame) free)) (rw less refl)
-          (λ mine. all_three _ _ _ (some is mine) (equal _ _ (same_need files_no h.state.files held h.servers.files mine)) less))
+          (λ mine. and_three _ _ _ (some is mine) (eq-eqb _ _ (same_need files_no h.state.files held h.servers.files mine)) less))
           (right files_no votes.Recoverable refl (λ mine. some is mine))
 
       with_quota : has_changes held tid ≡ true → (quota : ℕ) (b : Bool) → nat_lt quota (view_bytes held tid) ≡ b → IsRight files_no (if b then votes.Abort (reasons.Quota (view_bytes held tid) quota) else vote_in_room held tid free frame)
       with_quota is quota true much = right files_no (votes.Abort (reasons.Quota (view_bytes held tid) quota)) (rw much refl)
-          (λ mine. all_three _ _ _ (some is mine) (equal _ _ (same_bytes_seen files_no h.state.files held h.servers.files mine)) much)
+          (λ mine. and_three _ _ _ (some is mine) (eq-eqb _ _ (same_bytes_seen files_no h.state.files held h.servers.files mine)) much)
       with_quota is quota false less = roomy is
 
       by : (b : Bool) → has_changes held tid ≡ b → IsRight files_no (if b then changes_vote node.servers.files.kind held tid free frame else votes.ReadOnly)
       by false is = right files_no votes.ReadOnly refl (λ mine. ap not (same_changes files_no h.state.files held h.servers.files mine ∙ is))
-      by true is = subst (λ (k : ServerKind). IsRight files_no (changes_vote k held tid free frame)) (sym h.servers.kinds.files) (with_quota is h.servers.kinds.quota (nat_lt h.servers.kinds.quota (view_bytes held tid)) refl)
+      by true is = subst (λ (k : Kind). IsRight files_no (changes_vote k held tid free frame)) (sym h.servers.kinds.files) (with_quota is h.servers.kinds.quota (nat_lt h.servers.kinds.quota (view_bytes held tid)) refl)
 
   audit_right : (free : ℕ) → IsRight audit_no (vote_of node.servers.audit tid free frame)
   audit_right free = by (has_changes held tid) refl
@@ -120,10 +101,10 @@ module _ (stamp : ℕ) (book : BookValue) (node : NodeValue) (h : Holds stamp bo
 
       by : (b : Bool) → has_changes held tid ≡ b → IsRight audit_no (if b then changes_vote node.servers.audit.kind held tid free frame else votes.ReadOnly)
       by false is = right audit_no votes.ReadOnly refl (λ mine. ap not (same_changes audit_no h.state.audit held h.servers.audit mine ∙ is))
-      by true is = subst (λ (k : ServerKind). IsRight audit_no (changes_vote k held tid free frame)) (sym h.servers.kinds.audit)
+      by true is = subst (λ (k : Kind). IsRight audit_no (changes_vote k held tid free frame)) (sym h.servers.kinds.audit)
           (in_room held free (IsRight audit_no)
           (λ less. right audit_no (votes.Abort (reasons.LogRoom (vote_need held tid frame) free)) (rw less refl)
-          (λ mine. all_three _ _ _ (some is mine) (equal _ _ (same_need audit_no h.state.audit held h.servers.audit mine)) less))
+          (λ mine. and_three _ _ _ (some is mine) (eq-eqb _ _ (same_need audit_no h.state.audit held h.servers.audit mine)) less))
           (right audit_no votes.Recoverable refl (λ mine. some is mine)))
 
   extra_right : (free : ℕ) → IsRight extra_no (vote_of node.servers.extra tid free frame)
@@ -131,27 +112,21 @@ module _ (stamp : ℕ) (book : BookValue) (node : NodeValue) (h : Holds stamp bo
     where
       by : (b : Bool) → IsRight extra_no (if b then changes_vote node.servers.extra.kind node.servers.extra.table tid free frame else votes.ReadOnly)
       by false = right extra_no votes.ReadOnly refl (λ mine. refl)
-      by true = subst (λ (k : ServerKind). IsRight extra_no (changes_vote k node.servers.extra.table tid free frame)) (sym h.servers.kinds.extra) (right extra_no votes.ReadOnly refl (λ mine. refl))
+      by true = subst (λ (k : Kind). IsRight extra_no (changes_vote k node.servers.extra.table tid free frame)) (sym h.servers.kinds.extra) (right extra_no votes.ReadOnly refl (λ mine. refl))
 
   -- all that vote but names
   pub vote_is_right : (server : ServerNo) → is_kept server ≡ true → is_two_phase (class_of server.0) ≡ true → (server.0 == names_no) ≡ false → (free : ℕ) → is_vote h.state tid tx (at_server here server) (vote_of (server_at node.servers server) tid free frame) ≡ true
   vote_is_right server kept two other free = by (server.0 == files_no) (server.0 == audit_no) (server.0 == timers_no) (server.0 == windows_no) (server.0 == scratch_no) refl refl refl refl refl
     where
-      same : (a b : ℕ) → (a == b) ≡ true → a ≡ b
-      same a b e = grind (arith, nat_tests, e)
-
       last : (n : ℕ) → nat_lt n 7 ≡ true → (n == 2) ≡ false → (n == 0) ≡ false → (n == 1) ≡ false → (n == 3) ≡ false → (n == 4) ≡ false → (n == 5) ≡ false → n ≡ 6
       last n k p q r s t u = grind (arith, nat_tests, k, p, q, r, s, t, u)
 
       no_voter : (n m : ℕ) → (n == m) ≡ true → is_two_phase (class_of m) ≡ false → is_two_phase (class_of n) ≡ true → ⊥
-      no_voter n m at silent voter = clash (sym voter ∙ (ap (λ (k : ℕ). is_two_phase (class_of k)) (same n m at) ∙ silent))
-        where
-          clash : true ≡ false → ⊥
-          clash e = cc e
+      no_voter n m at silent voter = true≢false (sym voter ∙ (ap (λ (k : ℕ). is_two_phase (class_of k)) (eqb-true n m at) ∙ silent))
 
       by : (a b c d e : Bool) → (server.0 == files_no) ≡ a → (server.0 == audit_no) ≡ b → (server.0 == timers_no) ≡ c → (server.0 == windows_no) ≡ d → (server.0 == scratch_no) ≡ e → is_vote h.state tid tx (at_number server.0) (vote_of (server_at node.servers (record { 0 = server.0 })) tid free frame) ≡ true
-      by true b c d e at _ _ _ _ = subst (λ (n : ℕ). is_vote h.state tid tx (at_number n) (vote_of (server_at node.servers (record { 0 = n })) tid free frame) ≡ true) (sym (same server.0 files_no at)) (files_right free)
-      by false true c d e _ at _ _ _ = subst (λ (n : ℕ). is_vote h.state tid tx (at_number n) (vote_of (server_at node.servers (record { 0 = n })) tid free frame) ≡ true) (sym (same server.0 audit_no at)) (audit_right free)
+      by true b c d e at _ _ _ _ = subst (λ (n : ℕ). is_vote h.state tid tx (at_number n) (vote_of (server_at node.servers (record { 0 = n })) tid free frame) ≡ true) (sym (eqb-true server.0 files_no at)) (files_right free)
+      by false true c d e _ at _ _ _ = subst (λ (n : ℕ). is_vote h.state tid tx (at_number n) (vote_of (server_at node.servers (record { 0 = n })) tid free frame) ≡ true) (sym (eqb-true server.0 audit_no at)) (audit_right free)
       by false false true d e _ _ at _ _ = absurd (no_voter server.0 timers_no at refl two)
       by false false false true e _ _ _ at _ = absurd (no_voter server.0 windows_no at refl two)
       by false false false false true _ _ _ _ at = absurd (no_voter server.0 scratch_no at refl two)

@@ -1,44 +1,18 @@
 -- A server votes: the rule as a whole, but for its Prepare.
-use Rattle.qs_world_lawful.specs.Tables.{is_seen}
-use Rattle.qs_world_lawful.specs.Waits.{HoldsWaits}
+use Rattle.qs_world_lawful.proofs.Words.{is_seen, HoldsWaits, ◌≡◌, ℕ, ◌+◌, ◌==◌, Bool, true, false, List, [], ◌∷◌, Option, Some, None, Less, Equal, Greater, refl, sym, ap, subst, ◌∙◌, length, nat_lt, not, ◌&&◌, ◌||◌, list_any, insert_key, Ordering, same_member, Member, NodeNo, ServerNo, Tid, same_member-true, class_of, is_two_phase, changes_in, after_vote, Vote, TransactionValue, life, is_start, start_cmp, starts_after, voted, voted_part, Part, Start, BookValue, find_transaction, inc_at, vote_node}
+use Rattle.qs_world_lawful.proofs.Words.{pending_in, crossed_in, broken, member_of, with_member, with_causes_of, MemberPart, Participant, with_server, Work, enter_vote, served_count, entry_of, face_of, at_server, HoldsMember, HoldsTid, HoldsWork, book_at}
 use Rattle.qs_world_lawful.proofs.Alike.{voted_servers}
 use Rattle.qs_world_lawful.proofs.Files.{voted_share}
 use Rattle.qs_world_lawful.proofs.MemberWaits.{seen_here, voted_waits}
 use Rattle.qs_world_lawful.proofs.Steps.{waits_of}
-use Rattle.std.proofs.Common.{◌≡◌, ℕ, ◌+◌, ◌==◌, Bool, true, false, List, [], ◌∷◌, Option, Some, None, Less, Equal, Greater, refl, sym, ap, subst, ◌∙◌, length, nat_lt}
-use Rattle.std.specs.Prelude.{not, ◌&&◌, ◌||◌}
-use Rattle.std.specs.List.{list_any}
-use Rattle.std.specs.BTreeSet.{insert_key}
-use Rattle.std.specs.declared.cmp.Ordering.{Ordering}
-use Rattle.qs_base.specs.Order.{same_member}
-use Rattle.qs_base.specs.declared.identifiers.Member.{Member}
-use Rattle.qs_base.specs.declared.identifiers.NodeNo.{NodeNo}
-use Rattle.qs_base.specs.declared.identifiers.ServerNo.{ServerNo}
-use Rattle.qs_base.specs.declared.identifiers.Tid.{Tid}
-use Rattle.qs_base.proofs.Same.{same_member-true}
-use Rattle.qs_ops.specs.Members.{class_of, is_two_phase}
-use Rattle.qs_ops.specs.Server.{changes_in, after_vote}
-use Rattle.qs_ops.specs.declared.vote.Vote.{Vote}
 use Rattle.qs_ops.specs.declared.vote.Vote.TheVariants as votes
 use Rattle.qs_book_journal.specs.declared.entry.Act.TheVariants as acts
-use Rattle.qs_book_machine.specs.Transaction.{TransactionValue, part_of, life, is_start, start_cmp, starts_after, voted, voted_part}
-use Rattle.qs_book_machine.specs.declared.transaction.Part.{Part}
-use Rattle.qs_book_machine.specs.declared.transaction.Start.{Start}
-use Rattle.qs_book_machine.specs.Book.{BookValue, find_transaction, inc_at, vote_node, pending_in, crossed_in}
-use Rattle.qs_book_machine.specs.Lawful.{broken}
+use Rattle.qs_book_machine.specs.Transaction.{part_of}
 use Rattle.qs_tm.specs.Manager as tm
 use Rattle.qs_tm.specs.Members as rules
 use Rattle.qs_tm.specs.Participant as participant
-use Rattle.qs_tm.specs.Participant.{member_of, with_member, with_causes_of}
-use Rattle.qs_tm.specs.declared.members.MemberPart.{MemberPart}
-use Rattle.qs_tm.specs.declared.participant.Participant.{Participant}
-use Rattle.qs_node_servers.specs.Servers.{with_server}
-use Rattle.qs_node_step.specs.State.{Work, NodeValue}
-use Rattle.qs_node_step.specs.Voting.{enter_vote, served_count}
-use Rattle.qs_world.specs.Posting.{entry_of}
-use Rattle.qs_world_lawful.specs.Face.{face_of, at_server}
-use Rattle.qs_world_lawful.specs.Holds.{HoldsMember, HoldsTid, is_kept}
-use Rattle.qs_world_lawful.specs.Entering.{HoldsWork, book_at}
+use Rattle.qs_node_step.specs.State.{NodeValue}
+use Rattle.qs_world_lawful.specs.Holds.{is_kept}
 use Rattle.qs_world_lawful.proofs.Casting.{cast, voted_member}
 use Rattle.qs_world_lawful.proofs.Clauses.{of_tid}
 use Rattle.qs_world_lawful.proofs.Files.{voted_apart}

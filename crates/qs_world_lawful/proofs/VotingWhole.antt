@@ -1,38 +1,14 @@
 -- A server votes, and its Prepare goes to the log: the rule as a whole.
-use Rattle.std.proofs.Common.{◌≡◌, ◌≢◌, ℕ, ◌==◌, Bool, true, false, Option, Some, None, refl, sym, ap, subst, ◌∙◌, arith, length}
-use Rattle.std.proofs.lemmas.Bool.Decides.{nat_tests}
-use Rattle.std.specs.Prelude.{not, unwrap_or}
-use Rattle.qs_base.specs.Order.{tid_cmp}
-use Rattle.qs_base.specs.declared.identifiers.NodeNo.{NodeNo}
-use Rattle.qs_base.specs.declared.identifiers.ServerNo.{ServerNo}
-use Rattle.qs_base.specs.declared.identifiers.Tid.{Tid}
-use Rattle.qs_book_laws.proofs.Alikes.{tid_itself}
-use Rattle.qs_book_laws.proofs.Maps.{lookup_put}
-use Rattle.qs_ops.specs.Members.{class_of, is_two_phase}
-use Rattle.qs_ops.specs.Server.{ServerValue, changes_in, after_vote, voted_in}
+use Rattle.qs_world_lawful.proofs.Words.{◌≡◌, ℕ, ◌==◌, Bool, true, false, Option, Some, None, refl, sym, ap, subst, ◌∙◌, length, not, unwrap_or, tid_cmp, NodeNo, ServerNo, Tid, tid_itself, lookup_put, class_of, is_two_phase, ServerValue, changes_in, after_vote, voted_in, share_of, nothing_held, Share, Vote, TransactionValue, life, voted, voted_part, Part, BookValue, find_transaction, broken, member_of, Participant, ServersValue, server_at, with_server, Work, with_doings, enter_vote, log_vote}
+use Rattle.qs_world_lawful.proofs.Words.{vote_with, served_count, entry_of, face_of, at_server, HoldsFiles, HoldsTid, HoldsWork, book_at, eqb-true, eqb-false}
 use Rattle.qs_ops.specs.Servers as numbers
-use Rattle.qs_ops.specs.Table.{share_of, nothing_held}
-use Rattle.qs_ops.specs.declared.share.Share.{Share}
-use Rattle.qs_ops.specs.declared.vote.Vote.{Vote}
 use Rattle.qs_ops.specs.declared.vote.Vote.TheVariants as votes
 use Rattle.qs_book_journal.specs.declared.entry.Act.TheVariants as acts
-use Rattle.qs_book_machine.specs.Transaction.{TransactionValue, part_of, life, voted, voted_part}
-use Rattle.qs_book_machine.specs.declared.transaction.Part.{Part}
-use Rattle.qs_book_machine.specs.Book.{BookValue, find_transaction}
-use Rattle.qs_book_machine.specs.Lawful.{broken}
+use Rattle.qs_book_machine.specs.Transaction.{part_of}
 use Rattle.qs_record.specs.declared.record.Record.TheVariants as records
 use Rattle.qs_tm.specs.Manager as tm
 use Rattle.qs_tm.specs.Members as rules
-use Rattle.qs_tm.specs.Participant.{member_of}
-use Rattle.qs_tm.specs.declared.participant.Participant.{Participant}
-use Rattle.qs_node_servers.specs.Servers.{ServersValue, server_at, with_server}
-use Rattle.qs_node_step.specs.State.{Work, with_doings}
-use Rattle.qs_node_step.specs.Voting.{enter_vote, log_vote, vote_with, served_count}
-use Rattle.qs_world.specs.Posting.{entry_of}
-use Rattle.qs_world_lawful.specs.Face.{face_of, at_server}
-use Rattle.qs_world_lawful.specs.Filed.{HoldsFiles}
-use Rattle.qs_world_lawful.specs.Holds.{HoldsTid, is_kept}
-use Rattle.qs_world_lawful.specs.Entering.{HoldsWork, book_at}
+use Rattle.qs_world_lawful.specs.Holds.{is_kept}
 use Rattle.qs_world_lawful.proofs.Asking.{same_work}
 use Rattle.qs_world_lawful.proofs.Bare.{by_log}
 use Rattle.qs_world_lawful.proofs.Casting.{part_voted}
@@ -76,22 +52,16 @@ module _ (stamp : ℕ) (before : BookValue) (work : Work) (tid : Tid) (server : 
   pending : (part_of (voted (at_server here server) inc ballot tx) (at_server here rules.files_no) inc).pending ≡ length (changes_in (with_server server (λ value. after_vote value tid ballot) work.node.servers).files tid)
   pending = by (server.0 == numbers.files_no) refl
     where
-      number_is : (a b : ℕ) → (a == b) ≡ true → a ≡ b
-      number_is a b e = grind (arith, nat_tests, e)
-
-      differ : (a b : ℕ) → (a == b) ≡ false → a ≢ b
-      differ a b e s = grind (arith, nat_tests, e, s)
-
       by : (b : Bool) → (server.0 == numbers.files_no) ≡ b → (part_of (voted (at_server here server) inc ballot tx) (at_server here rules.files_no) inc).pending ≡ length (changes_in (with_server server (λ value. after_vote value tid ballot) work.node.servers).files tid)
       by true is =
-          let it : server ≡ rules.files_no = ap (λ (n : ℕ). record { 0 = n }) (number_is server.0 numbers.files_no is) in
+          let it : server ≡ rules.files_no = ap (λ (n : ℕ). record { 0 = n }) (eqb-true server.0 numbers.files_no is) in
           subst (λ (s : ServerNo). (part_of (voted (at_server here server) inc ballot tx) (at_server here s) inc).pending ≡ length (changes_in (with_server server (λ value. after_vote value tid ballot) work.node.servers).files tid)) it
           (ap (λ (p : Part). p.pending) (part_voted tx (at_server here server) inc ballot (member_of part server) (held.members refl server kept) two (((held.members refl server kept).votes two).is_due ∙ ap not due))
           ∙ (part_pending ballot (part_of tx (at_server here server) inc)
           ∙ (ap (pending_after ballot) (subst (λ (s : ServerNo). (part_of tx (at_server here s) inc).pending ≡ length (changes_in work.node.servers.files tid)) (sym it) held.pending)
           ∙ sym (ap (λ (s : ServerValue). length (changes_in s tid)) (files_here server (λ value. after_vote value tid ballot) work.node.servers is ∙ vote_files work.node.servers files server tid ballot) ∙ share_pending work.node.servers files tid ballot))))
       by false is =
-          ap (λ (p : Part). p.pending) (changed_part_apart (life (at_server here server) inc) (voted_part ballot) tx.parts (at_server here rules.files_no) inc (lives_apart here inc server rules.files_no (differ server.0 numbers.files_no is)))
+          ap (λ (p : Part). p.pending) (changed_part_apart (life (at_server here server) inc) (voted_part ballot) tx.parts (at_server here rules.files_no) inc (lives_apart here inc server rules.files_no (eqb-false server.0 numbers.files_no is)))
           ∙ (held.pending ∙ sym (elsewhere_pending work.node.servers files server tid (λ value. after_vote value tid ballot) is))
 
   -- its entry breaks no clause of its own

@@ -1,29 +1,12 @@
 -- What is on its way goes on through a crash, whatever it leaves in the log, and through a restart; and scripts through a restart.
-use Rattle.std.proofs.Common.{◌≡◌, ℕ, ◌<◌, ◌+◌, ◌-◌, ◌==◌, ◌++◌, ◌&&◌, not, zero, suc, Bool, true, false, List, [], ◌∷◌, drop, length, map, Some, refl, sym, ap, subst, ◌∙◌, arith, nat_lt, if◌then◌else◌, append-nil}
-use Rattle.std.proofs.lemmas.Bool.Decides.{nat_tests}
-use Rattle.std.proofs.lemmas.Grind.{flat_map-append}
-use Rattle.std.specs.List.{filter}
-use Rattle.qs_base.specs.declared.identifiers.ServerNo.{ServerNo}
-use Rattle.qs_base.specs.declared.identifiers.Tid.{Tid}
-use Rattle.qs_session_channels.specs.Channels.{Channels}
-use Rattle.qs_book_machine.specs.Book.{BookValue, find_transaction}
-use Rattle.qs_book_machine.specs.Lawful.{book_after}
-use Rattle.qs_book_machine.specs.Transaction.{TransactionValue, requests_in, is_standing}
-use Rattle.qs_ops.specs.declared.operation.Op.{Op}
-use Rattle.qs_node_step.specs.Opening.{recovered_of}
-use Rattle.qs_world.specs.Moves.{Rise, may_move, moved, risen_host, stopped_host}
-use Rattle.qs_world.specs.World.{Parcel, World}
-use Rattle.qs_world_lawful.specs.Face.{at_server, waiting_at}
-use Rattle.qs_world_lawful.specs.Lasting.{Lasts}
-use Rattle.qs_world_lawful.specs.Parcels.{HoldsWays, on_its_way, ops_of, pending, pending_from, way_between}
-use Rattle.qs_world_lawful.specs.Waits.{IsWithin, op_in, standing_ops, waiting_ops}
-use Rattle.qs_world_lawful.specs.WayLaws.{AreSound, EachCrashKeepsWays, EachRiseKeepsWays}
-use Rattle.qs_world_lawful.specs.WorldLaws.{rise_entry}
-use Rattle.qs_world_lawful.specs.Worlds.{HoldsWorld}
+use Rattle.qs_world_lawful.proofs.Words.{◌≡◌, ℕ, ◌<◌, ◌+◌, ◌-◌, ◌==◌, ◌++◌, ◌&&◌, not, zero, suc, Bool, true, false, List, [], ◌∷◌, drop, length, map, Some, refl, sym, ap, subst, ◌∙◌, arith, nat_lt, if◌then◌else◌, append-nil, nat_tests, flat_map-append, filter, ServerNo, Tid, Channels, BookValue, find_transaction, book_after, TransactionValue, requests_in, is_standing, Op, recovered_of, Rise, may_move, moved, risen_host, stopped_host, Parcel, World, at_server, Lasts, on_its_way, ops_of, pending}
+use Rattle.qs_world_lawful.proofs.Words.{pending_from, way_between, IsWithin, op_in, standing_ops, waiting_ops, AreSound, rise_entry, HoldsWorld, eqb-true, both_ways, ltb-true}
+use Rattle.qs_world_lawful.specs.Face.{waiting_at}
+use Rattle.qs_world_lawful.specs.Parcels.{HoldsWays}
+use Rattle.qs_world_lawful.specs.WayLaws.{EachCrashKeepsWays, EachRiseKeepsWays}
 use Rattle.qs_world_lawful.proofs.OpenedScripts.{none_from}
 use Rattle.qs_world_lawful.proofs.RestoredTid.{was}
 use Rattle.qs_world_lawful.proofs.RisesWell.{at, log, r, same_book, setting}
-use Rattle.qs_world_lawful.proofs.Truths.{number_is}
 use Rattle.qs_world_lawful.proofs.WithinParts.{pending_past, within_behind, within_first}
 
 -- ---- a crash
@@ -37,7 +20,7 @@ crash_ways book world n stamp cause log h a b in_a in_b apart tid tx server numb
     by : (x : Bool) → (b == n) ≡ x
         → IsWithin (waiting_ops (way_between a b number) (waiting_at (if x then stopped_host stamp log (world.hosts n) else world.hosts b).node tid server) ++ ops_of tid server number (on_its_way world.channels a b)) (standing_ops tx (way_between a b number) (record { 0 = b }) server)
     by false far = was_so
-    by true near = subst (λ (k : ℕ). IsWithin (waiting_ops (way_between a b number) (waiting_at (world.hosts k).node tid server) ++ ops_of tid server number (on_its_way world.channels a b)) (standing_ops tx (way_between a b number) (record { 0 = b }) server)) (number_is b n near) was_so
+    by true near = subst (λ (k : ℕ). IsWithin (waiting_ops (way_between a b number) (waiting_at (world.hosts k).node tid server) ++ ops_of tid server number (on_its_way world.channels a b)) (standing_ops tx (way_between a b number) (record { 0 = b }) server)) (eqb-true b n near) was_so
 
 -- ---- a restart
 
@@ -59,15 +42,12 @@ module _ (book : BookValue) (world : World) (n stamp inc : ℕ) (lasts : Lasts b
   c = world.channels
 
   later_inc : c.inc n < inc
-  later_inc = below (c.inc n) inc (last (not (c.up n)) _ _ may)
+  later_inc = ltb-true (c.inc n) inc (last (not (c.up n)) _ _ may)
     where
       last : (x y z : Bool) → (x && (y && z)) ≡ true → z ≡ true
       last true true z e = e
       last true false z e = absurd (cc e)
       last false y z e = absurd (cc e)
-
-      below : (x y : ℕ) → nat_lt x y ≡ true → x < y
-      below x y e = grind (arith, nat_tests, e)
 
   -- it stood, with the same requests
   stood : (tid : Tid) (later : TransactionValue) → find_transaction (book_after book (rise_entry world n stamp inc ∷ [])) tid ≡ Some later → (tx : TransactionValue) × (find_transaction book tid ≡ Some tx) × (later.requests ≡ tx.requests)
@@ -112,15 +92,12 @@ module _ (book : BookValue) (world : World) (n stamp inc : ℕ) (lasts : Lasts b
         by : (x : Bool) → (a == n) ≡ x → (y : Bool) → (b == n) ≡ y
             → IsWithin (waiting_ops (way_between a b number) (waiting_at (if y then risen_host stamp inc (recovered_of (world.hosts n).log) (world.hosts n) else world.hosts b).node tid server)
             ++ ops (pending_from (λ i. pending c a b i (if y then inc else c.inc b)) ((if y then (λ (m : ℕ). 0) else c.peer b) a) (((if x then inc else c.inc a) + 1) - (if y then (λ (m : ℕ). 0) else c.peer b) a) ++ (if x then (λ (m : ℕ). []) else c.waits a) b)) rs
-        by true near true too = absurd (clash (a == b) apart (both a b n near too))
+        by true near true too = absurd (both_ways (a == b) apart (both a b n near too))
           where
-            clash : (x : Bool) → x ≡ false → x ≡ true → ⊥
-            clash x e f = cc (sym e ∙ f)
-
             both : (a b n : ℕ) → (a == n) ≡ true → (b == n) ≡ true → (a == b) ≡ true
             both a b n e f = grind (arith, nat_tests, e, f)
-        by true near false far = from_it (number_is a n near)
-        by false far true near = to_it (number_is b n near)
+        by true near false far = from_it (eqb-true a n near)
+        by false far true near = to_it (eqb-true b n near)
         by false far false too = subst (λ (xs : List Op). IsWithin (W ++ xs) rs) (sym (flat_map-append _ P (c.waits a b))) was_so
 
 pub rise_ways : EachRiseKeepsWays

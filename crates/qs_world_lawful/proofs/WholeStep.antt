@@ -1,21 +1,12 @@
 -- The whole step of a node: what comes is done, the node settles, and commands that stayed open are answered.
-use Rattle.std.proofs.Common.{ℕ, [], Option, Some, None, refl, subst}
-use Rattle.qs_base.specs.declared.identifiers.NodeNo.{NodeNo}
-use Rattle.qs_book_machine.specs.Book.{BookValue}
-use Rattle.qs_book_machine.specs.Lawful.{IsLawful, book_after}
+use Rattle.qs_world_lawful.proofs.Words.{ℕ, [], Option, Some, None, refl, subst, NodeNo, BookValue, IsLawful, book_after, Message, settle, Work, work_on, abort_old, after_step, age_rule, effects_of, happen, message_came, step_work, Event, entries_of, HoldsWork, book_at, MayAge, MayStep, done_work, first_work, tick_work, Holds, Setting}
 use Rattle.qs_ops.specs.declared.answer.Cause.TheVariants as causes
-use Rattle.qs_packet.specs.declared.message.Message.{Message}
 use Rattle.qs_packet.specs.declared.message.Message.TheVariants as messages
-use Rattle.qs_node_step.specs.Settling.{settle}
-use Rattle.qs_node_step.specs.State.{NodeValue, Work, work_on}
-use Rattle.qs_node_step.specs.Step.{abort_old, accept, after_step, age_rule, effects_of, happen, message_came, step_work}
-use Rattle.qs_node_step.specs.declared.event.Event.{Event}
+use Rattle.qs_node_step.specs.State.{NodeValue}
+use Rattle.qs_node_step.specs.Step.{accept}
 use Rattle.qs_node_step.specs.declared.event.Event.TheVariants as events
 use Rattle.qs_tm.specs.Manager as tm
-use Rattle.qs_world.specs.Posting.{entries_of}
-use Rattle.qs_world_lawful.specs.Entering.{HoldsWork, book_at}
-use Rattle.qs_world_lawful.specs.GivenStep.{MayAbortOld, MayAge, MayCome, MayHappen, MayStep, done_work, first_work, tick_work}
-use Rattle.qs_world_lawful.specs.Holds.{Holds}
+use Rattle.qs_world_lawful.specs.GivenStep.{MayAbortOld, MayCome, MayHappen}
 use Rattle.qs_world_lawful.proofs.AskCame.{by_ask_came}
 use Rattle.qs_world_lawful.proofs.CommandCame.{by_answer_waiting, by_command_came}
 use Rattle.qs_world_lawful.proofs.Counting.{by_closer}
@@ -23,7 +14,6 @@ use Rattle.qs_world_lawful.proofs.FilesHeld.{files_held}
 use Rattle.qs_world_lawful.proofs.FirstSteps.{by_begin_incarnation}
 use Rattle.qs_world_lawful.proofs.Frames.{at_none, clients_on, held_on}
 use Rattle.qs_world_lawful.proofs.PeerRestarts.{by_peer_restarted}
-use Rattle.qs_node_step.specs.declared.setting.Setting.{Setting}
 use Rattle.qs_world_lawful.proofs.SameSettings.{step_same}
 use Rattle.qs_world_lawful.proofs.Replied.{by_replied, by_serve_all}
 use Rattle.qs_world_lawful.proofs.RequestsCame.{by_request_came}

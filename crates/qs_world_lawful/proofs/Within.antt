@@ -1,13 +1,5 @@
 -- What waits stands in the same order, once where it is not crossed: so it goes on as requests come, are issued and are served.
-use Rattle.std.proofs.Common.{◌≡◌, ◌≢◌, inl, inr, ℕ, ◌≤◌, ◌&&◌, Bool, true, false, List, [], ◌∷◌, ◌++◌, suc, refl, sym, ap, ◌∙◌, arith, length, drop, map}
-use Rattle.std.specs.List.{filter}
-use Rattle.qs_base.specs.Order.{same_member}
-use Rattle.qs_base.specs.declared.identifiers.Member.{Member}
-use Rattle.qs_base.proofs.Same.{same_member-true}
-use Rattle.qs_book_machine.specs.Transaction.{is_standing, mark_served}
-use Rattle.qs_book_machine.specs.declared.transaction.Request.{Request}
-use Rattle.qs_ops.specs.declared.operation.Op.{Op}
-use Rattle.qs_world_lawful.specs.Waits.{IsWithin, op_in}
+use Rattle.qs_world_lawful.proofs.Words.{◌≡◌, ◌≢◌, inl, inr, ℕ, ◌≤◌, Bool, true, false, List, [], ◌∷◌, ◌++◌, suc, refl, sym, ap, ◌∙◌, arith, length, drop, map, le_refl, filter, same_member, Member, same_member-true, is_standing, mark_served, Request, Op, IsWithin, op_in, zero_le, le_suc, and_first, and_false}
 
 -- ---- within
 
@@ -58,19 +50,13 @@ within_one d ds (r ∷ s ∷ rs) w most = absurd (many (length rs) most)
 
 -- as many stand as wait, or more
 pub within_count : (ds rs : List Op) → IsWithin ds rs → length ds ≤ length rs
-within_count [] rs w = none (length rs)
-  where
-    none : (n : ℕ) → 0 ≤ n
-    none n = grind arith
+within_count [] rs w = zero_le (length rs)
 within_count (d ∷ ds) [] w = absurd w
 within_count (d ∷ ds) (r ∷ rs) (inl both) = more (length ds) (length rs) (within_count ds rs both.1)
   where
     more : (a b : ℕ) → a ≤ b → suc a ≤ suc b
     more a b e = grind (arith, e)
-within_count (d ∷ ds) (r ∷ rs) (inr w) = more (suc (length ds)) (length rs) (within_count (d ∷ ds) rs w)
-  where
-    more : (a b : ℕ) → a ≤ b → a ≤ suc b
-    more a b e = grind (arith, e)
+within_count (d ∷ ds) (r ∷ rs) (inr w) = le_suc (suc (length ds)) (length rs) (within_count (d ∷ ds) rs w)
 
 -- ---- lists
 
@@ -84,10 +70,6 @@ map_length f (x ∷ xs) = ap suc (map_length f xs)
 
 -- ---- what stands once the first is served
 
-served_no : (b : Bool) → (b && false) ≡ false
-served_no true = refl
-served_no false = refl
-
 -- at its member the others stand
 pub mark_first : (member : Member) (rs : List Request) → map op_in (filter (is_standing member) (mark_served member rs)) ≡ drop 1 (map op_in (filter (is_standing member) rs))
 mark_first member [] = refl
@@ -95,7 +77,7 @@ mark_first member (r ∷ rs) = by (is_standing member r) refl (mark_first member
   where
     by : (b : Bool) → is_standing member r ≡ b → map op_in (filter (is_standing member) (mark_served member rs)) ≡ drop 1 (map op_in (filter (is_standing member) rs))
         → map op_in (filter (is_standing member) (mark_served member (r ∷ rs))) ≡ drop 1 (map op_in (filter (is_standing member) (r ∷ rs)))
-    by true is more = rw is (rw (served_no (same_member r.member member)) refl)
+    by true is more = rw is (rw (and_false (same_member r.member member)) refl)
     by false is more = rw is (rw is more)
 
 -- at every other member all do
@@ -103,17 +85,13 @@ pub mark_apart : (member other : Member) → member ≢ other → (rs : List Req
 mark_apart member other far [] = refl
 mark_apart member other far (r ∷ rs) = by (is_standing member r) refl (is_standing other r) refl (mark_apart member other far rs)
   where
-    both : (a b : Bool) → (a && b) ≡ true → a ≡ true
-    both true b e = refl
-    both false b e = absurd (cc e)
-
     clash : is_standing member r ≡ true → is_standing other r ≡ true → ⊥
-    clash p q = far (sym (same_member-true r.member member (both _ _ p)) ∙ same_member-true r.member other (both _ _ q))
+    clash p q = far (sym (same_member-true r.member member (and_first _ _ p)) ∙ same_member-true r.member other (and_first _ _ q))
 
     by : (b : Bool) → is_standing member r ≡ b → (c : Bool) → is_standing other r ≡ c → filter (is_standing other) (mark_served member rs) ≡ filter (is_standing other) rs
         → filter (is_standing other) (mark_served member (r ∷ rs)) ≡ filter (is_standing other) (r ∷ rs)
     by true is true has more = absurd (clash is has)
-    by true is false has more = rw (is, has) (rw (served_no (same_member r.member other)) refl)
+    by true is false has more = rw (is, has) (rw (and_false (same_member r.member other)) refl)
     by false is true has more = rw is (rw has (ap (λ (zs : List Request). r ∷ zs) more))
     by false is false has more = rw is (rw has more)
 
@@ -128,12 +106,9 @@ mark_fewer member other n (r ∷ rs) h = by (λ m k. mark_fewer member other m r
     step : (a b : ℕ) → suc a ≤ b → (c : ℕ) → c ≤ a → suc c ≤ b
     step a b e c f = grind (arith, e, f)
 
-    itself : (k : ℕ) → k ≤ k
-    itself k = grind arith
-
     by : ((m : ℕ) → length (filter (is_standing other) rs) ≤ m → length (filter (is_standing other) (mark_served member rs)) ≤ m)
         → (b : Bool) → is_standing member r ≡ b → (c : Bool) → is_standing other r ≡ c → length (filter (is_standing other) (mark_served member (r ∷ rs))) ≤ n
-    by more true is true has = rw is (rw (served_no (same_member r.member other)) (less _ _ (rw has at h)))
-    by more true is false has = rw is (rw (served_no (same_member r.member other)) (rw has at h))
-    by more false is true has = rw is (rw has (step _ _ (rw has at h) _ (more (length (filter (is_standing other) rs)) (itself _))))
+    by more true is true has = rw is (rw (and_false (same_member r.member other)) (less _ _ (rw has at h)))
+    by more true is false has = rw is (rw (and_false (same_member r.member other)) (rw has at h))
+    by more false is true has = rw is (rw has (step _ _ (rw has at h) _ (more (length (filter (is_standing other) rs)) (le_refl _))))
     by more false is false has = rw is (rw has (more n (rw has at h)))

@@ -1,9 +1,5 @@
 -- Parts of lists that stand within another, and what is pending from an incarnation on.
-use Rattle.std.proofs.Common.{◌≡◌, ℕ, ◌<◌, ◌+◌, ◌++◌, zero, suc, List, [], ◌∷◌, inl, inr, refl, sym, ap, subst, ◌∙◌, arith, append_assoc, append-nil}
-use Rattle.qs_ops.specs.declared.operation.Op.{Op}
-use Rattle.qs_world.specs.World.{Parcel}
-use Rattle.qs_world_lawful.specs.Parcels.{pending_from}
-use Rattle.qs_world_lawful.specs.Waits.{IsWithin}
+use Rattle.qs_world_lawful.proofs.Words.{◌≡◌, ℕ, ◌<◌, ◌+◌, ◌++◌, zero, suc, List, [], ◌∷◌, inl, inr, refl, sym, ap, subst, ◌∙◌, arith, append_assoc, append-nil, Op, Parcel, pending_from, IsWithin, is_plus_zero, zero_plus}
 use Rattle.qs_world_lawful.proofs.Within.{within_left}
 
 -- those in front
@@ -34,9 +30,6 @@ within_first (w ∷ ws) xs ys (r ∷ rs) (inr h) = inr (within_first (w ∷ ws) 
 
 -- ---- what is pending
 
-zero_plus : (y : ℕ) → 0 + y ≡ y
-zero_plus y = grind (arith)
-
 suc_plus : (x y : ℕ) → suc x + y ≡ suc (x + y)
 suc_plus x y = grind (arith)
 
@@ -64,10 +57,7 @@ pending_past at last none i (suc x) y later = ap (pending_from at i) (suc_plus x
     on i x e = grind (arith, e)
 
 pub pending_parts : (at : ℕ → List Parcel) (i x y : ℕ) → pending_from at i (x + y) ≡ pending_from at i x ++ pending_from at (i + x) y
-pending_parts at i zero y = ap (pending_from at i) (zero_plus y) ∙ ap (λ (k : ℕ). pending_from at k y) (plain i)
-  where
-    plain : (i : ℕ) → i ≡ i + 0
-    plain i = grind (arith)
+pending_parts at i zero y = ap (pending_from at i) (zero_plus y) ∙ ap (λ (k : ℕ). pending_from at k y) (is_plus_zero i)
 pending_parts at i (suc x) y =
     ap (pending_from at i) (suc_plus x y) ∙ (ap (λ (t : List Parcel). at i ++ t) (pending_parts at (suc i) x y)
     ∙ (sym (append_assoc (at i) (pending_from at (suc i) x) (pending_from at (suc i + x) y))

@@ -1,13 +1,9 @@
 -- The home decides abort: Abort.
-use Rattle.std.proofs.Common.{◌≡◌, ◌≢◌, inl, ℕ, ◌==◌, Bool, true, false, [], ◌∷◌, arith, refl, sym, ◌∙◌, subst, ap, if◌then◌else◌}
-use Rattle.std.proofs.lemmas.Bool.Decides.{nat_tests}
-use Rattle.qs_world_agree.specs.World.{World, Open, Aborted, with_at}
+use Rattle.qs_world_refine.proofs.Words.{◌≡◌, ◌≢◌, inl, ℕ, ◌==◌, Bool, true, false, [], ◌∷◌, arith, refl, sym, ◌∙◌, subst, ap, if◌then◌else◌, nat_tests, Open, Aborted, Abort, Face, ShowsFace, link, waiting_link, place}
+use Rattle.qs_world_agree.specs.World.{World, with_at}
 use Rattle.qs_world_agree.specs.Guards.{drawn}
-use Rattle.qs_world_agree.specs.Step.{Step, Abort}
-use Rattle.qs_world_refine.specs.Faces.{Face, ShowsFace}
-use Rattle.qs_world_refine.specs.Links.{link, waiting_link}
+use Rattle.qs_world_agree.specs.Step.{Step}
 use Rattle.qs_world_refine.specs.OutcomeLaws.{AbortGoes}
-use Rattle.qs_world_refine.specs.Places.{place}
 use Rattle.qs_world_refine.specs.SeenOutcome.{aborted_face}
 use Rattle.qs_world_refine.proofs.Local.{Local, local_sight}
 use Rattle.qs_world_refine.proofs.Streams.{Stays}

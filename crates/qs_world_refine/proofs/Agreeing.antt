@@ -1,17 +1,8 @@
 -- A node that is ready answers its superior: Yes, or Yes_lost where that one restarted.
-use Rattle.std.proofs.Common.{◌≡◌, ◌≢◌, ℕ, ◌+◌, ◌<◌, ◌≤◌, ◌==◌, Bool, true, false, List, [], ◌∷◌, ◌++◌, arith, refl, sym, ◌∙◌, ap, if◌then◌else◌}
-use Rattle.std.proofs.lemmas.Bool.Decides.{nat_tests}
-use Rattle.qs_base.specs.declared.identifiers.NodeNo.{NodeNo}
-use Rattle.qs_base.specs.declared.identifiers.Tid.{Tid}
-use Rattle.qs_world_agree.specs.World.{World, Flight, with_at, with_at2, with_at3}
-use Rattle.qs_world_agree.specs.Guards.{carried, passed, passed_to}
-use Rattle.qs_world_agree.specs.Step.{Step, Yes}
-use Rattle.qs_world_agree.specs.Carry.{Leads}
-use Rattle.qs_world_refine.specs.Links.{names_node, node_no, Closed, link, IsLink, waiting_link}
-use Rattle.qs_world_refine.specs.Sights.{Sight, ShowsSight}
-use Rattle.qs_world_refine.specs.Places.{place}
-use Rattle.qs_world_refine.specs.Faces.{Face, ShowsFace, ShowsOpen}
-use Rattle.qs_world_refine.specs.Seen.{FaceReady, sight_agreed}
+use Rattle.qs_world_refine.proofs.Words.{◌≡◌, ◌≢◌, ℕ, ◌+◌, ◌<◌, ◌≤◌, ◌==◌, Bool, true, false, List, [], ◌∷◌, ◌++◌, arith, refl, sym, ◌∙◌, ap, if◌then◌else◌, nat_tests, NodeNo, Tid, with_at3, carried, Yes, Leads, names_node, node_no, Closed, link, IsLink, waiting_link, Sight, ShowsSight, place, Face, ShowsFace, ShowsOpen, FaceReady, sight_agreed}
+use Rattle.qs_world_agree.specs.World.{World, Flight, with_at, with_at2}
+use Rattle.qs_world_agree.specs.Guards.{passed, passed_to}
+use Rattle.qs_world_agree.specs.Step.{Step}
 use Rattle.qs_world_refine.proofs.EventFaces.{face_yes}
 use Rattle.qs_world_refine.proofs.Streams.{Stays, Carries, still, behind, ended}
 use Rattle.qs_world_refine.proofs.Still.{stage_still, log_still}

@@ -1,14 +1,6 @@
 -- Two sights that agree everywhere are shown by the same worlds.
-use Rattle.std.specs.List.{list_any}
-use Rattle.qs_base.specs.Order.{same_tid}
-use Rattle.qs_restart.specs.Recovery.{Recovery, is_untold_of}
-use Rattle.qs_world_refine.specs.Links.{node_no, names_node}
-use Rattle.std.proofs.Common.{◌≡◌, ℕ, refl, sym, ◌∙◌}
-use Rattle.qs_base.specs.declared.identifiers.Tid.{Tid}
+use Rattle.qs_world_refine.proofs.Words.{list_any, same_tid, Recovery, is_untold_of, node_no, names_node, ◌≡◌, ℕ, refl, sym, ◌∙◌, Tid, place, Face, ShowsFace, ShowsOpen, Sight, ShowsSight, ShowsLog, is_in_doubt, list_of}
 use Rattle.qs_world_agree.specs.World.{World}
-use Rattle.qs_world_refine.specs.Places.{place}
-use Rattle.qs_world_refine.specs.Faces.{Face, ShowsFace, ShowsOpen}
-use Rattle.qs_world_refine.specs.Sights.{Sight, ShowsSight, ShowsLog, is_in_doubt, list_of}
 
 pub record SameFace (f g : Face) : Type 0 where
   pub is_home : g.is_home ≡ f.is_home

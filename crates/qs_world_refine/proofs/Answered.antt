@@ -1,19 +1,8 @@
 -- A Tell that answers an inquiry is put where the machine lets that outcome be told.
-use Rattle.std.proofs.Common.{◌≡◌, ℕ, Bool, true, false, [], ◌∷◌, arith, refl, sym, subst, ap, ◌∙◌}
-use Rattle.std.proofs.lemmas.Bool.Decides.{nat_tests}
+use Rattle.qs_world_refine.proofs.Words.{◌≡◌, ℕ, Bool, true, false, [], ◌∷◌, arith, refl, sym, subst, ap, ◌∙◌, nat_tests, Tid, Message, is_other, send, Work, Outcome_told, IsTold, Link, link, IsEmpty, node_no, said, face_at, place, Scene, sight_during, ShowsWork, IsAt, IsKnown}
 use Rattle.qs_base.specs.declared.identifiers.Outcome.TheVariants as outcomes
-use Rattle.qs_base.specs.declared.identifiers.Tid.{Tid}
-use Rattle.qs_packet.specs.declared.message.Message.{Message}
 use Rattle.qs_packet.specs.declared.message.Message.TheVariants as messages
-use Rattle.qs_node_step.specs.Bringing.{is_other, send}
-use Rattle.qs_node_step.specs.State.{Work}
 use Rattle.qs_world_agree.specs.World.{World}
-use Rattle.qs_world_refine.specs.Links.{Outcome_told, IsTold, Link, link, IsEmpty, node_no}
-use Rattle.qs_world_refine.specs.Messages.{said}
-use Rattle.qs_world_refine.specs.NodeFaces.{face_at}
-use Rattle.qs_world_refine.specs.Places.{place}
-use Rattle.qs_world_refine.specs.Shows.{Scene, sight_during, ShowsWork}
-use Rattle.qs_world_refine.specs.Steps.{IsAt, IsKnown}
 use Rattle.qs_world_refine.proofs.Alike.{same_itself}
 use Rattle.qs_world_refine.proofs.During.{quiet_itself, face_here, runs}
 use Rattle.qs_world_refine.proofs.Learning.{uncounted_said}

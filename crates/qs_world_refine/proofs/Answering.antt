@@ -1,10 +1,6 @@
 -- A node that is ready answers its superior, whether that has restarted since or not.
-use Rattle.std.proofs.Common.{◌≡◌, ◌≢◌, ℕ, ◌==◌, Bool, true, false, refl, sym, ap, ◌∙◌, arith}
-use Rattle.std.proofs.lemmas.Bool.{eqb-true}
-use Rattle.std.proofs.lemmas.Bool.Decides.{nat_tests}
+use Rattle.qs_world_refine.proofs.Words.{◌≡◌, ◌≢◌, ◌==◌, Bool, true, false, refl, sym, ap, ◌∙◌, eqb-true, eqb-false, place, SightGoes, sight_agreed}
 use Rattle.qs_world_refine.specs.EventLaws.{AnswerGoes}
-use Rattle.qs_world_refine.specs.Places.{place}
-use Rattle.qs_world_refine.specs.Seen.{SightGoes, sight_agreed}
 use Rattle.qs_world_refine.proofs.AgreeingLost as lost
 use Rattle.qs_world_refine.proofs.Around.{known_is}
 use Rattle.qs_world_refine.proofs.EventGoes.{agree}
@@ -29,7 +25,4 @@ answer tid x w n m i told lawful shown at peer away not_home ready superior name
     }
       where
         restarted : w.peer (place n (x.inc n)) (w.superior (place n (x.inc n))) ≢ w.engager (place n (x.inc n))
-        restarted e = apart (w.peer (place n (x.inc n)) (w.superior (place n (x.inc n)))) (w.engager (place n (x.inc n))) is e
-          where
-            apart : (a b : ℕ) → (a == b) ≡ false → a ≡ b → ⊥
-            apart a b off e = grind (arith, nat_tests, off, e)
+        restarted e = eqb-false (w.peer (place n (x.inc n)) (w.superior (place n (x.inc n)))) (w.engager (place n (x.inc n))) is e

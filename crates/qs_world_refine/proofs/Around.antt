@@ -1,11 +1,7 @@
 -- All faces, and all links, after an event that changes one of them.
-use Rattle.std.proofs.Common.{◌≡◌, ◌≢◌, ℕ, ◌<◌, ◌≤◌, ◌==◌, true, List, arith, if◌then◌else◌}
-use Rattle.std.proofs.lemmas.Bool.Decides.{nat_tests}
+use Rattle.qs_world_refine.proofs.Words.{◌≡◌, ◌≢◌, ℕ, ◌<◌, ◌≤◌, ◌==◌, true, List, arith, if◌then◌else◌, nat_tests, Sight, place, known_place, Face, ShowsFace, Said, link, IsLink}
 use Rattle.qs_world_agree.specs.World.{World}
-use Rattle.qs_world_refine.specs.Sights.{with_at4, Sight}
-use Rattle.qs_world_refine.specs.Places.{place, known_place}
-use Rattle.qs_world_refine.specs.Faces.{Face, ShowsFace}
-use Rattle.qs_world_refine.specs.Links.{Said, link, IsLink}
+use Rattle.qs_world_refine.specs.Sights.{with_at4}
 use Rattle.qs_world_refine.proofs.Same.{same_place}
 use Rattle.qs_world_refine.proofs.Streams.{Stays, still}
 use Rattle.qs_world_refine.proofs.Still.{at_four, at_one}

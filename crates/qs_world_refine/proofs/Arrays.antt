@@ -1,20 +1,9 @@
 -- What is found in the arrays of what a node keeps of a transaction, after a change at one place.
-use Rattle.std.proofs.Common.{◌≡◌, ℕ, ◌<◌, ◌==◌, Bool, true, false, length, refl, arith, if◌then◌else◌}
+use Rattle.qs_world_refine.proofs.Words.{◌≡◌, ℕ, ◌<◌, ◌==◌, Bool, true, false, length, refl, arith, if◌then◌else◌, eqb-true, nat_tests, get_or-set_other, no_peer, peer_of, with_peer, put_node, PeerPart, Nodes, no_member, member_of, with_member, MemberPart, Participant, node_no, server_no}
 use Rattle.std.specs.Prelude.{slice_set}
-use Rattle.std.proofs.lemmas.Bool.{eqb-true}
-use Rattle.std.proofs.lemmas.Bool.Decides.{nat_tests}
-use Rattle.std.proofs.lemmas.List.{get_or-set_same, get_or-set_other}
-use Rattle.qs_engage.specs.Engage.{no_peer, peer_of, with_peer}
-use Rattle.qs_engage.specs.Nodes.{has_node, put_node, drop_node}
+use Rattle.std.proofs.lemmas.List.{get_or-set_same}
+use Rattle.qs_engage.specs.Nodes.{has_node, drop_node}
 use Rattle.qs_engage.specs.declared.engage.Engage.{Engage}
-use Rattle.qs_engage.specs.declared.engage.PeerPart.{PeerPart}
-use Rattle.qs_engage.specs.declared.nodes.Nodes.{Nodes}
-use Rattle.qs_tm.specs.Members.{no_member}
-use Rattle.qs_tm.specs.Participant.{member_of, with_member}
-use Rattle.qs_tm.specs.declared.members.MemberPart.{MemberPart}
-use Rattle.qs_tm.specs.declared.participant.Participant.{Participant}
-use Rattle.qs_world_refine.specs.Links.{node_no}
-use Rattle.qs_world_refine.specs.Sights.{server_no}
 
 pub peer_put : (m k : ℕ) (p : PeerPart) (e : Engage) → m < length e.peers → peer_of (with_peer (node_no m) p e) (node_no k) ≡ (if k == m then p else peer_of e (node_no k))
 peer_put m k p e within = by (k == m) refl

@@ -1,12 +1,8 @@
 -- What is asked, given back and issued at a place: Ask, Yield and Issue_local change its face alone.
-use Rattle.std.proofs.Common.{◌≡◌, ◌≢◌, ◌⊎◌, inl, inr, ℕ, ◌+◌, ◌≤◌, true, [], ◌∷◌, arith, refl, ◌∙◌}
-use Rattle.std.proofs.lemmas.Bool.Decides.{nat_tests}
-use Rattle.qs_world_agree.specs.World.{World, Open, with_at, with_at2}
-use Rattle.qs_world_agree.specs.Step.{Step, Ask, Yield, Issue_local}
+use Rattle.qs_world_refine.proofs.Words.{◌≡◌, ◌≢◌, ◌⊎◌, inl, inr, ℕ, ◌+◌, ◌≤◌, true, [], ◌∷◌, arith, refl, ◌∙◌, nat_tests, Open, Ask, Yield, Issue_local, Face, ShowsFace, link, waiting_link, place}
+use Rattle.qs_world_agree.specs.World.{World, with_at, with_at2}
+use Rattle.qs_world_agree.specs.Step.{Step}
 use Rattle.qs_world_refine.specs.EventLaws.{AskGoes, YieldGoes, IssueLocalGoes}
-use Rattle.qs_world_refine.specs.Faces.{Face, ShowsFace}
-use Rattle.qs_world_refine.specs.Links.{link, waiting_link}
-use Rattle.qs_world_refine.specs.Places.{place}
 use Rattle.qs_world_refine.proofs.EventFaces.{face_issue_local}
 use Rattle.qs_world_refine.proofs.Local.{Local, local_sight}
 use Rattle.qs_world_refine.proofs.Streams.{Stays}

@@ -1,18 +1,10 @@
 -- Votes that change the face of a place alone: Vote_read, Vote_volatile and Vote_abort. A vote against a commit counts as cast too.
-use Rattle.std.proofs.Common.{◌≡◌, ◌≢◌, ◌⊎◌, inl, inr, ℕ, ◌+◌, ◌≤◌, ◌<◌, true, [], ◌∷◌, arith, refl, ap, ◌∙◌}
-use Rattle.std.proofs.lemmas.Bool.Decides.{nat_tests}
+use Rattle.qs_world_refine.proofs.Words.{◌≡◌, ◌≢◌, ◌⊎◌, inl, inr, ℕ, ◌+◌, ◌≤◌, ◌<◌, true, [], ◌∷◌, arith, refl, ap, ◌∙◌, nat_tests, Tid, class_of, Votes, held, held_at, Vote_read, Vote_volatile, Vote_abort, Face, ShowsFace, link, waiting_link, place, class_in, MayVote, Runs, Sight, ShowsSight}
 use Rattle.qs_base.specs.declared.identifiers.Class.TheVariants as classes
-use Rattle.qs_base.specs.declared.identifiers.Tid.{Tid}
-use Rattle.qs_ops.specs.Members.{class_of}
 use Rattle.qs_world_agree.specs.World.{World, with_at, with_at2}
-use Rattle.qs_world_agree.specs.Guards.{VoteDue, Votes, held, held_at}
-use Rattle.qs_world_agree.specs.Step.{Step, Vote_read, Vote_volatile, Vote_abort}
+use Rattle.qs_world_agree.specs.Guards.{VoteDue}
+use Rattle.qs_world_agree.specs.Step.{Step}
 use Rattle.qs_world_refine.specs.EventLaws.{VoteReadGoes, VoteVolatileGoes, VoteAbortGoes}
-use Rattle.qs_world_refine.specs.Faces.{Face, ShowsFace}
-use Rattle.qs_world_refine.specs.Links.{link, waiting_link}
-use Rattle.qs_world_refine.specs.Places.{place, class_in}
-use Rattle.qs_world_refine.specs.Seen.{MayVote, Runs}
-use Rattle.qs_world_refine.specs.Sights.{Sight, ShowsSight}
 use Rattle.qs_world_refine.proofs.EventFaces.{face_vote_read, face_vote_volatile}
 use Rattle.qs_world_refine.proofs.Local.{Local, local_sight, both}
 use Rattle.qs_world_refine.proofs.Streams.{Stays}

@@ -1,30 +1,15 @@
 -- The first step of an incarnation keeps what its node keeps for its clients, and of each transaction all but what its log has and its servers are still to learn.
-use Rattle.std.proofs.Common.{◌≡◌, ◌||◌, Bool, true, false, List, [], ◌∷◌, ◌++◌, fold, Option, Some, None, refl, subst, ◌∙◌, if◌then◌else◌}
-use Rattle.std.specs.List.{list_any}
-use Rattle.std.proofs.lemmas.List.Folds.{list_any-append}
-use Rattle.std.specs.BTreeMap.{is_at}
-use Rattle.qs_base.specs.Order.{tid_cmp}
-use Rattle.qs_base.specs.declared.identifiers.NodeNo.{NodeNo}
+use Rattle.qs_world_refine.proofs.Words.{◌≡◌, ◌||◌, Bool, true, false, List, [], ◌∷◌, ◌++◌, fold, Option, Some, None, refl, subst, ◌∙◌, if◌then◌else◌, list_any, list_any-append, is_at, tid_cmp, NodeNo, ServerNo, Tid, listed, Message, Record, Participant, send, send_next, is_other, log_if, tid_of, is_forced, notify, end_member, due_endings, end_members, learn_member, learners_at, give_notices, resume_home, resume_part, resume_tid, known_tids, begin_incarnation, NodeValue, Work, part_of, with_node}
+use Rattle.qs_world_refine.proofs.Words.{record_learnt, no_flags}
 use Rattle.qs_base.specs.declared.identifiers.Outcome.{Outcome}
 use Rattle.qs_base.specs.declared.identifiers.Outcome.TheVariants as outcomes
-use Rattle.qs_base.specs.declared.identifiers.ServerNo.{ServerNo}
-use Rattle.qs_base.specs.declared.identifiers.Tid.{Tid}
-use Rattle.qs_engage.specs.Nodes.{listed}
 use Rattle.qs_ops.specs.declared.vote.Notice.{Notice}
 use Rattle.qs_ops.specs.declared.vote.Notice.TheVariants as notices
-use Rattle.qs_packet.specs.declared.message.Message.{Message}
 use Rattle.qs_packet.specs.declared.message.Message.TheVariants as messages
-use Rattle.qs_record.specs.declared.record.Record.{Record}
 use Rattle.qs_record.specs.declared.record.Record.TheVariants as records
 use Rattle.qs_tm.specs.Manager as tm
 use Rattle.qs_tm.specs.Outcomes as outcome_rules
-use Rattle.qs_tm.specs.declared.participant.Participant.{Participant}
-use Rattle.qs_node_step.specs.Bringing.{send, send_next, is_other, log_if, tid_of, is_forced}
-use Rattle.qs_node_step.specs.Deciding.{notice_of, notify, end_member, due_endings, end_members, learn_member, learners_at, give_notices}
-use Rattle.qs_node_step.specs.Restarts.{resume_home, resume_part, resume_tid, known_tids, begin_incarnation}
-use Rattle.qs_node_step.specs.State.{NodeValue, Work, part_of, with_node}
-use Rattle.qs_node_step.specs.Telling.{record_learnt}
-use Rattle.qs_world_refine.specs.SaidLaws.{no_flags}
+use Rattle.qs_node_step.specs.Deciding.{notice_of}
 use Rattle.qs_world_refine.proofs.SaysOn.{told_changed}
 
 -- what is kept of a transaction, but for its servers and its log

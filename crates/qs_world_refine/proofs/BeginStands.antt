@@ -1,28 +1,11 @@
 -- In the first step of an incarnation a node looks at what its log left open, and what stood of a transaction stands.
-use Rattle.std.proofs.Common.{◌≡◌, ◌⊎◌, inl, inr, ℕ, ◌==◌, ◌&&◌, not, nat_lt, Bool, true, false, List, [], ◌∷◌, ◌++◌, Option, Some, None, fold, map, refl, sym, subst, ap, ◌∙◌, arith, if◌then◌else◌}
-use Rattle.std.proofs.lemmas.Bool.{eqb-true}
-use Rattle.std.proofs.lemmas.Bool.Decides.{nat_tests}
-use Rattle.qs_base.specs.declared.identifiers.NodeNo.{NodeNo}
+use Rattle.qs_world_refine.proofs.Words.{◌≡◌, ◌⊎◌, inl, inr, ℕ, ◌==◌, ◌&&◌, not, nat_lt, Bool, true, false, List, [], ◌∷◌, ◌++◌, Option, Some, None, fold, map, refl, sym, subst, ap, ◌∙◌, arith, if◌then◌else◌, eqb-true, nat_tests, NodeNo, Tid, same_node, listed, Record, Participant, is_other, send, log_if, tid_of, give_notices, resume_home, resume_part, resume_tid, known_tids, Work, part_of, with_node, record_learnt, end_record, IsElsewhere, Scene, same_flag, Stands, GoesOn, Goes, same_Some}
 use Rattle.qs_base.specs.declared.identifiers.Outcome.{Outcome}
 use Rattle.qs_base.specs.declared.identifiers.Outcome.TheVariants as outcomes
-use Rattle.qs_base.specs.declared.identifiers.Tid.{Tid}
-use Rattle.qs_engage.specs.Nodes.{same_node, listed}
 use Rattle.qs_packet.specs.declared.message.Message.TheVariants as messages
-use Rattle.qs_record.specs.declared.record.Record.{Record}
 use Rattle.qs_record.specs.declared.record.Record.TheVariants as records
-use Rattle.qs_tm.specs.declared.participant.Participant.{Participant}
-use Rattle.qs_node_step.specs.Bringing.{is_other, send, log_if, tid_of}
-use Rattle.qs_node_step.specs.Deciding.{give_notices}
-use Rattle.qs_node_step.specs.Restarts.{resume_home, resume_part, resume_tid, known_tids}
-use Rattle.qs_node_step.specs.State.{Work, part_of, with_node}
-use Rattle.qs_node_step.specs.Telling.{record_learnt, end_record}
 use Rattle.qs_world_agree.specs.World.{World}
 use Rattle.qs_world_refine.specs.RestartWhole.{BeginIncarnationGoes}
-use Rattle.qs_world_refine.specs.SettleLaws.{IsElsewhere}
-use Rattle.qs_world_refine.specs.Shows.{Scene}
-use Rattle.qs_world_refine.specs.Sound.{same_flag}
-use Rattle.qs_world_refine.specs.Stands.{Stands, GoesOn}
-use Rattle.qs_world_refine.specs.Steps.{Goes}
 use Rattle.qs_world_refine.proofs.DecidedStands.{KeepOutcomes, outcome_itself, outcome_on, outcome_sends, outcome_notices, outcome_logged, decided_stands}
 use Rattle.qs_world_refine.proofs.During.{Leaves, leaves_itself, leaves_on, send_leaves}
 use Rattle.qs_world_refine.proofs.Frames.{out_leaves, sends_leave}
@@ -45,11 +28,8 @@ module _ (t tid : Tid) (apart : Apart t tid) where
   aborted_apart : (part : Participant) (r : Record) → record_learnt tid outcomes.Abort part ≡ Some r → Apart t (tid_of r)
   aborted_apart part r is = by part.log.prepared is
     where
-      some_same : (a b : Record) → Some a ≡ Some b → a ≡ b
-      some_same a b e = cc e
-
       by : (b : Bool) → (if b then Some (end_record tid outcomes.Abort) else None) ≡ Some r → Apart t (tid_of r)
-      by true is = rw (sym (some_same (records.Aborted tid) r is)) apart
+      by true is = rw (sym (same_Some (records.Aborted tid) r is)) apart
       by false is = absurd (cc is)
 
   resume_leaves : (work : Work) → Leaves t work (resume_tid work tid)

@@ -1,32 +1,14 @@
 -- A step of the home of a transaction whose number is still to be given: it begins the transaction, or gives no such number and appends no record of it.
-use Rattle.std.proofs.Common.{◌≡◌, ◌≢◌, ◌⊎◌, inl, inr, ℕ, ◌+◌, ◌<◌, ◌==◌, ◌&&◌, Bool, true, false, [], Option, Some, None, refl, sym, ap, subst, ◌∙◌, arith, if◌then◌else◌}
-use Rattle.std.specs.List.{list_any}
-use Rattle.std.proofs.lemmas.Bool.{eqb-true}
-use Rattle.std.proofs.lemmas.Bool.Decides.{nat_tests}
-use Rattle.qs_base.specs.declared.identifiers.Tid.{Tid}
-use Rattle.qs_book_journal.specs.declared.entry.CrashCause.{CrashCause}
-use Rattle.qs_book_journal.specs.declared.script_line.Command.{Command}
+use Rattle.qs_world_refine.proofs.Words.{◌≡◌, ◌≢◌, ◌⊎◌, inl, inr, ℕ, ◌+◌, ◌<◌, ◌==◌, ◌&&◌, Bool, true, false, [], Option, Some, None, refl, sym, ap, subst, ◌∙◌, arith, if◌then◌else◌, list_any, eqb-true, nat_tests, Tid, CrashCause, Command, step_work, effects_of, after_step, Work, Source, Commanded, Handed, Queues, Clock, Noticed, event_of, command_of, taken_by, step_with, cut_with, cut_log, stopped, stepped_host, Begins, begun_among, past_among, inc_in, count_in, may_be_known, IsUnbegun, ShowsAll}
+use Rattle.qs_world_refine.proofs.Words.{AllGoes, node_no, WorldGoes, is_record_of, is_cut_with, scene_of, sight, begun, opening_seen, IsSteadyWorld, MachineGives, stage_of, IsSteady, IsTidy, is_tidy_record, ScriptLine, begins_one}
+use Rattle.std.proofs.lemmas.Bool.{both_ways}
 use Rattle.qs_book_journal.specs.declared.script_line.Command.TheVariants as commands
-use Rattle.qs_node_step.specs.Step.{step_work, effects_of, after_step}
-use Rattle.qs_node_step.specs.State.{Work}
 use Rattle.qs_node_step.specs.declared.event.Event.{Event}
 use Rattle.qs_tm.specs.Manager as tm
-use Rattle.qs_world.specs.Moves.{Source, Commanded, Handed, Queues, Clock, Noticed, event_of, command_of, taken_by, step_with, cut_with, cut_log, stopped, stepped_host}
 use Rattle.qs_world.specs.World.{World}
-use Rattle.qs_world_agree.specs.Carry.{Begins}
 use Rattle.qs_world_agree.specs.Origins.{Begun}
 use Rattle.qs_world_agree.specs.World as machine
-use Rattle.qs_world_refine.specs.Begun.{begun_among, past_among, inc_in, count_in, may_be_known, has_begun}
-use Rattle.qs_world_refine.specs.BeginLaws.{IsUnbegun}
-use Rattle.qs_world_refine.specs.EachMove.{ShowsAll, AllGoes}
-use Rattle.qs_world_refine.specs.Links.{node_no}
-use Rattle.qs_world_refine.specs.MoveLaws.{WorldGoes, is_record_of, is_cut_with}
-use Rattle.qs_world_refine.specs.Shows.{scene_of, sight}
-use Rattle.qs_world_refine.specs.SoundSteps.{begun}
-use Rattle.qs_world_refine.specs.Starts.{opening_seen}
-use Rattle.qs_world_refine.specs.Steadies.{IsSteadyWorld, MachineGives, stage_of}
-use Rattle.qs_world_refine.specs.Steady.{IsSteady}
-use Rattle.qs_world_refine.specs.Tidy.{IsTidy, is_tidy_record}
+use Rattle.qs_world_refine.specs.Begun.{has_begun}
 use Rattle.qs_world_refine.proofs.BegunStep.{begins_come}
 use Rattle.qs_world_refine.proofs.EachEvent.{StepCame}
 use Rattle.qs_world_refine.proofs.EachMay.{from_client, from_node, from_notice}
@@ -42,8 +24,6 @@ use Rattle.qs_world_refine.proofs.StepAll.{goes_all, kept_same, stays_stopped, n
 use Rattle.qs_world_refine.proofs.StepMoves.{stops, cut}
 use Rattle.qs_world_refine.proofs.StillSteps.{begins_in, step_still}
 use Rattle.qs_world_refine.proofs.UnseenWorlds.{started, may_begin, start_shows_all, fit_apart}
-use Rattle.qs_book_journal.specs.declared.script_line.ScriptLine.{ScriptLine}
-use Rattle.qs_world_refine.specs.Walks.{begins_one}
 use Rattle.qs_world_refine.proofs.ToCome.{IsToCome, tid_is, to_come, not_known, still, as_before, count_up, inc_up, which_inc, other_stops, later_stops}
 
 abbrev begins_found : Option Event → Bool
@@ -165,10 +145,7 @@ module _ (tid : Tid) (world : World) (steady : IsSteady world) (tidy : IsSteadyW
           by : (b : Bool) → (tid.seq == (world.hosts n).node.manager.begun + 1) ≡ b → StepCame tid world n free (Commanded k) event (w0 up now) ⊎ Apart
           by true number = inl (subst (λ (e : Event). StepCame tid world n free (Commanded k) e (w0 up now)) (sym same)
               (begins_come tid world (w0 up now) steady tidy is.numbered is.home_in is.unknown (all up now) n free n_in on (next_is (eqb-true tid.seq ((world.hosts n).node.manager.begun + 1) number)) k line begins))
-          by false off = inr (apart (step_tidy world tidy n free n_in on event fit gives) (λ number. never (tid.seq == (world.hosts n).node.manager.begun + 1) off (grind (arith, nat_tests, number))))
-            where
-              never : (b : Bool) → b ≡ false → b ≡ true → ⊥
-              never b x y = cc (x, y)
+          by false off = inr (apart (step_tidy world tidy n free n_in on event fit gives) (λ number. both_ways (tid.seq == (world.hosts n).node.manager.begun + 1) off (grind (arith, nat_tests, number))))
       is_begun k line same commands.Commit command = inr (none_given (step_still world tidy n free n_in on event (rw same (ap begins_one command)) fit gives))
       is_begun k line same commands.Abort command = inr (none_given (step_still world tidy n free n_in on event (rw same (ap begins_one command)) fit gives))
       is_begun k line same commands.Take command = inr (none_given (step_still world tidy n free n_in on event (rw same (ap begins_one command)) fit gives))

@@ -1,24 +1,10 @@
 -- A client begins a transaction: its face stays, and every other transaction is left as it was.
-use Rattle.std.proofs.Common.{◌≡◌, ◌+◌, Bool, true, false, Option, Some, None, unwrap_or, refl, arith, if◌then◌else◌}
-use Rattle.std.specs.declared.cmp.Ordering.TheVariants.{Equal}
-use Rattle.std.proofs.lemmas.Bool.Decides.{nat_tests}
-use Rattle.qs_base.specs.Order.{tid_cmp}
+use Rattle.qs_world_refine.proofs.Words.{◌≡◌, ◌+◌, Bool, true, false, Option, Some, None, unwrap_or, refl, arith, if◌then◌else◌, Equal, nat_tests, tid_cmp, Tid, same_node, ScriptLine, new_participant, begun_participant, Participant, was_committed, enter, begin_as, put_label, Work, part_of, with_manager, face, part_at, began_here, is_past_commit}
 use Rattle.qs_base.specs.declared.identifiers.Outcome.TheVariants as outcomes
-use Rattle.qs_base.specs.declared.identifiers.Tid.{Tid}
-use Rattle.qs_engage.specs.Nodes.{same_node}
 use Rattle.qs_book_journal.specs.declared.entry.Act.TheVariants as acts
-use Rattle.qs_book_journal.specs.declared.script_line.ScriptLine.{ScriptLine}
 use Rattle.qs_node_kept.specs.declared.kept.KeptLabel.{KeptLabel}
 use Rattle.qs_ops.specs.declared.answer.Answer.TheVariants as answers
 use Rattle.qs_tm.specs.Manager as tm
-use Rattle.qs_tm.specs.Participant.{new_participant, begun_participant}
-use Rattle.qs_tm.specs.declared.participant.Participant.{Participant}
-use Rattle.qs_node_step.specs.Answering.{was_committed}
-use Rattle.qs_node_step.specs.Bringing.{enter}
-use Rattle.qs_node_step.specs.Commands.{begin_as}
-use Rattle.qs_node_step.specs.Serving.{put_label}
-use Rattle.qs_node_step.specs.State.{Work, part_of, with_manager}
-use Rattle.qs_world_refine.specs.NodeFaces.{face, part_at, began_here, is_past_commit}
 use Rattle.qs_world_refine.specs.Starts.{MayBeginAt}
 use Rattle.qs_world_refine.proofs.Alike.{SameFace}
 use Rattle.qs_world_refine.proofs.During.{Leaves, leaves_on}

@@ -1,18 +1,10 @@
 -- What has begun has begun after each move.
-use Rattle.std.proofs.Common.{◌≡◌, ◌⊎◌, inl, inr, ℕ, ◌<◌, ◌==◌, ◌&&◌, not, nat_lt, Bool, true, false, Option, Some, None, refl, arith}
-use Rattle.std.proofs.lemmas.Bool.Decides.{nat_tests}
-use Rattle.qs_base.specs.declared.identifiers.Tid.{Tid}
-use Rattle.qs_book_machine.specs.Clauses.{is_crash}
-use Rattle.qs_node_step.specs.Opening.{recovered_of}
-use Rattle.qs_node_step.specs.Step.{step_work, effects_of}
+use Rattle.qs_world_refine.proofs.Words.{◌≡◌, ◌⊎◌, inl, inr, ℕ, ◌<◌, ◌==◌, ◌&&◌, not, nat_lt, true, Option, Some, None, refl, arith, nat_tests, Tid, is_crash, recovered_of, step_work, effects_of, Source, Cut, Stop, Rise, event_of, step_with, cut_with, cut_log, stopped, risen, is_later, is_in_order, may_step, known_of, inc_in, count_in, begun, IsSteadyWorld, MachineGives, GivesAt, IsTidy, not-true}
 use Rattle.qs_node_step.specs.declared.event.Event.{Event}
-use Rattle.qs_world.specs.Moves.{Source, Step, Cut, Stop, Rise, Meet, event_of, step_with, cut_with, cut_log, stopped, risen, met, has_begun as has_risen, is_later, is_in_order, may_step}
-use Rattle.qs_world.specs.World.{World, known_of}
-use Rattle.qs_world_refine.specs.Begun.{inc_in, count_in, has_begun}
+use Rattle.qs_world.specs.Moves.{Step, Meet, met, has_begun as has_risen}
+use Rattle.qs_world.specs.World.{World}
+use Rattle.qs_world_refine.specs.Begun.{has_begun}
 use Rattle.qs_world_refine.specs.ShownWorlds.{BegunStays}
-use Rattle.qs_world_refine.specs.SoundSteps.{begun}
-use Rattle.qs_world_refine.specs.Steadies.{IsSteadyWorld, MachineGives, GivesAt}
-use Rattle.qs_world_refine.specs.Tidy.{IsTidy}
 use Rattle.qs_world_refine.proofs.MoveGoes.{in_run, later_in, StepMay, step_may}
 use Rattle.qs_world_refine.proofs.SoundParts.{and_both}
 use Rattle.qs_world_refine.proofs.SteadyGrows.{begun_rises, has_begun_on}
@@ -53,11 +45,7 @@ begun_stays tid world (Stop n stamp cause) may gives steady its =
 begun_stays tid world (Rise n stamp inc) may gives steady its =
     let rest : (not (world.channels.up n) ≡ true) × ((is_in_order world n stamp && nat_lt (world.channels.inc n) inc) ≡ true) = and_both (not (world.channels.up n)) _ may in
     let parts : (is_in_order world n stamp ≡ true) × (nat_lt (world.channels.inc n) inc ≡ true) = and_both (is_in_order world n stamp) _ rest.1 in
-    has_begun_on world (risen world n stamp inc (recovered_of (world.hosts n).log)) (grows world steady n stamp inc (in_run world n stamp parts.0) (off (world.channels.up n) rest.0) (grind (arith, nat_tests, parts.1))) tid its
-  where
-    off : (b : Bool) → not b ≡ true → b ≡ false
-    off true is = absurd (cc (is))
-    off false is = refl
+    has_begun_on world (risen world n stamp inc (recovered_of (world.hosts n).log)) (grows world steady n stamp inc (in_run world n stamp parts.0) (not-true (world.channels.up n) rest.0) (grind (arith, nat_tests, parts.1))) tid its
 begun_stays tid world (Meet n stamp m inc) may gives steady its =
     let runs : (world.channels.up n ≡ true) × ((is_later world n stamp && ((not (m == n) && nat_lt m world.size) && ((known_of world n m == 0) && (nat_lt 0 inc && has_risen world stamp m inc)))) ≡ true) = and_both (world.channels.up n) _ may in
     let parts : (is_later world n stamp ≡ true) × (((not (m == n) && nat_lt m world.size) && ((known_of world n m == 0) && (nat_lt 0 inc && has_risen world stamp m inc))) ≡ true) = and_both (is_later world n stamp) _ runs.1 in

@@ -1,45 +1,15 @@
 -- A client begins a transaction in a step of its home: the machine at its start shows it, and it stands so.
-use Rattle.std.proofs.Common.{◌≡◌, ℕ, ◌<◌, ◌==◌, ◌&&◌, ◌||◌, not, Bool, true, false, List, [], ◌∷◌, ◌++◌, Option, Some, None, refl, sym, ap, subst, ◌∙◌, arith, if◌then◌else◌}
-use Rattle.std.specs.List.{list_any, filter}
-use Rattle.std.proofs.lemmas.Bool.Decides.{nat_tests}
-use Rattle.std.proofs.lemmas.List.Folds.{list_any-append}
-use Rattle.qs_base.specs.declared.identifiers.NodeNo.{NodeNo}
-use Rattle.qs_base.specs.declared.identifiers.Tid.{Tid}
-use Rattle.qs_engage.specs.Nodes.{same_node}
+use Rattle.qs_world_refine.proofs.Words.{◌≡◌, ℕ, ◌<◌, ◌==◌, ◌&&◌, ◌||◌, not, Bool, true, false, List, [], ◌∷◌, ◌++◌, Option, Some, None, refl, sym, ap, subst, ◌∙◌, arith, if◌then◌else◌, list_any, filter, nat_tests, list_any-append, NodeNo, Tid, same_node, Command, ScriptLine, Record, recovery, names_transaction, BeginFault, Participant, was_committed, enter, is_forced, refuse_begin, begin_or_refuse, begin_command, put_label, NodeValue, Work, part_of, with_manager, work_on, obey, with_command}
+use Rattle.qs_world_refine.proofs.Words.{Commanded, command_of, may_be_known, inc_in, count_in, ShowsAll, is_loose_of, is_record_of, HasKinds, Scene, scene_of, sight_during, is_in_doubt, begun, Stands, GoesOn, IsSteadyWorld, stage_of, KnowsNothing, IsSteady, IsTidy, is_tidy_record, eq-eqb}
 use Rattle.qs_book_journal.specs.declared.entry.Act.TheVariants as acts
-use Rattle.qs_book_journal.specs.declared.script_line.Command.{Command}
 use Rattle.qs_book_journal.specs.declared.script_line.Command.TheVariants as commands
-use Rattle.qs_book_journal.specs.declared.script_line.ScriptLine.{ScriptLine}
 use Rattle.qs_ops.specs.declared.answer.Answer.TheVariants as answers
-use Rattle.qs_record.specs.declared.record.Record.{Record}
-use Rattle.qs_restart.specs.Recovery.{recovery, names_transaction}
 use Rattle.qs_tm.specs.Manager as tm
-use Rattle.qs_tm.specs.declared.manager.BeginFault.{BeginFault}
 use Rattle.qs_tm.specs.declared.manager.BeginFault.TheVariants as faults
-use Rattle.qs_tm.specs.declared.participant.Participant.{Participant}
-use Rattle.qs_node_step.specs.Answering.{was_committed}
-use Rattle.qs_node_step.specs.Bringing.{enter, is_forced}
-use Rattle.qs_node_step.specs.Commands.{refuse_begin, begin_or_refuse, begin_command}
-use Rattle.qs_node_step.specs.Serving.{put_label}
-use Rattle.qs_node_step.specs.State.{NodeValue, Work, part_of, with_manager, work_on}
-use Rattle.qs_node_step.specs.Step.{obey, with_command}
-use Rattle.qs_world.specs.Moves.{Commanded, command_of}
 use Rattle.qs_world.specs.World.{World}
 use Rattle.qs_world_agree.specs.World as machine
-use Rattle.qs_world_refine.specs.Begun.{may_be_known, has_begun, inc_in, count_in}
-use Rattle.qs_world_refine.specs.EachMove.{ShowsAll}
-use Rattle.qs_world_refine.specs.JoinLaws.{is_loose_of}
-use Rattle.qs_world_refine.specs.MoveLaws.{is_record_of}
-use Rattle.qs_world_refine.specs.PassLaws.{HasKinds}
-use Rattle.qs_world_refine.specs.Shows.{Scene, scene_of, sight_during}
-use Rattle.qs_world_refine.specs.Sights.{is_in_doubt}
-use Rattle.qs_world_refine.specs.SoundSteps.{begun}
-use Rattle.qs_world_refine.specs.Stands.{Stands, GoesOn}
+use Rattle.qs_world_refine.specs.Begun.{has_begun}
 use Rattle.qs_world_refine.specs.Starts.{MayBeginAt}
-use Rattle.qs_world_refine.specs.Steadies.{IsSteadyWorld, stage_of}
-use Rattle.qs_world_refine.specs.SteadyFacts.{KnowsNothing}
-use Rattle.qs_world_refine.specs.Steady.{IsSteady}
-use Rattle.qs_world_refine.specs.Tidy.{IsTidy, is_tidy_record}
 use Rattle.qs_world_refine.proofs.BeginKeeps.{KeptOn}
 use Rattle.qs_world_refine.proofs.Beginning as beginning
 use Rattle.qs_world_refine.proofs.BorrowerStands.{answer_kinds}
@@ -112,10 +82,7 @@ module _ (t : Tid) (world : World) (w : machine.World) (steady : IsSteady world)
   }
 
   home_here : same_node t.home work.node.setting.node ≡ true
-  home_here = same_number t.home.0 work.node.setting.node.0 (ap (λ (u : Tid). u.home.0) next_is ∙ ap (λ (k : NodeNo). k.0) (its.node.own ∙ sym (ap (λ s. s.node) its.node.setting)))
-    where
-      same_number : (a b : ℕ) → a ≡ b → (a == b) ≡ true
-      same_number a b is = grind (arith, nat_tests, is)
+  home_here = eq-eqb t.home.0 work.node.setting.node.0 (ap (λ (u : Tid). u.home.0) next_is ∙ ap (λ (k : NodeNo). k.0) (its.node.own ∙ sym (ap (λ s. s.node) its.node.setting)))
 
   -- ---- it begins, or it does not
 

@@ -1,35 +1,13 @@
 -- What a borrower commands leaves standing what stood of a transaction.
-use Rattle.std.proofs.Common.{◌≡◌, ℕ, ◌==◌, ◌&&◌, ◌||◌, not, Bool, true, false, List, [], ◌∷◌, ◌++◌, length, Option, Some, None, is_some, refl, sym, subst, ap, ◌∙◌, arith, if◌then◌else◌}
-use Rattle.std.specs.Prelude.{suc}
-use Rattle.std.specs.BTreeMap.{is_at}
-use Rattle.std.specs.List.{filter}
-use Rattle.std.specs.Map.{lookup, remove_entry}
-use Rattle.std.proofs.lemmas.Bool.{eqb-true}
-use Rattle.std.proofs.lemmas.Bool.Decides.{nat_tests}
-use Rattle.qs_base.specs.Order.{same_tid}
-use Rattle.qs_base.specs.declared.identifiers.ClientNo.{ClientNo}
-use Rattle.qs_base.specs.declared.identifiers.Tid.{Tid}
+use Rattle.qs_world_refine.proofs.Words.{◌≡◌, ℕ, ◌==◌, ◌&&◌, not, Bool, true, false, List, [], ◌∷◌, ◌++◌, length, Option, Some, None, is_some, refl, sym, subst, ap, ◌∙◌, arith, if◌then◌else◌, suc, is_at, filter, lookup, remove_entry, eqb-true, nat_tests, same_tid, ClientNo, Tid, Command, is_taken, is_standing_loan, first_untaken, take_first, last_taken, give_back, Lent, Answer, is_undecided, Participant, is_void, take, yield, lent_command, with_loan, loan_command, enter, answer, Work, part_of}
+use Rattle.qs_world_refine.proofs.Words.{with_kept, with_doings, client_cmp, OpenCommand, Scene, sight_during, ShowsWork, is_in_doubt, goes_in_run, may_doubt, Stands, GoesOn, Goes}
 use Rattle.qs_book_journal.specs.declared.entry.Act.TheVariants as acts
-use Rattle.qs_book_journal.specs.declared.script_line.Command.{Command}
 use Rattle.qs_book_journal.specs.declared.script_line.Command.TheVariants as commands
-use Rattle.qs_node_kept.specs.Loans.{is_taken, is_standing_loan, first_untaken, take_first, last_taken, give_back}
-use Rattle.qs_node_kept.specs.declared.kept.Lent.{Lent}
-use Rattle.qs_ops.specs.declared.answer.Answer.{Answer}
 use Rattle.qs_ops.specs.declared.answer.Answer.TheVariants as answers
 use Rattle.qs_tm.specs.Manager as tm
-use Rattle.qs_tm.specs.Participant.{is_undecided}
-use Rattle.qs_tm.specs.declared.participant.Participant.{Participant}
-use Rattle.qs_node_step.specs.Borrowing.{is_void, is_aborted, take, yield, lent_command, with_loan, loan_command}
-use Rattle.qs_node_step.specs.Bringing.{enter, answer}
-use Rattle.qs_node_step.specs.State.{Work, part_of, with_kept, with_doings, client_cmp}
-use Rattle.qs_node_step.specs.declared.state.OpenCommand.{OpenCommand}
+use Rattle.qs_node_step.specs.Borrowing.{is_aborted}
 use Rattle.qs_world_agree.specs.World.{World}
 use Rattle.qs_world_refine.specs.CommandLaws.{BorrowerGoes}
-use Rattle.qs_world_refine.specs.Shows.{Scene, sight_during, ShowsWork}
-use Rattle.qs_world_refine.specs.Sights.{is_in_doubt}
-use Rattle.qs_world_refine.specs.Sound.{goes_in_run}
-use Rattle.qs_world_refine.specs.Stands.{may_doubt, Stands, GoesOn}
-use Rattle.qs_world_refine.specs.Steps.{Goes}
 use Rattle.qs_world_refine.proofs.During.{Leaves, leaves_on, found_same}
 use Rattle.qs_world_refine.proofs.Facts.{lawful_on}
 use Rattle.qs_world_refine.proofs.Frames.{out_leaves}
@@ -45,6 +23,7 @@ use Rattle.qs_world_refine.proofs.SoundKnown.{same_is}
 use Rattle.qs_world_refine.proofs.SoundLoans.{take_sound, yield_sound}
 use Rattle.qs_world_refine.proofs.SoundParts.{and_both}
 use Rattle.qs_world_refine.proofs.SoundRules.{answer_sound}
+use Rattle.qs_base_lemmas.proofs.Tests.{not_implied}
 
 -- ---- a client is answered
 
@@ -179,11 +158,7 @@ module _ (t : Tid) (scene : Scene) (n : ℕ) (client : ClientNo) (tid : Tid) whe
     runs = loan_open client tid loan work found held valid is.sound
 
     now_here : loan.inc ≡ work.node.setting.inc
-    now_here = eqb-true loan.inc work.node.setting.inc (by (loan.inc == work.node.setting.inc) (is_aborted tid work.node) valid)
-      where
-        by : (a b : Bool) → (not a || b) ≡ false → a ≡ true
-        by true b so = refl
-        by false b so = absurd (cc so)
+    now_here = eqb-true loan.inc work.node.setting.inc (not_implied (loan.inc == work.node.setting.inc) (is_aborted tid work.node) valid)
 
     yield_any : GoesOn t scene n (yield client tid work) w
     yield_any = by (same_tid t tid) refl (part_of tid work) refl

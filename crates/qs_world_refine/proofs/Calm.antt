@@ -1,30 +1,17 @@
 -- What holds of a node between its steps holds of it once its first step began.
-use Rattle.std.proofs.Common.{◌≡◌, ◌≤◌, ◌==◌, ◌&&◌, ◌||◌, not, Bool, true, false, List, [], ◌∷◌, Option, Some, None, is_some, is_none, refl, sym, ap, subst, ◌∙◌, if◌then◌else◌}
-use Rattle.std.specs.List.{list_all}
-use Rattle.std.specs.Map.{lookup}
-use Rattle.std.specs.BTreeMap.{is_at}
-use Rattle.qs_base.specs.Order.{tid_cmp}
+use Rattle.qs_world_refine.proofs.Words.{◌≡◌, ◌≤◌, ◌==◌, ◌&&◌, ◌||◌, not, Bool, true, false, List, [], ◌∷◌, Option, Some, None, is_some, is_none, refl, sym, ap, subst, ◌∙◌, if◌then◌else◌, list_all, lookup, is_at, tid_cmp, Tid, names_transaction, is_undecided, Participant, was_committed, NodeValue, Work, part_of, work_on, no_flags, began_here, is_past_commit, is_sound, is_past, is_kept_part, keeps_commits, is_owned, is_owned_label, keeps_owned, in_order, begun, are_queues_apart, and_parts}
 use Rattle.qs_base.specs.declared.identifiers.Outcome.TheVariants as outcomes
-use Rattle.qs_base.specs.declared.identifiers.Tid.{Tid}
 use Rattle.qs_engage.specs.declared.engage.Engage.{Engage}
 use Rattle.qs_node_kept.specs.declared.kept.KeptLabel.{KeptLabel}
 use Rattle.qs_node_kept.specs.Keeping.{KeepingValue}
-use Rattle.qs_restart.specs.Recovery.{names_transaction}
 use Rattle.qs_tm.specs.Manager as tm
-use Rattle.qs_tm.specs.Participant.{is_undecided}
-use Rattle.qs_tm.specs.declared.participant.Participant.{Participant}
-use Rattle.qs_node_step.specs.Answering.{was_committed}
-use Rattle.qs_node_step.specs.State.{NodeValue, Work, part_of, work_on}
-use Rattle.qs_world_refine.specs.SaidLaws.{no_flags}
-use Rattle.qs_world_refine.specs.NodeFaces.{began_here, is_past_commit}
-use Rattle.qs_world_refine.specs.Sound.{is_sound, is_past, is_kept_part, keeps_commits, is_owned, is_owned_label, keeps_owned, in_order}
-use Rattle.qs_world_refine.specs.SoundSteps.{begun}
-use Rattle.qs_world_refine.specs.Steady.{IsSteadyNode, are_queues_apart}
+use Rattle.qs_world_refine.specs.Steady.{IsSteadyNode}
 use Rattle.qs_world_refine.proofs.BeginKeeps.{KeptOn, begin_keeps, core_of, core_found}
 use Rattle.qs_world_refine.proofs.SaysSeen.{each_found}
 use Rattle.qs_world_refine.proofs.SoundRestart.{begin_incarnation_sound}
-use Rattle.qs_world_refine.proofs.SoundParts.{and_both, all_found}
+use Rattle.qs_world_refine.proofs.SoundParts.{all_found}
 use Rattle.qs_world_refine.proofs.SoundViews.{seen}
+use Rattle.qs_base_lemmas.proofs.Tests.{some_same}
 
 -- two participants that differ in what their servers and their log have alone
 pub record SameCore (part other : Participant) : Type 0 where
@@ -47,9 +34,6 @@ same_core part other same = record {
   waiting = ap (λ (p : Participant). p.waiting) whole;
 }
   where
-    some_same : {a b : Participant} → Some a ≡ Some b → a ≡ b
-    some_same is = cc (is)
-
     whole : record other { members = []; log = no_flags } ≡ record part { members = []; log = no_flags }
     whole = some_same same
 
@@ -122,12 +106,9 @@ module _ (work new : Work) (on : KeptOn work new) where
       both : {a b : Bool} → a ≡ true → b ≡ true → (a && b) ≡ true
       both x y = rw (x, y) refl
 
-      parts : (a b : Bool) → (a && b) ≡ true → (a ≡ true) × (b ≡ true)
-      parts a b is = and_both a b is
-
       each : (labels : List KeptLabel) → list_all (is_owned_label work.node) labels ≡ true → list_all (is_owned_label new.node) labels ≡ true
       each [] all = refl
-      each (label ∷ rest) all = let its = parts (is_owned_label work.node label) (list_all (is_owned_label work.node) rest) all in both (owned_same label ∙ its.0) (each rest its.1)
+      each (label ∷ rest) all = let its = and_parts (is_owned_label work.node label) (list_all (is_owned_label work.node) rest) all in both (owned_same label ∙ its.0) (each rest its.1)
 
   pub commits_still : in_order new.node.manager.known ≡ true → keeps_commits work.node ≡ true → keeps_commits new.node ≡ true
   commits_still ordered kept = each_found (is_kept_part new.node) new.node.manager.known ordered each

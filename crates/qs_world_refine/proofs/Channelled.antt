@@ -1,17 +1,13 @@
 -- What holds of the channels between incarnations is kept by each of their moves that a world makes.
-use Rattle.std.proofs.Common.{◌≡◌, ◌⊎◌, inl, inr, ℕ, ◌<◌, ◌≤◌, ◌==◌, ◌&&◌, not, Bool, true, false, List, [], ◌∷◌, ◌++◌, length, Some, refl, sym, ap, subst, ◌∙◌, arith, if◌then◌else◌}
+use Rattle.qs_world_refine.proofs.Words.{◌≡◌, ◌⊎◌, inl, inr, ℕ, ◌<◌, ◌≤◌, ◌==◌, ◌&&◌, not, Bool, true, false, List, [], ◌∷◌, ◌++◌, length, Some, refl, sym, ap, subst, ◌∙◌, arith, if◌then◌else◌, eqb-true, nat_tests, Channels, Sending, post_all, Parcel}
 use Rattle.std.specs.Prelude.{slice_get}
-use Rattle.std.proofs.lemmas.Bool.{eqb-true}
-use Rattle.std.proofs.lemmas.Bool.Decides.{nat_tests}
 use Rattle.qs_session_channels.specs.Channels as channel
-use Rattle.qs_session_channels.specs.Channels.{Channels, with_at4}
+use Rattle.qs_session_channels.specs.Channels.{with_at4}
 use Rattle.qs_session_channels.specs.Laws.{IsOrdered}
 use Rattle.qs_session_channels.specs.Network.{with_at, with_at2}
-use Rattle.qs_node_step.specs.declared.event.Sending.{Sending}
-use Rattle.qs_world.specs.Posting.{post_all}
-use Rattle.qs_world.specs.World.{Parcel}
 use Rattle.qs_world_refine.proofs.Posted.{parcels, inc_all, peer_all, handed_all, posted_all}
 use Rattle.qs_world_refine.proofs.SaysOn.{append_three}
+use Rattle.qs_base_lemmas.proofs.Tests.{zero_le, le_le, le_lt}
 
 pub record IsWell (c : Channels Parcel) : Type 0 where
   pub known : (n m : ℕ) → c.peer n m ≤ c.inc m
@@ -141,22 +137,13 @@ well_restart c n i later w = record {
         by true is = rw (eqb-true p n is) (omega (arith, later))
         by false is = omega (arith)
 
-    up_to : (a b c : ℕ) → a ≤ b → b ≤ c → a ≤ c
-    up_to a b c d e = omega (arith, d, e)
-
     known_at : (p q : ℕ) (b : Bool) → (p == n) ≡ b → (if b then (λ (m : ℕ). 0) else c.peer p) q ≤ with_at c.inc n i q
-    known_at p q true is = zero_below (with_at c.inc n i q)
-      where
-        zero_below : (a : ℕ) → 0 ≤ a
-        zero_below a = omega (arith)
-    known_at p q false is = up_to (c.peer p q) (c.inc q) (with_at c.inc n i q) (w.known p q) (rises q)
-
-    less : (a b k : ℕ) → a ≤ b → b < k → a < k
-    less a b k d e = omega (arith, d, e)
+    known_at p q true is = zero_le (with_at c.inc n i q)
+    known_at p q false is = le_le (c.peer p q) (c.inc q) (with_at c.inc n i q) (w.known p q) (rises q)
 
     earlier : (p q k l : ℕ) → (with_at c.inc n i p < k) ⊎ (with_at c.inc n i q < l) → (c.inc p < k) ⊎ (c.inc q < l)
-    earlier p q k l (inl past) = inl (less (c.inc p) (with_at c.inc n i p) k (rises p) past)
-    earlier p q k l (inr past) = inr (less (c.inc q) (with_at c.inc n i q) l (rises q) past)
+    earlier p q k l (inl past) = inl (le_lt (c.inc p) (with_at c.inc n i p) k (rises p) past)
+    earlier p q k l (inr past) = inr (le_lt (c.inc q) (with_at c.inc n i q) l (rises q) past)
 
     unknown_at : (p q j : ℕ) (b : Bool) → (p == n) ≡ b → (if b then (λ (m : ℕ). 0) else c.peer p) q < j → c.posted p q (if b then i else c.inc p) j ≡ []
     unknown_at p q j true is past = w.unborn p q i j (inl (rw (eqb-true p n is) later))

@@ -1,13 +1,6 @@
 -- What a restart keeps as committed was kept so when it was saved, or is in the log: the log decides the rest.
-use Rattle.std.proofs.Common.{◌≡◌, ◌⊎◌, inl, inr, Bool, true, false, List, [], ◌∷◌, ◌++◌, fold, Option, Some, None, refl, subst, sym, if◌then◌else◌}
-use Rattle.std.specs.List.{list_any, find}
-use Rattle.qs_base.specs.Order.{same_tid}
-use Rattle.qs_base.specs.declared.identifiers.NodeNo.{NodeNo}
-use Rattle.qs_base.specs.declared.identifiers.Tid.{Tid}
-use Rattle.qs_node_kept.specs.Keeping.{is_outcome_of}
+use Rattle.qs_world_refine.proofs.Words.{◌≡◌, ◌⊎◌, inl, inr, Bool, true, false, List, [], ◌∷◌, ◌++◌, fold, Option, Some, None, refl, subst, sym, if◌then◌else◌, list_any, find, same_tid, NodeNo, Tid, is_outcome_of, Decided, is_kept_commit}
 use Rattle.qs_node_kept.specs.declared.kept.KeptLabel.{KeptLabel}
-use Rattle.qs_node_kept.specs.declared.kept.Decided.{Decided}
-use Rattle.qs_node_step.specs.Answering.{is_kept_commit}
 use Rattle.qs_node_step.specs.Opening.{outcome_in_log, is_left_open, close_tid, close_outcome}
 use Rattle.qs_world_refine.proofs.SoundKnown.{same_is}
 use Rattle.qs_world_refine.proofs.TurnOutcomes.{found_last}

@@ -1,29 +1,12 @@
 -- A Covered or VotedYes comes to a node that knows the transaction and not its outcome: Count.
-use Rattle.std.proofs.Common.{◌≡◌, ℕ, ◌<◌, ◌==◌, ◌||◌, max, Bool, true, false, List, [], ◌∷◌, Option, Some, None, refl, ap, ◌∙◌, arith, if◌then◌else◌}
-use Rattle.std.specs.BTreeMap.{is_at}
-use Rattle.std.proofs.lemmas.Bool.{eqb-true}
-use Rattle.qs_base.specs.Order.{tid_cmp}
-use Rattle.qs_base.specs.declared.identifiers.NodeNo.{NodeNo}
-use Rattle.qs_base.specs.declared.identifiers.Tid.{Tid}
-use Rattle.qs_engage.specs.Engage.{peer_of}
-use Rattle.qs_engage.specs.Nodes.{has_node, joined}
-use Rattle.qs_engage.specs.declared.engage.PeerPart.{PeerPart}
-use Rattle.qs_packet.specs.declared.message.Message.{Message}
+use Rattle.qs_world_refine.proofs.Words.{◌≡◌, ℕ, ◌<◌, ◌==◌, ◌||◌, max, Bool, true, false, List, [], ◌∷◌, Option, Some, None, refl, ap, ◌∙◌, arith, if◌then◌else◌, is_at, eqb-true, tid_cmp, NodeNo, Tid, peer_of, joined, PeerPart, Message, Manager, Participant, closer_came, count, NodeValue, Work, part_of, Open, Face, node_no, names_node, Closed, said, all_said, face, face_at, Scene, sight_during, ShowsWork, handed, SightGoes, IsAt, IsWhole, IsNext, IsToldSet, Goes}
+use Rattle.qs_engage.specs.Nodes.{has_node}
 use Rattle.qs_tm.specs.Manager as tm
 use Rattle.qs_tm.specs.Participant.{counted}
-use Rattle.qs_tm.specs.declared.manager.Manager.{Manager}
-use Rattle.qs_tm.specs.declared.participant.Participant.{Participant}
-use Rattle.qs_node_step.specs.Asking.{closer_came, count}
-use Rattle.qs_node_step.specs.State.{NodeValue, Work, part_of}
-use Rattle.qs_world_agree.specs.World.{World, Open, with_at}
-use Rattle.qs_world_refine.specs.Faces.{Face}
-use Rattle.qs_world_refine.specs.Links.{node_no, names_node, Closed}
-use Rattle.qs_world_refine.specs.Messages.{said, all_said}
-use Rattle.qs_world_refine.specs.NodeFaces.{face, face_at}
-use Rattle.qs_world_refine.specs.Shows.{Scene, sight_during, ShowsWork, handed}
-use Rattle.qs_world_refine.specs.Seen.{SightGoes, sight_counted}
+use Rattle.qs_world_agree.specs.World.{World, with_at}
+use Rattle.qs_world_refine.specs.Seen.{sight_counted}
 use Rattle.qs_world_refine.specs.Seen as seen
-use Rattle.qs_world_refine.specs.Steps.{IsAt, IsWhole, Knows, IsNext, IsToldSet, Goes}
+use Rattle.qs_world_refine.specs.Steps.{Knows}
 use Rattle.qs_world_refine.proofs.Alike.{SameFace, same_itself}
 use Rattle.qs_world_refine.proofs.Arrays.{peer_put, node_dropped}
 use Rattle.qs_world_refine.proofs.During.{Leaves, Quiet, leaves_itself, face_here, runs, meets}

@@ -1,32 +1,13 @@
 -- A Covered or VotedYes comes, and what stood of its transaction stands.
-use Rattle.std.proofs.Common.{◌≡◌, ◌≢◌, ℕ, ◌<◌, ◌≤◌, ◌==◌, ◌&&◌, not, nat_lt, Bool, true, false, List, [], ◌∷◌, Option, Some, None, is_some, refl, sym, subst, ap, ◌∙◌, arith, if◌then◌else◌}
-use Rattle.std.specs.Prelude.{is_none, unwrap_or}
-use Rattle.std.specs.BTreeMap.{is_at}
-use Rattle.std.proofs.lemmas.Bool.Decides.{nat_tests}
-use Rattle.qs_base.specs.Order.{tid_cmp}
-use Rattle.qs_base.specs.declared.identifiers.NodeNo.{NodeNo}
+use Rattle.qs_world_refine.proofs.Words.{◌≡◌, ◌≢◌, ℕ, ◌<◌, ◌≤◌, ◌==◌, ◌&&◌, not, nat_lt, Bool, true, false, List, [], ◌∷◌, Option, Some, None, is_some, refl, sym, subst, ap, ◌∙◌, arith, if◌then◌else◌, is_none, unwrap_or, is_at, nat_tests, tid_cmp, NodeNo, Tid, same_node, Message, new_participant, is_undecided, Participant, closer_came, count, Work, part_of, Open, Face, Closed, names_node, node_no, said, all_said, began_here, face, face_at, is_past_commit, unknown, SightGoes, sight_taken, Scene}
+use Rattle.qs_world_refine.proofs.Words.{handed, sight_during, ShowsWork, StaysSound, Stands, GoesOn, IsNext, IsToldSet, Goes, not-true}
 use Rattle.qs_base.specs.declared.identifiers.Outcome.{Outcome}
 use Rattle.qs_base.specs.declared.identifiers.Outcome.TheVariants as outcomes
-use Rattle.qs_base.specs.declared.identifiers.Tid.{Tid}
-use Rattle.qs_engage.specs.Nodes.{same_node, has_node}
-use Rattle.qs_packet.specs.declared.message.Message.{Message}
+use Rattle.qs_engage.specs.Nodes.{has_node}
 use Rattle.qs_packet.specs.declared.message.Message.TheVariants as messages
-use Rattle.qs_tm.specs.Participant.{new_participant, is_undecided}
 use Rattle.qs_tm.specs.Participant as participant
-use Rattle.qs_tm.specs.declared.participant.Participant.{Participant}
-use Rattle.qs_node_step.specs.Asking.{closer_came, count}
-use Rattle.qs_node_step.specs.State.{Work, part_of}
-use Rattle.qs_world_agree.specs.World.{World, Open}
+use Rattle.qs_world_agree.specs.World.{World}
 use Rattle.qs_world_refine.specs.CloserWhole.{CountsNoMore, CoveredStands, VotedYesStands}
-use Rattle.qs_world_refine.specs.Faces.{Face}
-use Rattle.qs_world_refine.specs.Links.{Closed, names_node, node_no}
-use Rattle.qs_world_refine.specs.Messages.{said, all_said}
-use Rattle.qs_world_refine.specs.NodeFaces.{began_here, face, face_at, is_past_commit, unknown}
-use Rattle.qs_world_refine.specs.Seen.{SightGoes, sight_taken}
-use Rattle.qs_world_refine.specs.Shows.{Scene, handed, sight_during, ShowsWork}
-use Rattle.qs_world_refine.specs.SoundLaws.{StaysSound}
-use Rattle.qs_world_refine.specs.Stands.{Stands, GoesOn}
-use Rattle.qs_world_refine.specs.Steps.{IsNext, IsToldSet, Goes}
 use Rattle.qs_world_refine.proofs.Alike.{same_itself}
 use Rattle.qs_world_refine.proofs.CloserCame.{closer_goes, closer_leaves}
 use Rattle.qs_world_refine.proofs.CountDecided.{count_decided}
@@ -107,11 +88,7 @@ module _ (t : Tid) (scene : Scene) (n m i up_to : ℕ) (told : List NodeNo) (mes
         (clear_carried t scene n work (closer_came (node_no m) t up_to told work) w is part known undecided carried) (answers_carried t scene n work (closer_came (node_no m) t up_to told work) w is part known undecided carried)
       where
         lacks : has_node part.told t.home ≡ false
-        lacks = off (has_node part.told t.home) (known_sound t work.node part known is.sound).outside
-          where
-            off : (b : Bool) → not b ≡ true → b ≡ false
-            off true so = absurd (cc so)
-            off false so = refl
+        lacks = not-true (has_node part.told t.home) (known_sound t work.node part known is.sound).outside
 
         carried : Carried t work (closer_came (node_no m) t up_to told work) part
         carried = subst (λ (k : Work). Carried t work k part) (sym (undecided_is t (λ part. count (node_no m) t up_to told) work part known undecided)) (record {

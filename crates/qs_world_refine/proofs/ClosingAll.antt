@@ -1,20 +1,10 @@
 -- Records that waited reach the disk, one after another.
-use Rattle.std.proofs.Common.{◌≡◌, ℕ, ◌==◌, Bool, true, false, List, [], ◌∷◌, fold, arith, refl, sym, ap, subst, ◌∙◌, if◌then◌else◌}
-use Rattle.std.proofs.lemmas.Bool.{eqb-true}
-use Rattle.std.proofs.lemmas.Bool.Decides.{nat_tests}
-use Rattle.qs_base.specs.Order.{same_tid}
-use Rattle.qs_base.specs.declared.identifiers.Tid.{Tid}
-use Rattle.qs_record.specs.declared.record.Record.{Record}
+use Rattle.qs_world_refine.proofs.Words.{◌≡◌, ℕ, ◌==◌, Bool, true, false, List, [], ◌∷◌, fold, arith, refl, sym, ap, subst, ◌∙◌, if◌then◌else◌, eqb-true, nat_tests, same_tid, Tid, Record, Recovery, found_record, Committed, Leads, IsLawful, leads_on, MayClose, sight_logged, place, Runs, SightGoes, Sight, ShowsSight}
 use Rattle.qs_record.specs.declared.record.Record.TheVariants as records
-use Rattle.qs_restart.specs.Recovery.{Recovery, found_record}
-use Rattle.qs_world_agree.specs.World.{World, Committed}
-use Rattle.qs_world_agree.specs.Carry.{Leads, IsLawful}
-use Rattle.qs_world_agree.proofs.Carries.{leads_on, silenced_on}
+use Rattle.qs_world_agree.specs.World.{World}
+use Rattle.qs_world_agree.proofs.Carries.{silenced_on}
 use Rattle.qs_world_refine.specs.ClosingLaws.{sight_recorded}
-use Rattle.qs_world_refine.specs.MoveLaws.{MayClose, StaysClosed, sight_logged, ClosedGoes}
-use Rattle.qs_world_refine.specs.Places.{place}
-use Rattle.qs_world_refine.specs.Seen.{Runs, SightGoes}
-use Rattle.qs_world_refine.specs.Sights.{Sight, ShowsSight}
+use Rattle.qs_world_refine.specs.MoveLaws.{StaysClosed, ClosedGoes}
 use Rattle.qs_world_refine.proofs.Acking.{Acked, acked_on}
 use Rattle.qs_world_refine.proofs.Alike.{SameFound, same_itself, found_itself, sight_alike}
 use Rattle.qs_world_refine.proofs.Facts.{lawful_on}

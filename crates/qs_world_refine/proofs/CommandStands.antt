@@ -1,42 +1,18 @@
 -- A command that comes leaves standing what stood of a transaction.
-use Rattle.std.proofs.Common.{◌≡◌, ℕ, ◌&&◌, ◌||◌, not, Bool, true, false, [], Option, Some, None, is_some, refl, sym, subst, if◌then◌else◌}
-use Rattle.std.specs.BTreeMap.{is_at}
-use Rattle.qs_base.specs.Order.{tid_cmp, same_tid}
-use Rattle.qs_base.specs.declared.identifiers.ClientNo.{ClientNo}
+use Rattle.qs_world_refine.proofs.Words.{◌≡◌, ℕ, ◌&&◌, ◌||◌, Bool, true, false, [], Option, Some, None, is_some, refl, sym, subst, if◌then◌else◌, is_at, tid_cmp, same_tid, ClientNo, Tid, uncovered, listed, Command, ScriptLine, has_label, Decided, is_undecided, BeginFault, Participant, kept_outcome, where_undecided, become_asked, borrower_command, enter, answer, send_each, refuse_begin, begin_or_refuse, begin_command, enter_ask, ask, open_command, owner_command, decided_answer, decide, label_at}
+use Rattle.qs_world_refine.proofs.Words.{put_label, Work, part_of, with_manager, is_owner, labelled, obey, with_command, Scene, goes_in_run, is_owned, is_owned_label, keeps_owned, Stands, GoesOn, implied}
 use Rattle.qs_base.specs.declared.identifiers.Outcome.TheVariants as outcomes
-use Rattle.qs_base.specs.declared.identifiers.Tid.{Tid}
-use Rattle.qs_engage.specs.Engage.{uncovered}
-use Rattle.qs_engage.specs.Nodes.{listed}
 use Rattle.qs_book_journal.specs.declared.entry.Act.TheVariants as acts
-use Rattle.qs_book_journal.specs.declared.script_line.Command.{Command}
 use Rattle.qs_book_journal.specs.declared.script_line.Command.TheVariants as commands
-use Rattle.qs_book_journal.specs.declared.script_line.ScriptLine.{ScriptLine}
-use Rattle.qs_node_kept.specs.Keeping.{has_label}
 use Rattle.qs_node_kept.specs.declared.kept.KeptLabel.{KeptLabel}
-use Rattle.qs_node_kept.specs.declared.kept.Decided.{Decided}
 use Rattle.qs_ops.specs.declared.answer.Answer.TheVariants as answers
 use Rattle.qs_ops.specs.declared.answer.Cause.TheVariants as causes
 use Rattle.qs_packet.specs.declared.message.Message.TheVariants as messages
 use Rattle.qs_tm.specs.Manager as tm
 use Rattle.qs_tm.specs.Participant as participant
-use Rattle.qs_tm.specs.Participant.{is_undecided}
-use Rattle.qs_tm.specs.declared.manager.BeginFault.{BeginFault}
 use Rattle.qs_tm.specs.declared.manager.BeginFault.TheVariants as faults
-use Rattle.qs_tm.specs.declared.participant.Participant.{Participant}
-use Rattle.qs_node_step.specs.Answering.{kept_outcome}
-use Rattle.qs_node_step.specs.Asking.{where_undecided, become_asked}
-use Rattle.qs_node_step.specs.Borrowing.{borrower_command}
-use Rattle.qs_node_step.specs.Bringing.{enter, answer, send_each}
-use Rattle.qs_node_step.specs.Commands.{refuse_begin, begin_or_refuse, begin_command, enter_ask, ask, open_command, owner_command, decided_answer}
-use Rattle.qs_node_step.specs.Deciding.{decide}
-use Rattle.qs_node_step.specs.Serving.{label_at, put_label}
-use Rattle.qs_node_step.specs.State.{Work, part_of, with_manager}
-use Rattle.qs_node_step.specs.Step.{is_owner, labelled, obey, with_command}
 use Rattle.qs_world_agree.specs.World.{World}
 use Rattle.qs_world_refine.specs.CommandLaws.{CommandGoes}
-use Rattle.qs_world_refine.specs.Shows.{Scene}
-use Rattle.qs_world_refine.specs.Sound.{goes_in_run, is_owned, is_owned_label, keeps_owned}
-use Rattle.qs_world_refine.specs.Stands.{Stands, GoesOn}
 use Rattle.qs_world_refine.proofs.Beginning.{begin_leaves}
 use Rattle.qs_world_refine.proofs.BorrowerStands.{answer_stands, borrower_goes, answer_kinds}
 use Rattle.qs_world_refine.proofs.During.{Leaves, leaves_itself, leaves_on}
@@ -183,14 +159,10 @@ module _ (t : Tid) (scene : Scene) (n : ℕ) (client : ClientNo) (command : Comm
       borrower_by None = stands_itself t scene n work w is
       borrower_by (Some tid) = borrower_goes t tid scene n client command work w in_run is
 
-      owns : (a b : Bool) → a ≡ true → (not a || b) ≡ true → b ≡ true
-      owns true b so its = its
-      owns false b so its = absurd (cc so)
-
       picked : (o : Option ClientNo) → begun.owner ≡ o → (b : Bool) → is_owner client o ≡ b → GoesOn t scene n (if b then owner_command client begun.tid command work else elim begun.tid [ None ↦ work | Some tid ↦ borrower_command client tid command work ]) w
       picked o at false so = borrower_by begun.tid
       picked None at true so = absurd (cc so)
-      picked (Some owner) at true so = owner_by begun.tid (owns (is_some begun.owner) _ (rw at refl) owned)
+      picked (Some owner) at true so = owner_by begun.tid (implied (is_some begun.owner) _ (rw at refl) owned)
 
       by : (o : Option ClientNo) → begun.owner ≡ o → GoesOn t scene n (if is_owner client o then owner_command client begun.tid command work else elim begun.tid [ None ↦ work | Some tid ↦ borrower_command client tid command work ]) w
       by o at = picked o at (is_owner client o) refl

@@ -1,21 +1,10 @@
 -- A node that is not engaged is idle; and once commit is decided none is engaged, and no request is on its way.
-use Rattle.std.proofs.Common.{◌≡◌, ◌≢◌, ◌==◌, ℕ, ◌+◌, ◌<◌, ◌≤◌, ◌&&◌, ◌||◌, not, Bool, true, false, List, [], ◌∷◌, Option, Some, None, is_none, is_some, refl, sym, ap, subst, ◌∙◌, arith, if◌then◌else◌}
-use Rattle.qs_base.specs.declared.identifiers.NodeNo.{NodeNo}
-use Rattle.qs_base.specs.declared.identifiers.Tid.{Tid}
-use Rattle.qs_engage.specs.Nodes.{same_node}
+use Rattle.qs_world_refine.proofs.Words.{◌≡◌, ◌≢◌, ◌==◌, ℕ, ◌+◌, ◌<◌, ◌≤◌, ◌&&◌, ◌||◌, not, Bool, true, false, List, [], ◌∷◌, Option, Some, None, is_none, is_some, refl, sym, ap, subst, ◌∙◌, arith, if◌then◌else◌, NodeNo, Tid, same_node, is_lent, NodeValue, needs_pass, is_undecided, Participant, Said, Requested, Closed, Outcome_told, Taken_in, Inquired, Link, link, waiting_link, IsLink, face_at, began_here, part_at, place, is_sound, may_be_served, where_so, same_flag}
 use Rattle.qs_ipc.specs.Ipc as ipc
-use Rattle.qs_node_step.specs.Settling.{is_lent}
-use Rattle.qs_node_step.specs.State.{NodeValue}
 use Rattle.qs_tm.specs.Manager as tm
-use Rattle.qs_tm.specs.Participant.{needs_pass, is_undecided}
-use Rattle.qs_tm.specs.declared.participant.Participant.{Participant}
 use Rattle.qs_world_agree.specs.Doomed.{IsLeft}
 use Rattle.qs_world_agree.proofs.Doomed.{left_open, kept_back_open, engaged_is_open}
 use Rattle.qs_world_refine.specs.CommitLaws.{has_request, IsIdle, OffIdle, CommitIdle, CommitClear, CommitUnmet}
-use Rattle.qs_world_refine.specs.Links.{Said, Requested, Closed, Outcome_told, Taken_in, Inquired, Link, link, waiting_link, IsLink}
-use Rattle.qs_world_refine.specs.NodeFaces.{face_at, began_here, part_at}
-use Rattle.qs_world_refine.specs.Places.{place}
-use Rattle.qs_world_refine.specs.Sound.{is_sound, may_be_served, where_so, same_flag}
 use Rattle.qs_world_refine.proofs.Crashing.{all_within}
 use Rattle.qs_world_refine.proofs.SoundHolds.{known_sound}
 use Rattle.qs_world_refine.proofs.SoundKnown.{nothing_waits, nothing_lent}

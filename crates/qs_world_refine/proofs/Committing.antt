@@ -1,21 +1,10 @@
 -- The home is ready and forces its Commit: Commit, and End at once where nobody is named.
-use Rattle.std.proofs.Common.{◌≡◌, ◌≢◌, ℕ, ◌<◌, ◌≤◌, ◌==◌, ◌&&◌, ◌||◌, not, Bool, true, false, List, [], ◌∷◌, ◌++◌, arith, refl, sym, ◌∙◌, subst, ap, if◌then◌else◌, map}
-use Rattle.std.specs.List.{filter, list_any, flat_map}
-use Rattle.std.proofs.lemmas.Bool.Decides.{nat_tests}
-use Rattle.qs_base.specs.Order.{same_tid}
-use Rattle.qs_base.specs.declared.identifiers.NodeNo.{NodeNo}
-use Rattle.qs_base.specs.declared.identifiers.Tid.{Tid}
+use Rattle.qs_world_refine.proofs.Words.{◌≡◌, ◌≢◌, ℕ, ◌<◌, ◌≤◌, ◌==◌, ◌&&◌, ◌||◌, not, Bool, true, false, List, [], ◌∷◌, ◌++◌, arith, refl, sym, ◌∙◌, subst, ap, if◌then◌else◌, map, filter, list_any, flat_map, nat_tests, same_tid, NodeNo, Tid, Open, Committed, Commit, Leads, names_node, node_no, link, waiting_link, Prepared, Untold, Recovery, found_record, is_vote_of, is_untold_of, mark_committed, names_transaction, place, Face, ShowsFace, server_no, Sight, ShowsSight, ShowsLog, is_in_doubt}
+use Rattle.qs_world_refine.proofs.Words.{FaceReady, sight_committed}
 use Rattle.qs_record.specs.declared.record.Record.TheVariants as records
-use Rattle.qs_world_agree.specs.World.{World, Open, Committed, with_at}
-use Rattle.qs_world_agree.specs.Step.{Step, Commit}
+use Rattle.qs_world_agree.specs.World.{World, with_at}
+use Rattle.qs_world_agree.specs.Step.{Step}
 use Rattle.qs_world_agree.specs.Guards.{IsReady}
-use Rattle.qs_world_agree.specs.Carry.{Leads}
-use Rattle.qs_world_refine.specs.Links.{names_node, node_no, link, waiting_link}
-use Rattle.qs_restart.specs.Recovery.{Prepared, Untold, Recovery, found_record, is_vote_of, is_untold_of, mark_committed, names_transaction}
-use Rattle.qs_world_refine.specs.Places.{place}
-use Rattle.qs_world_refine.specs.Faces.{Face, ShowsFace}
-use Rattle.qs_world_refine.specs.Sights.{server_no, Sight, ShowsSight, ShowsLog, is_in_doubt}
-use Rattle.qs_world_refine.specs.Seen.{FaceReady, sight_committed}
 use Rattle.qs_world_refine.proofs.EventFaces.{face_commit}
 use Rattle.qs_world_refine.proofs.Streams.{Stays, still}
 use Rattle.qs_world_refine.proofs.Still.{stage_still, at_one}

@@ -1,19 +1,8 @@
 -- The home is ready, its Commit is on the disk and names nobody: Commit, and End at once.
-use Rattle.std.proofs.Common.{◌≡◌, ◌≢◌, ℕ, ◌<◌, ◌≤◌, Bool, true, false, [], ◌∷◌, ◌++◌, arith, refl, sym, ◌∙◌, subst, ap, if◌then◌else◌}
-use Rattle.std.specs.List.{list_any}
-use Rattle.std.proofs.lemmas.Bool.Decides.{nat_tests}
-use Rattle.qs_base.specs.Order.{same_tid}
-use Rattle.qs_base.specs.declared.identifiers.Tid.{Tid}
+use Rattle.qs_world_refine.proofs.Words.{◌≡◌, ◌≢◌, ℕ, ◌<◌, ◌≤◌, Bool, true, false, [], ◌∷◌, ◌++◌, arith, refl, sym, ◌∙◌, subst, ap, if◌then◌else◌, list_any, nat_tests, same_tid, Tid, Recovery, found_record, names_transaction, Open, Committed, Commit, End, Leads, Face, ShowsFace, link, waiting_link, place, FaceReady, sight_committed, Sight, ShowsSight, ShowsLog, is_in_doubt}
 use Rattle.qs_record.specs.declared.record.Record.TheVariants as records
-use Rattle.qs_restart.specs.Recovery.{Recovery, found_record, names_transaction}
-use Rattle.qs_world_agree.specs.World.{World, Open, Committed}
-use Rattle.qs_world_agree.specs.Step.{Step, Commit, End}
-use Rattle.qs_world_agree.specs.Carry.{Leads}
-use Rattle.qs_world_refine.specs.Faces.{Face, ShowsFace}
-use Rattle.qs_world_refine.specs.Links.{link, waiting_link}
-use Rattle.qs_world_refine.specs.Places.{place}
-use Rattle.qs_world_refine.specs.Seen.{FaceReady, sight_committed}
-use Rattle.qs_world_refine.specs.Sights.{Sight, ShowsSight, ShowsLog, is_in_doubt}
+use Rattle.qs_world_agree.specs.World.{World}
+use Rattle.qs_world_agree.specs.Step.{Step}
 use Rattle.qs_world_refine.proofs.Around.{faces_around}
 use Rattle.qs_world_refine.proofs.Committing.{after_commit, commit_stays, commit_waiting, commit_other, any_last}
 use Rattle.qs_world_refine.proofs.EventFaces.{face_commit}

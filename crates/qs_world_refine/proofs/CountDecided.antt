@@ -1,15 +1,7 @@
 -- A Covered or VotedYes is counted where the outcome is known: nothing of the place is seen to change.
-use Rattle.std.proofs.Common.{◌≡◌, ◌≢◌, ℕ, ◌+◌, ◌<◌, List, [], ◌∷◌, arith, refl, ◌∙◌, subst}
-use Rattle.std.proofs.lemmas.Bool.Decides.{nat_tests}
-use Rattle.qs_base.specs.declared.identifiers.NodeNo.{NodeNo}
-use Rattle.qs_base.specs.declared.identifiers.Tid.{Tid}
-use Rattle.qs_world_agree.specs.World.{World, Open}
-use Rattle.qs_world_agree.specs.Step.{Step, Count}
-use Rattle.qs_world_refine.specs.Faces.{ShowsFace, Face}
-use Rattle.qs_world_refine.specs.Links.{Said, Closed, link, IsLink}
-use Rattle.qs_world_refine.specs.Places.{place}
-use Rattle.qs_world_refine.specs.Seen.{Runs, Meets, SightGoes, sight_taken}
-use Rattle.qs_world_refine.specs.Sights.{Sight, ShowsSight}
+use Rattle.qs_world_refine.proofs.Words.{◌≡◌, ◌≢◌, ℕ, ◌+◌, ◌<◌, List, [], ◌∷◌, arith, refl, ◌∙◌, subst, nat_tests, NodeNo, Tid, Open, Count, ShowsFace, Face, Said, Closed, link, IsLink, place, Runs, Meets, SightGoes, sight_taken, Sight, ShowsSight}
+use Rattle.qs_world_agree.specs.World.{World}
+use Rattle.qs_world_agree.specs.Step.{Step}
 use Rattle.qs_world_refine.proofs.Around.{known_is}
 use Rattle.qs_world_refine.proofs.CountFaces.{face_count_other}
 use Rattle.qs_world_refine.proofs.Counting.{after_count, stays_count, stays_counted, stays_waiting}

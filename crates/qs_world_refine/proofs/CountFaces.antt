@@ -1,9 +1,7 @@
 -- A closer is counted.
-use Rattle.std.proofs.Common.{◌≡◌, ◌≢◌, ℕ, ◌+◌, arith}
-use Rattle.std.proofs.lemmas.Bool.Decides.{nat_tests}
-use Rattle.qs_world_agree.specs.World.{World, Open}
-use Rattle.qs_world_agree.specs.Step.{Step, Count}
-use Rattle.qs_world_refine.specs.Faces.{Face, ShowsFace, ShowsOpen}
+use Rattle.qs_world_refine.proofs.Words.{◌≡◌, ◌≢◌, ℕ, ◌+◌, arith, nat_tests, Open, Count, Face, ShowsFace, ShowsOpen}
+use Rattle.qs_world_agree.specs.World.{World}
+use Rattle.qs_world_agree.specs.Step.{Step}
 use Rattle.qs_world_refine.specs.Seen.{counted}
 
 open_count : (p q : ℕ) (w v : World) (f : Face) → ShowsOpen f p w → Step (Count p q) w v → ShowsOpen (counted f (w.node q) (w.closer q p (w.closers_taken p q + 1)) (w.closer_set q p (w.closers_taken p q + 1))) p v

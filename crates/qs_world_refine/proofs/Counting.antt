@@ -1,15 +1,7 @@
 -- A Covered or VotedYes is counted: what the machine makes of it, over all that is seen.
-use Rattle.std.proofs.Common.{◌≡◌, ℕ, ◌+◌, ◌<◌, ◌≤◌, ◌==◌, Bool, true, max, List, [], ◌∷◌, arith, refl, sym, ◌∙◌, subst, if◌then◌else◌}
-use Rattle.std.proofs.lemmas.Bool.Decides.{nat_tests}
-use Rattle.qs_base.specs.declared.identifiers.NodeNo.{NodeNo}
-use Rattle.qs_base.specs.declared.identifiers.Tid.{Tid}
-use Rattle.qs_world_agree.specs.World.{World, Open, with_at, with_at2}
-use Rattle.qs_world_agree.specs.Step.{Step, Count}
-use Rattle.qs_world_agree.specs.Carry.{Leads}
-use Rattle.qs_world_refine.specs.Links.{names_node, node_no, Said, Closed, link, IsLink, waiting_link}
-use Rattle.qs_world_refine.specs.Sights.{Sight, ShowsSight}
-use Rattle.qs_world_refine.specs.Places.{place, known_place}
-use Rattle.qs_world_refine.specs.Faces.{Face, ShowsFace}
+use Rattle.qs_world_refine.proofs.Words.{◌≡◌, ℕ, ◌+◌, ◌<◌, ◌≤◌, ◌==◌, Bool, true, max, List, [], ◌∷◌, arith, refl, sym, ◌∙◌, subst, if◌then◌else◌, nat_tests, NodeNo, Tid, Open, Count, Leads, names_node, node_no, Said, Closed, link, IsLink, waiting_link, Sight, ShowsSight, place, known_place, Face, ShowsFace}
+use Rattle.qs_world_agree.specs.World.{World, with_at, with_at2}
+use Rattle.qs_world_agree.specs.Step.{Step}
 use Rattle.qs_world_refine.specs.Seen.{counted, sight_counted}
 use Rattle.qs_world_refine.proofs.Same.{same_place}
 use Rattle.qs_world_refine.proofs.CountFaces.{face_count, face_count_other}

@@ -1,15 +1,9 @@
 -- A request is handed up where the sender is not the superior: Cover, over all that is seen.
-use Rattle.std.proofs.Common.{◌≡◌, ◌≢◌, ◌⊎◌, inl, inr, ℕ, ◌+◌, ◌<◌, ◌≤◌, true, false, List, [], ◌∷◌, ◌++◌, arith, refl, sym, ◌∙◌, subst, ap}
-use Rattle.qs_base.specs.declared.identifiers.Tid.{Tid}
-use Rattle.qs_world_agree.specs.World.{World, Open, Aborted}
-use Rattle.qs_world_agree.specs.Guards.{next, next_server}
-use Rattle.qs_world_agree.specs.Step.{Step, Cover}
-use Rattle.qs_world_agree.specs.Carry.{Leads}
-use Rattle.qs_world_refine.specs.Sights.{with_at4, Sight, ShowsSight}
-use Rattle.qs_world_refine.specs.Places.{place}
-use Rattle.qs_world_refine.specs.Faces.{Face, ShowsFace}
-use Rattle.qs_world_refine.specs.Links.{Said, Requested, Closed, link, IsLink, waiting_link}
-use Rattle.qs_world_refine.specs.Seen.{sight_covered, took_in}
+use Rattle.qs_world_refine.proofs.Words.{◌≡◌, ◌≢◌, ◌⊎◌, inl, inr, ℕ, ◌+◌, ◌<◌, ◌≤◌, true, false, List, [], ◌∷◌, ◌++◌, arith, refl, sym, ◌∙◌, subst, ap, Tid, Open, Aborted, next, next_server, Cover, Leads, Sight, ShowsSight, place, Face, ShowsFace, Said, Requested, Closed, link, IsLink, waiting_link, took_in}
+use Rattle.qs_world_agree.specs.World.{World}
+use Rattle.qs_world_agree.specs.Step.{Step}
+use Rattle.qs_world_refine.specs.Sights.{with_at4}
+use Rattle.qs_world_refine.specs.Seen.{sight_covered}
 use Rattle.qs_world_refine.proofs.Same.{same_place}
 use Rattle.qs_world_refine.proofs.EventFaces.{Knows, face_cover}
 use Rattle.qs_world_refine.proofs.Streams.{still, behind, within}

@@ -1,15 +1,7 @@
 -- A node stops. What it has put may be cut to any earlier moment: a step that a crash cuts off with its batch kept is the whole step and a crash.
-use Rattle.std.proofs.Common.{◌≡◌, ◌≢◌, ℕ, ◌+◌, ◌<◌, ◌≤◌, ◌==◌, ◌&&◌, Bool, true, false, List, [], ◌∷◌, ◌++◌, arith, refl, sym, ◌∙◌, subst, ap, if◌then◌else◌}
-use Rattle.std.proofs.lemmas.Bool.{eqb-true}
-use Rattle.std.proofs.lemmas.Bool.Decides.{nat_tests}
-use Rattle.qs_base.specs.declared.identifiers.Tid.{Tid}
+use Rattle.qs_world_refine.proofs.Words.{◌≡◌, ◌≢◌, ℕ, ◌+◌, ◌<◌, ◌≤◌, ◌==◌, ◌&&◌, Bool, true, false, List, [], ◌∷◌, ◌++◌, arith, refl, sym, ◌∙◌, subst, ap, if◌then◌else◌, eqb-true, nat_tests, Tid, Crash, Leads, place, Face, ShowsFace, Said, Requested, Closed, Outcome_told, Taken_in, Inquired, Link, link, IsLink, waiting_link, Sight, ShowsSight}
 use Rattle.qs_world_agree.specs.World.{World, with_at}
-use Rattle.qs_world_agree.specs.Step.{Step, Crash}
-use Rattle.qs_world_agree.specs.Carry.{Leads}
-use Rattle.qs_world_refine.specs.Places.{place}
-use Rattle.qs_world_refine.specs.Faces.{Face, ShowsFace}
-use Rattle.qs_world_refine.specs.Links.{Said, Requested, Closed, Outcome_told, Taken_in, Inquired, Link, link, IsLink, waiting_link}
-use Rattle.qs_world_refine.specs.Sights.{Sight, ShowsSight}
+use Rattle.qs_world_agree.specs.Step.{Step}
 use Rattle.qs_world_refine.proofs.Same.{same_place}
 use Rattle.qs_world_refine.proofs.Streams.{Stays, still}
 use Rattle.qs_world_refine.proofs.Still.{log_still}

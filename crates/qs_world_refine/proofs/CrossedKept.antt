@@ -1,38 +1,11 @@
 -- What a client owns is decided or runs here, what is committed is kept so, and what began here is known or committed: so it stays through each change.
-use Rattle.std.proofs.Common.{◌≡◌, inl, inr, ℕ, ◌≤◌, ◌||◌, not, Bool, true, false, List, [], ◌∷◌, ◌++◌, Option, Some, None, is_some, refl, sym, ap, subst, ◌∙◌, arith, if◌then◌else◌}
-use Rattle.std.proofs.lemmas.Bool.Decides.{nat_tests}
-use Rattle.std.specs.Prelude.{◌⊎◌}
-use Rattle.std.specs.List.{find, list_all, list_any}
-use Rattle.qs_base.specs.Order.{same_tid}
+use Rattle.qs_world_refine.proofs.Words.{◌≡◌, inl, inr, ℕ, ◌≤◌, ◌||◌, not, Bool, true, false, List, [], ◌∷◌, ◌++◌, Option, Some, None, is_some, refl, sym, ap, subst, ◌∙◌, arith, if◌then◌else◌, nat_tests, ◌⊎◌, find, list_all, list_any, same_tid, Tid, same_node, is_outcome_of, Decided, Cause, kept_outcome, was_committed, is_kept_commit, NodeValue, Manager, Participant, began_here, is_owned, is_owned_label, is_settled, IsCrossed, is_run, or_left, or_right, or_cases}
 use Rattle.qs_base.specs.declared.identifiers.Outcome.{Outcome}
 use Rattle.qs_base.specs.declared.identifiers.Outcome.TheVariants as outcomes
-use Rattle.qs_base.specs.declared.identifiers.Tid.{Tid}
-use Rattle.qs_engage.specs.Nodes.{same_node}
-use Rattle.qs_node_kept.specs.Keeping.{is_outcome_of}
 use Rattle.qs_node_kept.specs.declared.kept.KeptLabel.{KeptLabel}
-use Rattle.qs_node_kept.specs.declared.kept.Decided.{Decided}
-use Rattle.qs_ops.specs.declared.answer.Cause.{Cause}
-use Rattle.qs_node_step.specs.Answering.{kept_outcome, was_committed, is_kept_commit}
-use Rattle.qs_node_step.specs.State.{NodeValue}
 use Rattle.qs_tm.specs.Manager as tm
-use Rattle.qs_tm.specs.declared.manager.Manager.{Manager}
-use Rattle.qs_tm.specs.declared.participant.Participant.{Participant}
-use Rattle.qs_world_refine.specs.NodeFaces.{began_here}
-use Rattle.qs_world_refine.specs.Sound.{is_owned, is_owned_label}
-use Rattle.qs_world_refine.specs.Tidy.{is_settled, KeepsEarlier, IsCrossed}
-use Rattle.qs_world_refine.specs.Walks.{is_run}
+use Rattle.qs_world_refine.specs.Tidy.{KeepsEarlier}
 use Rattle.qs_world_refine.proofs.SoundBegin.{all_implied}
-
-pub or_left : (a b : Bool) → a ≡ true → (a || b) ≡ true
-or_left a b is = rw is refl
-
-pub or_right : (a b : Bool) → b ≡ true → (a || b) ≡ true
-or_right true b is = refl
-or_right false b is = is
-
-pub or_both : (a b : Bool) → (a || b) ≡ true → (a ≡ true) ⊎ (b ≡ true)
-or_both true b is = inl refl
-or_both false b is = inr is
 
 -- the labels stay owned where each transaction of one stays decided, or runs still
 pub owned_on : (old new : NodeValue) → ((t : Tid) → is_owned old t ≡ true → is_owned new t ≡ true) → (labels : List KeptLabel) → list_all (is_owned_label old) labels ≡ true → list_all (is_owned_label new) labels ≡ true
@@ -74,7 +47,7 @@ crossed_manager node m change is = record {
         by false owned = change.runs t owned
 
     past : (t : Tid) → began_here node t ≡ true → (tm.knows t node.manager || was_committed t node) ≡ true → (tm.knows t m || was_committed t node) ≡ true
-    past t here was = by (or_both (tm.knows t node.manager) (was_committed t node) was)
+    past t here was = by (or_cases (tm.knows t node.manager) (was_committed t node) was)
       where
         by : ((tm.knows t node.manager ≡ true) ⊎ (was_committed t node ≡ true)) → (tm.knows t m || was_committed t node) ≡ true
         by (inl knows) = change.knows t here knows
@@ -149,7 +122,7 @@ module _ (node : NodeValue) (tid : Tid) (outcome : Outcome) (cause : Option Caus
     owned = owned_on node (with_outcome m) owns node.kept.now.labels is.owned;
     commits = λ t part known here its. commit t part known here its (same_tid t tid) refl;
     fresh = λ t part known open_now. free t part known open_now (same_tid t tid) refl;
-    pasts = λ t here names low. past t (or_both (tm.knows t node.manager) (was_committed t node) (is.pasts t here names (subst (λ (n : ℕ). t.seq ≤ n) change.begun low)));
+    pasts = λ t here names low. past t (or_cases (tm.knows t node.manager) (was_committed t node) (is.pasts t here names (subst (λ (n : ℕ). t.seq ≤ n) change.begun low)));
     earlier = λ t part known home later. early t part known home later (same_tid t tid) refl;
   }
     where
@@ -165,7 +138,7 @@ module _ (node : NodeValue) (tid : Tid) (outcome : Outcome) (cause : Option Caus
       early t part known home later false apart = is.earlier t part (change.others t part apart known) home later
 
       owns : (t : Tid) → is_owned node t ≡ true → is_owned (with_outcome m) t ≡ true
-      owns t owned = by (or_both (is_some (kept_outcome t node)) (tm.told_of t false is_run node.manager) owned) (same_tid t tid) refl
+      owns t owned = by (or_cases (is_some (kept_outcome t node)) (tm.told_of t false is_run node.manager) owned) (same_tid t tid) refl
         where
           by : ((is_some (kept_outcome t node) ≡ true) ⊎ (tm.told_of t false is_run node.manager ≡ true)) → (b : Bool) → same_tid t tid ≡ b → is_owned (with_outcome m) t ≡ true
           by (inl kept) b same = or_left (is_some (kept_outcome t (with_outcome m))) (tm.told_of t false is_run m) (some_kept m t kept)

@@ -1,24 +1,9 @@
 -- How a change of what a node keeps of transactions goes with what clients own, what is committed, and what began here.
-use Rattle.std.proofs.Common.{◌≡◌, inl, inr, ◌&&◌, ◌||◌, Bool, true, false, Option, Some, None, is_some, is_none, refl, sym, ap, subst, ◌∙◌}
-use Rattle.std.specs.Prelude.{◌⊎◌}
-use Rattle.std.specs.BTreeMap.{is_at}
-use Rattle.std.specs.List.{list_any}
-use Rattle.qs_base.specs.Order.{same_tid, tid_cmp}
+use Rattle.qs_world_refine.proofs.Words.{◌≡◌, inl, inr, ◌&&◌, ◌||◌, Bool, true, false, Option, Some, None, is_some, is_none, refl, sym, ap, subst, ◌∙◌, ◌⊎◌, is_at, list_any, same_tid, tid_cmp, Tid, same_node, kept_outcome, was_committed, NodeValue, is_undecided, Manager, Participant, began_here, where_so, same_flag, is_settled, IsCrossed, is_run, or_left, or_right}
 use Rattle.qs_base.specs.declared.identifiers.Outcome.{Outcome}
 use Rattle.qs_base.specs.declared.identifiers.Outcome.TheVariants as outcomes
-use Rattle.qs_base.specs.declared.identifiers.Tid.{Tid}
-use Rattle.qs_engage.specs.Nodes.{same_node}
-use Rattle.qs_node_step.specs.Answering.{kept_outcome, was_committed}
-use Rattle.qs_node_step.specs.State.{NodeValue}
 use Rattle.qs_tm.specs.Manager as tm
-use Rattle.qs_tm.specs.Participant.{is_undecided}
-use Rattle.qs_tm.specs.declared.manager.Manager.{Manager}
-use Rattle.qs_tm.specs.declared.participant.Participant.{Participant}
-use Rattle.qs_world_refine.specs.NodeFaces.{began_here}
-use Rattle.qs_world_refine.specs.Sound.{where_so, same_flag}
-use Rattle.qs_world_refine.specs.Tidy.{is_settled, IsCrossed}
-use Rattle.qs_world_refine.specs.Walks.{is_run}
-use Rattle.qs_world_refine.proofs.CrossedKept.{Crosses, or_left, or_right}
+use Rattle.qs_world_refine.proofs.CrossedKept.{Crosses}
 use Rattle.qs_world_refine.proofs.Frames.{part_apart}
 use Rattle.qs_world_refine.proofs.Others.{put_apart, forget_apart}
 use Rattle.qs_world_refine.proofs.PartsAfter.{IsSame, IsChanged, IsPut, changed_seen, put_seen, forgot_seen, told_is, as_told, is_known, as_known, changed_known, put_known}

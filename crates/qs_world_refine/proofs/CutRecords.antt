@@ -1,36 +1,24 @@
 -- Of which kind a record of a transaction is, where a list has one.
-use Rattle.std.proofs.Common.{◌≡◌, ◌⊎◌, inl, inr, ◌||◌, Bool, true, false, List, [], ◌∷◌, refl}
-use Rattle.std.specs.List.{list_any}
-use Rattle.qs_base.specs.Order.{same_tid}
-use Rattle.qs_base.specs.declared.identifiers.Tid.{Tid}
-use Rattle.qs_record.specs.declared.record.Record.{Record}
+use Rattle.qs_world_refine.proofs.Words.{◌≡◌, ◌⊎◌, inl, inr, ◌||◌, Bool, true, false, List, [], ◌∷◌, refl, list_any, same_tid, Tid, Record, is_record_of, or_right, or_left}
 use Rattle.qs_record.specs.declared.record.Record.TheVariants as records
 use Rattle.qs_world_refine.specs.CutLaws.{is_prepare_of, is_commit_of}
-use Rattle.qs_world_refine.specs.MoveLaws.{is_record_of}
 use Rattle.qs_world_refine.proofs.TurnOn.{is_aborted_of, is_end_of}
 
 -- of such lists one has it
 abbrev pub OneOf : Tid → List Record → Type 0
 OneOf tid rs = ((list_any (is_prepare_of tid) rs ≡ true) ⊎ (list_any (is_commit_of tid) rs ≡ true)) ⊎ ((list_any (is_aborted_of tid) rs ≡ true) ⊎ (list_any (is_end_of tid) rs ≡ true))
 
-behind : (a b : Bool) → b ≡ true → (a || b) ≡ true
-behind true b is = refl
-behind false b is = is
-
-before : (a b : Bool) → a ≡ true → (a || b) ≡ true
-before a b is = rw is refl
-
 head_is : (tid : Tid) (r : Record) (rs : List Record) → is_record_of tid r ≡ true → OneOf tid (r ∷ rs)
-head_is tid (records.Prepare u server covers changes) rs is = inl (inl (before (same_tid tid u) _ is))
-head_is tid (records.Commit u told) rs is = inl (inr (before (same_tid tid u) _ is))
-head_is tid (records.Aborted u) rs is = inr (inl (before (same_tid tid u) _ is))
-head_is tid (records.End u) rs is = inr (inr (before (same_tid tid u) _ is))
+head_is tid (records.Prepare u server covers changes) rs is = inl (inl (or_left (same_tid tid u) _ is))
+head_is tid (records.Commit u told) rs is = inl (inr (or_left (same_tid tid u) _ is))
+head_is tid (records.Aborted u) rs is = inr (inl (or_left (same_tid tid u) _ is))
+head_is tid (records.End u) rs is = inr (inr (or_left (same_tid tid u) _ is))
 
 tail_is : (tid : Tid) (r : Record) (rs : List Record) → OneOf tid rs → OneOf tid (r ∷ rs)
-tail_is tid r rs (inl (inl so)) = inl (inl (behind (is_prepare_of tid r) _ so))
-tail_is tid r rs (inl (inr so)) = inl (inr (behind (is_commit_of tid r) _ so))
-tail_is tid r rs (inr (inl so)) = inr (inl (behind (is_aborted_of tid r) _ so))
-tail_is tid r rs (inr (inr so)) = inr (inr (behind (is_end_of tid r) _ so))
+tail_is tid r rs (inl (inl so)) = inl (inl (or_right (is_prepare_of tid r) _ so))
+tail_is tid r rs (inl (inr so)) = inl (inr (or_right (is_commit_of tid r) _ so))
+tail_is tid r rs (inr (inl so)) = inr (inl (or_right (is_aborted_of tid r) _ so))
+tail_is tid r rs (inr (inr so)) = inr (inr (or_right (is_end_of tid r) _ so))
 
 pub one_of : (tid : Tid) (rs : List Record) → list_any (is_record_of tid) rs ≡ true → OneOf tid rs
 one_of tid [] has = absurd (cc has)

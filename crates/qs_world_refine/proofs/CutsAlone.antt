@@ -1,30 +1,14 @@
 -- A node stops with nothing of a step kept of a transaction: while that is undecided, its place stops and nothing else happens.
-use Rattle.std.proofs.Common.{◌≡◌, ◌≢◌, inl, ℕ, ◌<◌, ◌==◌, ◌&&◌, ◌||◌, Bool, true, false, List, [], ◌∷◌, ◌++◌, fold, Option, refl, sym, subst, if◌then◌else◌}
-use Rattle.std.specs.List.{list_any}
-use Rattle.std.proofs.lemmas.Bool.{eqb-true}
-use Rattle.std.proofs.lemmas.List.Sums.{fold-append}
-use Rattle.qs_base.specs.Order.{same_tid}
-use Rattle.qs_base.specs.declared.identifiers.Tid.{Tid}
+use Rattle.qs_world_refine.proofs.Words.{◌≡◌, ◌≢◌, inl, ℕ, ◌<◌, ◌==◌, ◌&&◌, Bool, true, false, List, [], ◌∷◌, ◌++◌, fold, Option, refl, sym, subst, if◌then◌else◌, list_any, eqb-true, or_from, or_parts, fold-append, same_tid, Tid, CrashCause, is_crash, Record, Recovery, recovery, found_record, nothing_said, effects_of, Source, Cut, Stop, event_of, may_step, stopped, stopped_host, cut_log, cut_with, Open, Committed, Aborted, Leads, ShowsAll, KeepsDecided, AllGoes, IsSeated, MayClose, AllClose}
+use Rattle.qs_world_refine.proofs.Words.{sight_logged, ShowsWorld, WorldGoes, is_record_of, is_cut_with, place, IsCut, scene_of, sight, Shows, Sight, ShowsSight}
+use Rattle.std.proofs.lemmas.Bool.{false_from_ne_true}
 use Rattle.qs_session_channels.specs.Network.{with_at}
-use Rattle.qs_book_journal.specs.declared.entry.CrashCause.{CrashCause}
-use Rattle.qs_book_machine.specs.Clauses.{is_crash}
-use Rattle.qs_record.specs.declared.record.Record.{Record}
 use Rattle.qs_record.specs.declared.record.Record.TheVariants as records
-use Rattle.qs_restart.specs.Recovery.{Recovery, recovery, found_record, nothing_said}
-use Rattle.qs_node_step.specs.Step.{effects_of}
 use Rattle.qs_node_step.specs.declared.event.Event.{Event}
-use Rattle.qs_world.specs.Moves.{Source, Cut, Stop, event_of, may_step, stopped, stopped_host, cut_log, cut_with}
 use Rattle.qs_world.specs.World.{World}
 use Rattle.qs_world_agree.specs.World as machine
-use Rattle.qs_world_agree.specs.World.{Outcome, Open, Committed, Aborted}
-use Rattle.qs_world_agree.specs.Carry.{Leads}
+use Rattle.qs_world_agree.specs.World.{Outcome}
 use Rattle.qs_world_refine.specs.CutLaws.{StopsAlone, StopGoesAlone, CutGoesAlone}
-use Rattle.qs_world_refine.specs.EachMove.{ShowsAll, KeepsDecided, AllGoes}
-use Rattle.qs_world_refine.specs.MoveLaws.{IsSeated, MayClose, AllClose, sight_logged, ShowsWorld, WorldGoes, is_record_of, is_cut_with}
-use Rattle.qs_world_refine.specs.Places.{place}
-use Rattle.qs_world_refine.specs.EventLaws.{IsCut}
-use Rattle.qs_world_refine.specs.Shows.{scene_of, sight, Shows}
-use Rattle.qs_world_refine.specs.Sights.{Sight, ShowsSight}
 use Rattle.qs_world_refine.proofs.Alike.{SameFound, same_itself, found_itself, found_on, sight_alike}
 use Rattle.qs_world_refine.proofs.Crashing as crashing
 use Rattle.qs_world_refine.proofs.Facts.{lawful_on}
@@ -45,33 +29,22 @@ other_tid tid (records.Commit u told) apart = apart
 other_tid tid (records.Aborted u) apart = apart
 other_tid tid (records.End u) apart = apart
 
-none_of : (a b : Bool) → (a || b) ≡ false → (a ≡ false) × (b ≡ false)
-none_of true b is = absurd (cc is)
-none_of false b is = (refl, is)
-
 others_found : (tid : Tid) (rs : List Record) (r : Recovery) → list_any (is_record_of tid) rs ≡ false → SameFound tid r (fold found_record r rs)
 others_found tid [] r none = found_itself tid r
 others_found tid (rec ∷ rs) r none =
-    let both : (is_record_of tid rec ≡ false) × (list_any (is_record_of tid) rs ≡ false) = none_of (is_record_of tid rec) (list_any (is_record_of tid) rs) none in
+    let both : (is_record_of tid rec ≡ false) × (list_any (is_record_of tid) rs ≡ false) = or_parts (is_record_of tid rec) (list_any (is_record_of tid) rs) none in
     found_on tid r (found_record r rec) (fold found_record (found_record r rec) rs) (record_apart tid rec r (other_tid tid rec both.0)) (others_found tid rs (found_record r rec) both.1)
 
 -- what may close it is of others while it is undecided
 others_wait : (tid : Tid) (n q : ℕ) (w : machine.World) (rs : List Record) → w.outcome q ≢ Aborted → w.outcome q ≢ Committed → AllClose tid n q w rs → list_any (is_record_of tid) rs ≡ false
 others_wait tid n q w [] abort commit all = refl
-others_wait tid n q w (rec ∷ rs) abort commit all = both (is_record_of tid rec) (list_any (is_record_of tid) rs) (one rec all.0) (others_wait tid n q w rs abort commit all.1)
+others_wait tid n q w (rec ∷ rs) abort commit all = or_from (is_record_of tid rec) (list_any (is_record_of tid) rs) (one rec all.0) (others_wait tid n q w rs abort commit all.1)
   where
-    both : (a b : Bool) → a ≡ false → b ≡ false → (a || b) ≡ false
-    both a b p r = rw (p, r) refl
-
-    off : (b : Bool) → (b ≡ true → ⊥) → b ≡ false
-    off true never = absurd (never refl)
-    off false never = refl
-
     one : (rec : Record) → MayClose tid n q w rec → is_record_of tid rec ≡ false
     one (records.Prepare u server covers changes) may = may
     one (records.Commit u told) may = may
-    one (records.Aborted u) may = off (same_tid tid u) (λ same. abort (may same))
-    one (records.End u) may = off (same_tid tid u) (λ same. commit (may same).1.0)
+    one (records.Aborted u) may = false_from_ne_true (same_tid tid u) (λ same. abort (may same))
+    one (records.End u) may = false_from_ne_true (same_tid tid u) (λ same. commit (may same).1.0)
 
 module _ (tid : Tid) (world : World) (w : machine.World) (seated : IsSeated world) (home_in : tid.home.0 < world.size) (all : ShowsAll tid world w)
     (n stamp : ℕ) (cause : CrashCause) (log more : List Record) (n_in : n < world.size) (on : world.channels.up n ≡ true) (says : recovery log ≡ fold found_record (recovery (world.hosts n).log) more) (may : AllClose tid n (place n (world.channels.inc n)) w more) where

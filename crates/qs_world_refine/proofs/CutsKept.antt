@@ -1,45 +1,18 @@
 -- A step is cut off with a record of a transaction on the disk: that is committed then, or never will be.
-use Rattle.std.proofs.Common.{◌≡◌, ◌⊎◌, inl, inr, ℕ, ◌<◌, ◌≤◌, ◌==◌, ◌&&◌, ◌||◌, Bool, true, false, Option, Some, None, refl, sym, ap, subst, ◌∙◌, arith, if◌then◌else◌}
-use Rattle.std.proofs.lemmas.Bool.{eqb-true}
-use Rattle.std.proofs.lemmas.Bool.Decides.{nat_tests}
-use Rattle.std.specs.List.{list_any}
-use Rattle.qs_base.specs.declared.identifiers.NodeNo.{NodeNo}
+use Rattle.qs_world_refine.proofs.Words.{◌≡◌, ◌⊎◌, inl, inr, ℕ, ◌<◌, ◌≤◌, ◌==◌, ◌&&◌, ◌||◌, Bool, true, false, Option, Some, None, refl, sym, ap, subst, ◌∙◌, arith, if◌then◌else◌, eqb-true, nat_tests, list_any, NodeNo, Tid, CrashCause, is_crash, same_node, Participant, Work, part_of, accept, after_step, effects_of, step_work, Source, Cut, event_of, may_step, stopped, stopped_host, cut_log, cut_with, log_after, Open, Committed, Aborted, Leads, IsLawful, leads_on, ShowsAll, KeepsDecided, AllGoes}
+use Rattle.qs_world_refine.proofs.Words.{Face, ShowsFace, IsCut, AllClose, taken_scene, StepShown, ShowsWorld, is_record_of, is_cut_with, began_here, face_at, outcome_seen, place, BeginsNew, Scene, scene_of, sight, Shows, IsShownWorld, MayHappen, begun, IsSteady, Stands, is_decided}
 use Rattle.qs_base.specs.declared.identifiers.Outcome.{Outcome}
 use Rattle.qs_base.specs.declared.identifiers.Outcome.TheVariants as outcomes
-use Rattle.qs_base.specs.declared.identifiers.Tid.{Tid}
 use Rattle.qs_session_channels.specs.Network.{with_at}
-use Rattle.qs_book_journal.specs.declared.entry.CrashCause.{CrashCause}
-use Rattle.qs_book_machine.specs.Clauses.{is_crash}
 use Rattle.qs_tm.specs.Manager as tm
-use Rattle.qs_engage.specs.Nodes.{same_node}
-use Rattle.qs_tm.specs.declared.participant.Participant.{Participant}
-use Rattle.qs_node_step.specs.State.{Work, part_of}
-use Rattle.qs_node_step.specs.Step.{accept, after_step, effects_of, step_work}
 use Rattle.qs_node_step.specs.declared.event.Event.{Event}
-use Rattle.qs_world.specs.Moves.{Source, Cut, event_of, may_step, stopped, stopped_host, cut_log, cut_with, log_after}
 use Rattle.qs_world.specs.World.{World}
 use Rattle.qs_world_agree.specs.World as machine
-use Rattle.qs_world_agree.specs.World.{Open, Committed, Aborted}
-use Rattle.qs_world_agree.specs.Carry.{Leads, IsLawful}
 use Rattle.qs_world_agree.specs.Doomed.{IsDoomed}
-use Rattle.qs_world_agree.proofs.Carries.{leads_on}
 use Rattle.qs_world_agree.proofs.Doomed.{doom_stays, abort_dooms, engaged_past_dooms}
 use Rattle.qs_world_refine.specs.CutLaws.{CutsOff, CutGoesKept}
-use Rattle.qs_world_refine.specs.EachMove.{ShowsAll, KeepsDecided, AllGoes}
-use Rattle.qs_world_refine.specs.Faces.{Face, ShowsFace}
-use Rattle.qs_world_refine.specs.EventLaws.{IsCut}
-use Rattle.qs_world_refine.specs.MoveLaws.{AllClose, taken_scene, StepShown, ShowsWorld, is_record_of, is_cut_with}
-use Rattle.qs_world_refine.specs.NodeFaces.{began_here, face_at, outcome_seen}
 use Rattle.qs_world_refine.specs.NodeFaces as faces
-use Rattle.qs_world_refine.specs.Places.{place}
-use Rattle.qs_world_refine.specs.SaidLaws.{BeginsNew}
-use Rattle.qs_world_refine.specs.Shows.{Scene, scene_of, sight, Shows}
-use Rattle.qs_world_refine.specs.ShownWorlds.{IsShownWorld}
-use Rattle.qs_world_refine.specs.SoundSteps.{MayHappen, begun}
-use Rattle.qs_world_refine.specs.Steady.{IsSteady}
-use Rattle.qs_world_refine.specs.Stands.{Stands}
 use Rattle.qs_world_refine.specs.StepLaws.{stepped}
-use Rattle.qs_world_refine.specs.Walks.{is_decided}
 use Rattle.qs_world_refine.proofs.Crashing as crashing
 use Rattle.qs_world_refine.proofs.CutRecords.{OneOf, one_of}
 use Rattle.qs_world_refine.proofs.EachCame.{case_of}

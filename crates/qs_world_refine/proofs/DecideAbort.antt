@@ -1,32 +1,14 @@
 -- The home decides abort: Abort, and Tell_abort for each node that it drew in.
-use Rattle.std.proofs.Common.{◌≡◌, ℕ, Bool, true, false, List, ◌++◌, Option, Some, None, length, refl, sym, subst, ap, ◌∙◌, if◌then◌else◌}
-use Rattle.std.specs.List.{filter}
+use Rattle.qs_world_refine.proofs.Words.{◌≡◌, ℕ, Bool, true, false, List, ◌++◌, Option, Some, None, length, refl, sym, subst, ap, ◌∙◌, if◌then◌else◌, filter, Tid, no_nodes, listed, Cause, Record, recovery, drawn_in, Participant, is_forced, send_each, decide, Sending, Work, IsHome, Face, node_no, names_node, all_said, face, face_at, SightGoes, sight_faced, Scene, sight_during, ShowsWork, Sight, ShowsSight, Goes}
 use Rattle.qs_base.specs.declared.identifiers.Outcome.TheVariants as outcomes
-use Rattle.qs_base.specs.declared.identifiers.Tid.{Tid}
-use Rattle.qs_engage.specs.Nodes.{all_nodes, no_nodes, has_node, listed}
-use Rattle.qs_ops.specs.declared.answer.Cause.{Cause}
+use Rattle.qs_engage.specs.Nodes.{all_nodes, has_node}
 use Rattle.qs_packet.specs.declared.message.Message.TheVariants as messages
-use Rattle.qs_record.specs.declared.record.Record.{Record}
 use Rattle.qs_record.specs.declared.record.Record.TheVariants as records
-use Rattle.qs_restart.specs.Recovery.{recovery}
 use Rattle.qs_tm.specs.Outcomes as outcome_rules
-use Rattle.qs_tm.specs.Outcomes.{drawn_in}
-use Rattle.qs_tm.specs.declared.participant.Participant.{Participant}
-use Rattle.qs_node_step.specs.Bringing.{is_forced, send_each}
-use Rattle.qs_node_step.specs.Deciding.{decide}
-use Rattle.qs_node_step.specs.declared.event.Sending.{Sending}
-use Rattle.qs_node_step.specs.State.{Work}
 use Rattle.qs_world_agree.specs.World.{World}
-use Rattle.qs_world_refine.specs.DecisionLaws.{IsHome, DecideAbortGoes}
-use Rattle.qs_world_refine.specs.Faces.{Face}
-use Rattle.qs_world_refine.specs.Links.{node_no, names_node}
-use Rattle.qs_world_refine.specs.Messages.{all_said}
-use Rattle.qs_world_refine.specs.NodeFaces.{face, face_at}
-use Rattle.qs_world_refine.specs.Seen.{SightGoes, sight_faced}
+use Rattle.qs_world_refine.specs.DecisionLaws.{DecideAbortGoes}
 use Rattle.qs_world_refine.specs.SeenOutcome.{aborted_face}
-use Rattle.qs_world_refine.specs.Shows.{Scene, sent_to, sight_during, ShowsWork}
-use Rattle.qs_world_refine.specs.Sights.{Sight, ShowsSight}
-use Rattle.qs_world_refine.specs.Steps.{Goes}
+use Rattle.qs_world_refine.specs.Shows.{sent_to}
 use Rattle.qs_world_refine.proofs.Aborting.{abort}
 use Rattle.qs_world_refine.proofs.Alike.{SameFace, SameFound, found_itself, face_on}
 use Rattle.qs_world_refine.proofs.Deciding as deciding

@@ -1,35 +1,14 @@
 -- A home that is ready decides commit: Commit, Commit and End, or Commit_unlogged; and then it tells each node that is to be told.
-use Rattle.std.proofs.Common.{◌≡◌, ℕ, ◌==◌, Bool, true, false, List, [], ◌∷◌, ◌++◌, Option, Some, None, refl, sym, subst, ap, ◌∙◌, if◌then◌else◌}
-use Rattle.std.specs.List.{filter}
-use Rattle.qs_base.specs.declared.identifiers.NodeNo.{NodeNo}
+use Rattle.qs_world_refine.proofs.Words.{◌≡◌, ℕ, ◌==◌, Bool, true, false, List, [], ◌∷◌, ◌++◌, Option, Some, None, refl, sym, subst, ap, ◌∙◌, if◌then◌else◌, filter, NodeNo, Tid, is_no_node, listed, Cause, Record, Recovery, found_record, recovery, Participant, is_forced, send_each, decide, is_busy, Sending, Work, Open, Committed, IsLawful, IsHome, HasNoDoubt, Face, node_no, names_node, all_said, face, face_at, began_here, place, SightGoes, FaceReady, sight_faced, sight_committed, Scene}
+use Rattle.qs_world_refine.proofs.Words.{sight_during, ShowsWork, Sight, ShowsSight, Goes}
 use Rattle.qs_base.specs.declared.identifiers.Outcome.TheVariants as outcomes
-use Rattle.qs_base.specs.declared.identifiers.Tid.{Tid}
-use Rattle.qs_engage.specs.Nodes.{is_no_node, listed}
-use Rattle.qs_ops.specs.declared.answer.Cause.{Cause}
 use Rattle.qs_packet.specs.declared.message.Message.TheVariants as messages
-use Rattle.qs_record.specs.declared.record.Record.{Record}
 use Rattle.qs_record.specs.declared.record.Record.TheVariants as records
-use Rattle.qs_restart.specs.Recovery.{Recovery, found_record, recovery}
 use Rattle.qs_tm.specs.Outcomes as outcome_rules
 use Rattle.qs_tm.specs.Participant as participant
-use Rattle.qs_tm.specs.declared.participant.Participant.{Participant}
-use Rattle.qs_node_step.specs.Bringing.{is_forced, send_each}
-use Rattle.qs_node_step.specs.Deciding.{decide}
-use Rattle.qs_node_step.specs.Settling.{is_busy}
-use Rattle.qs_node_step.specs.declared.event.Sending.{Sending}
-use Rattle.qs_node_step.specs.State.{Work}
-use Rattle.qs_world_agree.specs.World.{World, Open, Committed}
-use Rattle.qs_world_agree.specs.Carry.{IsLawful}
-use Rattle.qs_world_refine.specs.DecisionLaws.{IsHome, HasNoDoubt, DecideCommitGoes}
-use Rattle.qs_world_refine.specs.Faces.{Face}
-use Rattle.qs_world_refine.specs.Links.{node_no, names_node}
-use Rattle.qs_world_refine.specs.Messages.{all_said}
-use Rattle.qs_world_refine.specs.NodeFaces.{face, face_at, began_here}
-use Rattle.qs_world_refine.specs.Places.{place}
-use Rattle.qs_world_refine.specs.Seen.{SightGoes, FaceReady, sight_faced, sight_committed}
-use Rattle.qs_world_refine.specs.Shows.{Scene, sent_to, sight_during, ShowsWork}
-use Rattle.qs_world_refine.specs.Sights.{Sight, ShowsSight}
-use Rattle.qs_world_refine.specs.Steps.{Goes}
+use Rattle.qs_world_agree.specs.World.{World}
+use Rattle.qs_world_refine.specs.DecisionLaws.{DecideCommitGoes}
+use Rattle.qs_world_refine.specs.Shows.{sent_to}
 use Rattle.qs_world_refine.proofs.Alike.{SameFace, SameFound, found_itself}
 use Rattle.qs_world_refine.proofs.Deciding as deciding
 use Rattle.qs_world_refine.proofs.Deciding.{IsOwn, none_own, some_own}

@@ -1,26 +1,10 @@
 -- What is done of a transaction that is decided leaves standing what stood of it.
-use Rattle.std.proofs.Common.{◌≡◌, ℕ, ◌==◌, ◌||◌, Bool, true, false, List, [], ◌∷◌, Some, is_some, fold, refl, sym, ap, ◌∙◌}
-use Rattle.std.specs.BTreeMap.{is_at}
-use Rattle.qs_base.specs.Order.{tid_cmp}
-use Rattle.qs_base.specs.declared.identifiers.NodeNo.{NodeNo}
+use Rattle.qs_world_refine.proofs.Words.{◌≡◌, ℕ, ◌==◌, ◌||◌, Bool, true, false, List, [], ◌∷◌, Some, is_some, fold, refl, sym, ap, ◌∙◌, is_at, tid_cmp, NodeNo, ServerNo, Tid, Message, Record, Participant, send, send_each, log, tid_of, end_member, end_members, due_endings, learn_member, learners_at, give_notices, Work, part_of, node_no, Scene, StaysSound, may_doubt, Stands, GoesOn, Goes, same_Some}
 use Rattle.qs_base.specs.declared.identifiers.Outcome.{Outcome}
 use Rattle.qs_base.specs.declared.identifiers.Outcome.TheVariants as outcomes
-use Rattle.qs_base.specs.declared.identifiers.ServerNo.{ServerNo}
-use Rattle.qs_base.specs.declared.identifiers.Tid.{Tid}
-use Rattle.qs_packet.specs.declared.message.Message.{Message}
-use Rattle.qs_record.specs.declared.record.Record.{Record}
 use Rattle.qs_tm.specs.Manager as tm
 use Rattle.qs_tm.specs.Outcomes as outcome_rules
-use Rattle.qs_tm.specs.declared.participant.Participant.{Participant}
-use Rattle.qs_node_step.specs.Bringing.{send, send_each, log, tid_of}
-use Rattle.qs_node_step.specs.Deciding.{end_member, end_members, due_endings, learn_member, learners_at, give_notices}
-use Rattle.qs_node_step.specs.State.{Work, part_of}
 use Rattle.qs_world_agree.specs.World.{World}
-use Rattle.qs_world_refine.specs.Links.{node_no}
-use Rattle.qs_world_refine.specs.Shows.{Scene}
-use Rattle.qs_world_refine.specs.SoundLaws.{StaysSound}
-use Rattle.qs_world_refine.specs.Stands.{may_doubt, Stands, GoesOn}
-use Rattle.qs_world_refine.specs.Steps.{Goes}
 use Rattle.qs_world_refine.proofs.During.{Leaves}
 use Rattle.qs_world_refine.proofs.KindsKept.{KeepsKinds}
 use Rattle.qs_world_refine.proofs.Maps.{lookup_changed}
@@ -100,10 +84,7 @@ module _ (tid : Tid) (scene : Scene) (n : ℕ) (work new : Work) (w : World) (is
       off false b is so = cc is
 
   pub decided_answers : Answers tid scene n new
-  decided_answers later m its has = is.superior part m known (now.superior (node_no m) (ap (λ (p : Participant). p.engage.superior) (some_same now.next later (sym now.known ∙ its)) ∙ has))
-    where
-      some_same : (a b : Participant) → Some a ≡ Some b → a ≡ b
-      some_same a b e = cc e
+  decided_answers later m its has = is.superior part m known (now.superior (node_no m) (ap (λ (p : Participant). p.engage.superior) (same_Some now.next later (sym now.known ∙ its)) ∙ has))
 
   pub decided_stands : Goes tid scene n new w → Leaves (beside tid) work new → StaysSound work new → KeepsKinds work new → GoesOn tid scene n new w
   decided_stands goes left sound kinds = stands_on tid scene n work new w is goes left sound kinds decided_clear decided_answers

@@ -1,31 +1,13 @@
 -- What the home's node makes of a transaction that it decides, before it tells anybody.
-use Rattle.std.proofs.Common.{◌≡◌, ℕ, ◌==◌, ◌&&◌, Bool, true, false, Option, Some, None, refl, sym, subst, ap, ◌∙◌, arith, if◌then◌else◌}
-use Rattle.std.specs.BTreeMap.{is_at}
-use Rattle.std.proofs.lemmas.Bool.Decides.{nat_tests}
-use Rattle.qs_base.specs.Order.{tid_cmp}
+use Rattle.qs_world_refine.proofs.Words.{◌≡◌, ℕ, ◌==◌, Bool, true, false, Option, Some, None, refl, sym, subst, ap, ◌∙◌, arith, if◌then◌else◌, is_at, nat_tests, tid_cmp, Tid, same_node, listed, Cause, Record, Decision, Participant, tid_of, enter, send_each, log_if, give_notices, keep_outcome, decide_as, decide, Setting, Work, part_of, with_manager, IsHome, Face, node_no, face, face_at, began_here, outcome_seen, Scene, sight_during, IsAt, and_from}
 use Rattle.qs_base.specs.declared.identifiers.Outcome.{Outcome}
 use Rattle.qs_base.specs.declared.identifiers.Outcome.TheVariants as outcomes
-use Rattle.qs_base.specs.declared.identifiers.Tid.{Tid}
-use Rattle.qs_engage.specs.Nodes.{same_node, has_node, listed}
+use Rattle.qs_engage.specs.Nodes.{has_node}
 use Rattle.qs_book_journal.specs.declared.entry.Act.TheVariants as acts
-use Rattle.qs_ops.specs.declared.answer.Cause.{Cause}
 use Rattle.qs_packet.specs.declared.message.Message.TheVariants as messages
-use Rattle.qs_record.specs.declared.record.Record.{Record}
 use Rattle.qs_record.specs.declared.record.Record.TheVariants as records
 use Rattle.qs_tm.specs.Manager as tm
 use Rattle.qs_tm.specs.Outcomes as outcome_rules
-use Rattle.qs_tm.specs.declared.manager.Decision.{Decision}
-use Rattle.qs_tm.specs.declared.participant.Participant.{Participant}
-use Rattle.qs_node_step.specs.Bringing.{tid_of, enter, send_each, log_if}
-use Rattle.qs_node_step.specs.Deciding.{give_notices, keep_outcome, decide_as, decide}
-use Rattle.qs_node_step.specs.declared.setting.Setting.{Setting}
-use Rattle.qs_node_step.specs.State.{Work, part_of, with_manager}
-use Rattle.qs_world_refine.specs.DecisionLaws.{IsHome}
-use Rattle.qs_world_refine.specs.Faces.{Face}
-use Rattle.qs_world_refine.specs.Links.{node_no}
-use Rattle.qs_world_refine.specs.NodeFaces.{face, face_at, began_here, outcome_seen}
-use Rattle.qs_world_refine.specs.Shows.{Scene, sight_during}
-use Rattle.qs_world_refine.specs.Steps.{IsAt}
 use Rattle.qs_world_refine.proofs.Alike.{SameFace, face_on}
 use Rattle.qs_world_refine.proofs.During.{face_here}
 use Rattle.qs_world_refine.proofs.Known.{told_is}
@@ -71,10 +53,7 @@ module _ (tid : Tid) (scene : Scene) (outcome : Outcome) (cause : Option Cause) 
   face_before = face_here tid scene h work ∙ ap (λ (p : Participant). face work.node tid p) (part_known tid work.node part is_home.knows.known)
 
   pub began : began_here work.node tid ≡ true
-  began = by (same_node tid.home work.node.setting.node) (tid.inc == work.node.setting.inc) (rw is_home.at.node (grind (arith, nat_tests))) (rw (is_home.at.inc, is_home.first) (grind (arith, nat_tests)))
-    where
-      by : (a b : Bool) → a ≡ true → b ≡ true → (a && b) ≡ true
-      by a b ea eb = rw (ea, eb) refl
+  began = and_from (same_node tid.home work.node.setting.node) (tid.inc == work.node.setting.inc) (rw is_home.at.node (grind (arith, nat_tests))) (rw (is_home.at.inc, is_home.first) (grind (arith, nat_tests)))
 
   abbrev marked : Work
   marked = with_manager (tm.decide tid outcome) work

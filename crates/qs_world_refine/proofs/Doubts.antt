@@ -1,12 +1,6 @@
 -- What a log has in doubt of a transaction, of any server.
-use Rattle.std.proofs.Common.{◌≡◌, ℕ, ◌==◌, ◌&&◌, ◌||◌, not, Bool, true, false, List, [], ◌∷◌, ◌++◌, map, arith, refl, sym, ◌∙◌, if◌then◌else◌}
-use Rattle.std.specs.List.{filter, list_any}
-use Rattle.std.proofs.lemmas.Bool.Decides.{nat_tests}
-use Rattle.qs_base.specs.Order.{same_tid}
-use Rattle.qs_base.specs.declared.identifiers.Tid.{Tid}
-use Rattle.qs_restart.specs.Recovery.{Prepared, Recovery, is_of, is_vote_of, mark_committed}
-use Rattle.qs_world_refine.specs.Sights.{is_in_doubt, server_no}
-use Rattle.qs_world_refine.specs.Sound.{has_doubt}
+use Rattle.qs_world_refine.proofs.Words.{◌≡◌, ℕ, ◌==◌, ◌&&◌, ◌||◌, not, Bool, true, false, List, [], ◌∷◌, ◌++◌, map, refl, sym, ◌∙◌, if◌then◌else◌, filter, list_any, same_tid, Tid, Prepared, Recovery, is_vote_of, mark_committed, is_in_doubt, server_no, has_doubt, eqb-self, and_false, or_left, or_right}
+use Rattle.qs_restart.specs.Recovery.{is_of}
 
 abbrev pub is_doubt_at : Tid → ℕ → Prepared → Bool
 is_doubt_at tid s vote = is_vote_of tid (server_no s) vote && not vote.committed
@@ -28,26 +22,16 @@ pub some_of : (tid : Tid) (votes : List Prepared) → list_any (is_doubt_of tid)
 some_of tid [] some = absurd (cc (some))
 some_of tid (v ∷ votes) some = by (is_doubt_of tid v) refl (some_of tid votes) some
   where
-    same : (n : ℕ) → (n == n) ≡ true
-    same n = grind (arith, nat_tests)
-
     here : (a c : Bool) → (a && c) ≡ true → ((a && (v.server.0 == v.server.0)) && c) ≡ true
-    here a c is = rw (same v.server.0) (wide a c is)
+    here a c is = rw (eqb-self v.server.0) (wide a c is)
       where
         wide : (a c : Bool) → (a && c) ≡ true → ((a && true) && c) ≡ true
         wide true c is = is
         wide false c is = is
 
-    first : (b t : Bool) → b ≡ true → (b || t) ≡ true
-    first b t is = rw is refl
-
-    last : (b t : Bool) → t ≡ true → (b || t) ≡ true
-    last true t is = refl
-    last false t is = is
-
     by : (b : Bool) → is_doubt_of tid v ≡ b → (list_any (is_doubt_of tid) votes ≡ true → (s : ℕ) × (list_any (is_doubt_at tid s) votes ≡ true)) → (b || list_any (is_doubt_of tid) votes) ≡ true → (s : ℕ) × (list_any (is_doubt_at tid s) (v ∷ votes) ≡ true)
-    by true is again some = (v.server.0, first (is_doubt_at tid v.server.0 v) _ (here (same_tid v.tid tid) (not v.committed) is))
-    by false is again some = let more = again some in (more.0, last (is_doubt_at tid more.0 v) _ more.1)
+    by true is again some = (v.server.0, or_left (is_doubt_at tid v.server.0 v) _ (here (same_tid v.tid tid) (not v.committed) is))
+    by false is again some = let more = again some in (more.0, or_right (is_doubt_at tid more.0 v) _ more.1)
 
 -- two logs that have the same in doubt at each server
 pub doubt_same : (tid : Tid) (r s : Recovery) → ((k : ℕ) → is_in_doubt tid k s ≡ is_in_doubt tid k r) → has_doubt tid s ≡ has_doubt tid r
@@ -73,12 +57,8 @@ pub doubts_marked : (tid : Tid) (votes : List Prepared) → list_any (is_doubt_o
 doubts_marked tid [] = refl
 doubts_marked tid (v ∷ votes) = by (is_of tid v) refl (doubts_marked tid votes)
   where
-    off : (a : Bool) → (a && false) ≡ false
-    off true = refl
-    off false = refl
-
     by : (b : Bool) → is_of tid v ≡ b → list_any (is_doubt_of tid) (map (mark_committed tid) votes) ≡ false → (is_doubt_of tid (if b then record v { committed = true } else v) || list_any (is_doubt_of tid) (map (mark_committed tid) votes)) ≡ false
-    by true e more = rw (off (same_tid v.tid tid)) more
+    by true e more = rw (and_false (same_tid v.tid tid)) more
     by false e more = rw e more
 
 -- what comes last

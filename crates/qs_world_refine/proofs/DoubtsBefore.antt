@@ -1,15 +1,8 @@
 -- What a log has in doubt behind records it had in doubt before them, or one of them is its Prepare; so what is committed behind them was in doubt, or is prepared among them.
-use Rattle.std.proofs.Common.{◌≡◌, ◌⊎◌, ◌||◌, ◌++◌, inl, inr, Bool, true, false, List, [], ◌∷◌, fold, refl, sym, subst, ◌∙◌}
-use Rattle.std.specs.List.{list_any}
-use Rattle.std.proofs.lemmas.List.Folds.{list_any-append}
-use Rattle.qs_base.specs.Order.{same_tid}
-use Rattle.qs_base.specs.declared.identifiers.Tid.{Tid}
-use Rattle.qs_record.specs.declared.record.Record.{Record}
+use Rattle.qs_world_refine.proofs.Words.{◌≡◌, ◌⊎◌, ◌||◌, ◌++◌, inl, inr, Bool, true, false, List, [], ◌∷◌, fold, refl, sym, subst, ◌∙◌, list_any, list_any-append, same_tid, Tid, Record, Recovery, found_record, has_doubt, or_left, or_right}
 use Rattle.qs_record.specs.declared.record.Record.TheVariants as records
-use Rattle.qs_restart.specs.Recovery.{Recovery, found_record}
 use Rattle.qs_world.specs.Openings.{is_commit_of}
 use Rattle.qs_world_refine.specs.SaidLaws.{is_prepare_of}
-use Rattle.qs_world_refine.specs.Sound.{has_doubt}
 use Rattle.qs_world_refine.proofs.Doubts.{doubt_same, doubts_ended, doubts_marked}
 use Rattle.qs_world_refine.proofs.LogFrames.{record_apart, record_tid}
 use Rattle.qs_world_refine.proofs.SoundKnown.{same_is}
@@ -35,24 +28,17 @@ module _ (t : Tid) where
       by true same = own rec same doubt
       by false apart = inl (sym (doubt_same t said (found_record said rec) (record_apart t rec said apart).prepared) ∙ doubt)
 
-  first_of : (a b : Bool) → a ≡ true → (a || b) ≡ true
-  first_of a b is = rw is refl
-
-  last_of : (a b : Bool) → b ≡ true → (a || b) ≡ true
-  last_of true b is = refl
-  last_of false b is = is
-
   pub doubt_before : (more : List Record) (said : Recovery) → has_doubt t (fold found_record said more) ≡ true → (has_doubt t said ≡ true) ⊎ IsPreparedIn more
   doubt_before [] said doubt = inl doubt
   doubt_before (rec ∷ more) said doubt = by (doubt_before more (found_record said rec) doubt)
     where
       here : ((has_doubt t said ≡ true) ⊎ (is_prepare_of t rec ≡ true)) → (has_doubt t said ≡ true) ⊎ IsPreparedIn (rec ∷ more)
       here (inl old) = inl old
-      here (inr its) = inr (first_of (is_prepare_of t rec) (list_any (is_prepare_of t) more) its)
+      here (inr its) = inr (or_left (is_prepare_of t rec) (list_any (is_prepare_of t) more) its)
 
       by : ((has_doubt t (found_record said rec) ≡ true) ⊎ IsPreparedIn more) → (has_doubt t said ≡ true) ⊎ IsPreparedIn (rec ∷ more)
       by (inl d) = here (doubt_record rec said d)
-      by (inr later) = inr (last_of (is_prepare_of t rec) (list_any (is_prepare_of t) more) later)
+      by (inr later) = inr (or_right (is_prepare_of t rec) (list_any (is_prepare_of t) more) later)
 
   -- one piece behind another
   module _ (first second : List Record) (said : Recovery) where
@@ -64,10 +50,10 @@ module _ (t : Tid) where
     own_then before after any = by (list_any (is_commit_of t) first) (list_any (is_commit_of t) second) refl refl (sym (list_any-append (is_commit_of t) first second) ∙ any)
       where
         in_first : IsPreparedIn first → IsPreparedIn (first ++ second)
-        in_first is = list_any-append (is_prepare_of t) first second ∙ first_of (list_any (is_prepare_of t) first) (list_any (is_prepare_of t) second) is
+        in_first is = list_any-append (is_prepare_of t) first second ∙ or_left (list_any (is_prepare_of t) first) (list_any (is_prepare_of t) second) is
 
         in_second : IsPreparedIn second → IsPreparedIn (first ++ second)
-        in_second is = list_any-append (is_prepare_of t) first second ∙ last_of (list_any (is_prepare_of t) first) (list_any (is_prepare_of t) second) is
+        in_second is = list_any-append (is_prepare_of t) first second ∙ or_right (list_any (is_prepare_of t) first) (list_any (is_prepare_of t) second) is
 
         of_first : WasInDoubt said first → WasInDoubt said (first ++ second)
         of_first (inl d) = inl d

@@ -1,24 +1,7 @@
 -- What a piece of a node's step leaves as it was of what is seen of one transaction.
-use Rattle.std.proofs.Common.{◌≡◌, ℕ, ◌==◌, Bool, true, false, List, [], ◌∷◌, ◌++◌, refl, sym, ap, ◌∙◌, arith, append_assoc, if◌then◌else◌}
-use Rattle.std.specs.List.{filter}
-use Rattle.std.proofs.lemmas.Bool.Decides.{nat_tests}
-use Rattle.std.proofs.lemmas.List.Elements.{filter-append}
-use Rattle.qs_base.specs.declared.identifiers.NodeNo.{NodeNo}
-use Rattle.qs_base.specs.declared.identifiers.Tid.{Tid}
-use Rattle.qs_packet.specs.declared.message.Message.{Message}
-use Rattle.qs_record.specs.declared.record.Record.{Record}
-use Rattle.qs_restart.specs.Recovery.{Recovery, recovery, found_record}
-use Rattle.qs_node_step.specs.Bringing.{is_forced, send}
-use Rattle.qs_node_step.specs.State.{Work}
+use Rattle.qs_world_refine.proofs.Words.{◌≡◌, ℕ, ◌==◌, Bool, true, false, List, [], ◌∷◌, ◌++◌, refl, sym, ap, ◌∙◌, arith, append_assoc, if◌then◌else◌, filter, nat_tests, filter-append, NodeNo, Tid, Message, Record, Recovery, recovery, found_record, is_forced, send, Work, Face, Said, said, all_said, face_at, Scene, said_during, unmet_during, sight_during, ShowsWork, Runs, Meets, Sight, ShowsSight, IsAt, IsKnown}
 use Rattle.qs_world_agree.specs.World.{World}
-use Rattle.qs_world_refine.specs.Faces.{Face}
-use Rattle.qs_world_refine.specs.Links.{Said}
-use Rattle.qs_world_refine.specs.Messages.{said, all_said}
-use Rattle.qs_world_refine.specs.NodeFaces.{face_at}
-use Rattle.qs_world_refine.specs.Shows.{Scene, sent_to, said_during, unmet_during, sight_during, ShowsWork}
-use Rattle.qs_world_refine.specs.Seen.{Runs, Meets}
-use Rattle.qs_world_refine.specs.Sights.{Sight, ShowsSight}
-use Rattle.qs_world_refine.specs.Steps.{IsAt, IsKnown}
+use Rattle.qs_world_refine.specs.Shows.{sent_to}
 use Rattle.qs_world_refine.proofs.Alike.{SameFace, SameFound, same_itself, found_itself, found_on, sight_alike}
 use Rattle.qs_world_refine.proofs.LogFrames.{Apart, record_tid, record_apart}
 use Rattle.qs_world_refine.proofs.Reading.{SameFor, same_for_itself, same_for_on, face_for}

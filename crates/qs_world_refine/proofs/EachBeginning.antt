@@ -1,28 +1,15 @@
 -- Each move of a steady world, for a transaction whose number is still to be given: it stays so, or the machine began in the world before it and shows it after.
-use Rattle.std.proofs.Common.{◌≡◌, ◌⊎◌, inl, inr, ℕ, ◌+◌, ◌<◌, ◌==◌, ◌&&◌, not, nat_lt, Bool, true, false, [], Option, Some, None, is_some, refl, sym, ap, subst, ◌∙◌, arith, if◌then◌else◌}
-use Rattle.std.proofs.lemmas.Bool.{eqb-true}
-use Rattle.std.proofs.lemmas.Bool.Decides.{nat_tests}
-use Rattle.qs_base.specs.declared.identifiers.Tid.{Tid}
-use Rattle.qs_book_journal.specs.declared.entry.CrashCause.{CrashCause}
-use Rattle.qs_book_machine.specs.Clauses.{is_crash}
-use Rattle.qs_node_step.specs.Opening.{recovered_of}
+use Rattle.qs_world_refine.proofs.Words.{◌≡◌, ◌⊎◌, inl, inr, ℕ, ◌+◌, ◌<◌, ◌==◌, ◌&&◌, not, nat_lt, Bool, true, false, [], Option, Some, None, is_some, refl, sym, ap, subst, ◌∙◌, arith, if◌then◌else◌, eqb-true, not-true, nat_tests, Tid, CrashCause, is_crash, recovered_of, Cut, Stop, Rise, event_of, step_with, cut_with, stopped, risen, risen_host, is_later, is_in_order, reopened, Begins, Found, inc_in, count_in, may_be_known, IsUnbegun, ShowsAll, reopening_seen, IsSteadyWorld, GivesAt, stage_of}
+use Rattle.qs_world_refine.proofs.Words.{IsSteady, recovery}
 use Rattle.qs_node_step.specs.declared.event.Event.{Event}
-use Rattle.qs_world.specs.Moves.{Step, Cut, Stop, Rise, Meet, event_of, step_with, cut_with, stopped, risen, risen_host, met, is_later, is_in_order, may_serve, reopened}
+use Rattle.qs_world.specs.Moves.{Step, Meet, met, may_serve}
 use Rattle.qs_world.specs.World.{World}
-use Rattle.qs_world_agree.specs.Carry.{Begins}
-use Rattle.qs_world_agree.specs.Origins.{Found}
-use Rattle.qs_world_refine.specs.Begun.{inc_in, count_in, may_be_known}
-use Rattle.qs_world_refine.specs.BeginLaws.{IsUnbegun, EachBegins}
-use Rattle.qs_world_refine.specs.EachMove.{ShowsAll}
-use Rattle.qs_world_refine.specs.Lefts.{reopening_seen}
-use Rattle.qs_world_refine.specs.Steadies.{IsSteadyWorld, GivesAt, stage_of}
-use Rattle.qs_world_refine.specs.Steady.{IsSteady}
+use Rattle.qs_world_refine.specs.BeginLaws.{EachBegins}
 use Rattle.qs_world_refine.proofs.PassedOver.{w, risen_sight, passed_left, passed_shows_all}
 use Rattle.qs_world_refine.proofs.Reopening.{may_reopen}
 use Rattle.qs_world_refine.proofs.SoundParts.{and_both}
 use Rattle.qs_world_refine.proofs.TidyTaken.{opened_taken}
 use Rattle.qs_world_refine.proofs.SaidTidy.{log_tidy, all_parted}
-use Rattle.qs_restart.specs.Recovery.{recovery}
 use Rattle.qs_world_refine.proofs.ToCome.{IsToCome, still, as_before, some_number, which_inc, other_stops, later_stops}
 use Rattle.qs_world_refine.proofs.MoveGoes.{in_run, later_in}
 use Rattle.qs_world_refine.proofs.BeginSteps.{home_stops, steps, cuts}
@@ -132,12 +119,8 @@ each_begins tid world (Cut n stamp free source is_kept cause) may gives steady t
     by (Some event) comes gives = cuts tid world steady tidy is n stamp free source event (later_in world n stamp (and_both (is_later world n stamp) _ runs.1).0) runs.0 comes gives is_kept cause
 each_begins tid world (Stop n stamp cause) may gives steady tidy is =
     let runs = and_both (world.channels.up n) _ may in stops_so tid world steady tidy is n stamp cause (in_run world n stamp (and_both (is_in_order world n stamp) _ runs.1).0) runs.0
-each_begins tid world (Rise n stamp inc) may gives steady tidy is = rises_so tid world steady tidy is n stamp inc (off (world.channels.up n) both.0) (grind (arith, nat_tests, order.1))
+each_begins tid world (Rise n stamp inc) may gives steady tidy is = rises_so tid world steady tidy is n stamp inc (not-true (world.channels.up n) both.0) (grind (arith, nat_tests, order.1))
   where
-    off : (b : Bool) → not b ≡ true → b ≡ false
-    off true is = absurd (cc (is))
-    off false is = refl
-
     both : (not (world.channels.up n) ≡ true) × ((is_in_order world n stamp && nat_lt (world.channels.inc n) inc) ≡ true)
     both = and_both (not (world.channels.up n)) (is_in_order world n stamp && nat_lt (world.channels.inc n) inc) may
 

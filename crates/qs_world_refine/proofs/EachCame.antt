@@ -1,43 +1,16 @@
 -- What comes in a step of a node: what stands of a transaction that is shown goes on to stand, and its records may stand in turn.
-use Rattle.std.proofs.Common.{◌≡◌, ℕ, ◌<◌, ◌≤◌, ◌==◌, ◌||◌, not, Bool, true, false, List, Option, Some, None, refl, sym, ap, subst, ◌∙◌, arith, if◌then◌else◌}
-use Rattle.std.specs.Prelude.{unwrap_or}
-use Rattle.std.proofs.lemmas.Bool.{eqb-true}
-use Rattle.std.proofs.lemmas.Bool.Decides.{nat_tests}
-use Rattle.std.specs.BTreeMap.{is_at}
-use Rattle.qs_base.specs.Order.{same_tid, tid_cmp}
-use Rattle.qs_base.specs.declared.identifiers.NodeNo.{NodeNo}
+use Rattle.qs_world_refine.proofs.Words.{◌≡◌, ℕ, ◌<◌, ◌≤◌, ◌==◌, ◌||◌, not, Bool, true, false, List, Option, Some, None, refl, sym, ap, subst, ◌∙◌, arith, if◌then◌else◌, unwrap_or, eqb-true, or_left, nat_tests, is_at, same_tid, tid_cmp, NodeNo, Tid, same_node, Message, Participant, was_committed, Work, part_of, with_manager, happen, message_came, told_at_home, told_unknown, told_known, end_told, Open, Committed, Aborted, Leads, leads_on, ShowsTold, ShowsAll, Face, node_no, face_at, outcome_seen}
+use Rattle.qs_world_refine.proofs.Words.{unknown, place, Scene, scene_of, handed, sight_during, ShowsWork, same_flag, FitsMessage, begun, GoesOn, IsSteady, HasBegun, is_fit_message, IsNext, same_Some}
 use Rattle.qs_base.specs.declared.identifiers.Outcome.{Outcome}
 use Rattle.qs_base.specs.declared.identifiers.Outcome.TheVariants as outcomes
-use Rattle.qs_base.specs.declared.identifiers.Tid.{Tid}
-use Rattle.qs_engage.specs.Nodes.{same_node, has_node}
-use Rattle.qs_packet.specs.declared.message.Message.{Message}
+use Rattle.qs_engage.specs.Nodes.{has_node}
 use Rattle.qs_packet.specs.declared.message.Message.TheVariants as messages
 use Rattle.qs_tm.specs.Manager as tm
 use Rattle.qs_tm.specs.Outcomes as outcome_rules
-use Rattle.qs_tm.specs.declared.participant.Participant.{Participant}
-use Rattle.qs_node_step.specs.Answering.{was_committed}
-use Rattle.qs_node_step.specs.State.{Work, part_of, with_manager}
-use Rattle.qs_node_step.specs.Step.{happen, message_came}
-use Rattle.qs_node_step.specs.Telling.{told_at_home, told_unknown, told_known, end_told}
 use Rattle.qs_node_step.specs.declared.event.Event.{Event}
 use Rattle.qs_node_step.specs.declared.event.Event.TheVariants as events
 use Rattle.qs_world.specs.World.{World}
 use Rattle.qs_world_agree.specs.World as machine
-use Rattle.qs_world_agree.specs.World.{Open, Committed, Aborted}
-use Rattle.qs_world_agree.specs.Carry.{Leads}
-use Rattle.qs_world_agree.proofs.Carries.{leads_on}
-use Rattle.qs_world_refine.specs.DecisionLaws.{ShowsTold}
-use Rattle.qs_world_refine.specs.EachMove.{ShowsAll}
-use Rattle.qs_world_refine.specs.Faces.{Face}
-use Rattle.qs_world_refine.specs.Links.{node_no}
-use Rattle.qs_world_refine.specs.NodeFaces.{face_at, outcome_seen, unknown}
-use Rattle.qs_world_refine.specs.Places.{place}
-use Rattle.qs_world_refine.specs.Shows.{Scene, scene_of, handed, sight_during, ShowsWork}
-use Rattle.qs_world_refine.specs.Sound.{same_flag}
-use Rattle.qs_world_refine.specs.SoundSteps.{FitsMessage, begun}
-use Rattle.qs_world_refine.specs.Stands.{GoesOn}
-use Rattle.qs_world_refine.specs.Steady.{IsSteady, HasBegun, is_fit_message}
-use Rattle.qs_world_refine.specs.Steps.{IsNext}
 use Rattle.qs_world_refine.proofs.HomeKnows.{knows_on}
 use Rattle.qs_world_refine.proofs.Arrays.{node_put}
 use Rattle.qs_world_refine.proofs.EachFits.{own_comes}
@@ -143,13 +116,10 @@ module _ (t : Tid) (world : World) (w : machine.World) (steady : IsSteady world)
     -- the home's place knows it, and keeps to it
     place_knows : its_stood.next.outcome (place n (world.channels.inc n)) ≡ Committed
     place_knows = (shown_here t (scene_of world) n its_work its_stood.next its_stood.stands).outcome ∙ (ap (λ (f : Face). f.outcome) (face_is t (scene_of world) n its_work its_stood.next its_stood.stands part known)
-        ∙ (ap (λ (o : Option Outcome). outcome_seen o (part.engage.home || part.involved)) committed ∙ told_seen (part.engage.home || part.involved) (either part.engage.home part.involved is_home)))
+        ∙ (ap (λ (o : Option Outcome). outcome_seen o (part.engage.home || part.involved)) committed ∙ told_seen (part.engage.home || part.involved) (or_left part.engage.home part.involved is_home)))
       where
         told_seen : (b : Bool) → b ≡ true → outcome_seen (Some outcomes.Commit) b ≡ Committed
         told_seen b so = rw so refl
-
-        either : (a b : Bool) → a ≡ true → (a || b) ≡ true
-        either a b so = rw so refl
 
     later_knows : took.going.next.outcome (place n (world.channels.inc n)) ≡ Committed
     later_knows = (knows_on its_stood.next took.going.next (place n (world.channels.inc n)) its_stood.stands.lawful took.going.leads (record { at_home = home_node; committed = place_knows })).committed
@@ -228,13 +198,10 @@ module _ (t : Tid) (world : World) (w : machine.World) (steady : IsSteady world)
       unasked never = plainly t world w steady home_in began all n free n_in on m i (messages.Told t further) rest next fit fits
           (λ f leads. record { acks = λ same at part known commit still. absurd (never at part known commit); ends = λ same at part known commit told. absurd (never at part known commit) })
 
-      some_same : (a b : Participant) → Some a ≡ Some b → a ≡ b
-      some_same a b is = cc (is)
-
       at_home : n ≡ t.home.0 → (part : Participant) → part_of t (begun (world.hosts n).node free) ≡ Some part → (o : Option Outcome) → part.outcome ≡ o → Came t world n free (events.Received (node_no m) (messages.Told t further)) (handed (scene_of world) m i n rest) w
       at_home here part known (Some outcomes.Commit) committed = came_taking t world w steady home_in began all n free n_in on m i rest further next fits here part known committed
-      at_home here part known (Some outcomes.Abort) aborted = unasked (λ at p its commit. let same : part ≡ p = some_same part p (sym known ∙ its) in let both : Some outcomes.Abort ≡ Some outcomes.Commit = sym aborted ∙ (ap (λ (x : Participant). x.outcome) same ∙ commit) in cc (both))
-      at_home here part known None open_now = unasked (λ at p its commit. let same : part ≡ p = some_same part p (sym known ∙ its) in let both : None ≡ Some outcomes.Commit = sym open_now ∙ (ap (λ (x : Participant). x.outcome) same ∙ commit) in cc (both))
+      at_home here part known (Some outcomes.Abort) aborted = unasked (λ at p its commit. let same : part ≡ p = same_Some part p (sym known ∙ its) in let both : Some outcomes.Abort ≡ Some outcomes.Commit = sym aborted ∙ (ap (λ (x : Participant). x.outcome) same ∙ commit) in cc (both))
+      at_home here part known None open_now = unasked (λ at p its commit. let same : part ≡ p = same_Some part p (sym known ∙ its) in let both : None ≡ Some outcomes.Commit = sym open_now ∙ (ap (λ (x : Participant). x.outcome) same ∙ commit) in cc (both))
 
       by : (b : Bool) → (t.home.0 == n) ≡ b → (o : Option Participant) → part_of t (begun (world.hosts n).node free) ≡ o → Came t world n free (events.Received (node_no m) (messages.Told t further)) (handed (scene_of world) m i n rest) w
       by false away o known = unasked (λ at p its commit. let off : same_node t.home (begun (world.hosts n).node free).node.setting.node ≡ false = at_work ∙ away in cc (at, off))

@@ -1,39 +1,17 @@
 -- Whatever comes in a step of a node: what stands of a transaction that is shown goes on to stand, over the channels as the event leaves them.
-use Rattle.std.proofs.Common.{◌≡◌, ◌≢◌, ◌⊎◌, inl, inr, ℕ, ◌+◌, ◌<◌, ◌≤◌, ◌==◌, ◌&&◌, ◌||◌, not, Bool, true, false, List, [], ◌∷◌, ◌++◌, drop, length, map, Option, Some, None, is_some, refl, sym, ap, subst, ◌∙◌, arith, if◌then◌else◌}
-use Rattle.std.proofs.lemmas.Bool.{eqb-true}
-use Rattle.qs_base.specs.Order.{same_tid}
-use Rattle.qs_base.specs.declared.identifiers.NodeNo.{NodeNo}
-use Rattle.qs_base.specs.declared.identifiers.Tid.{Tid}
-use Rattle.qs_engage.specs.Engage.{peer_of}
+use Rattle.qs_world_refine.proofs.Words.{◌≡◌, ◌≢◌, ◌⊎◌, inl, inr, ℕ, ◌+◌, ◌<◌, ◌≤◌, ◌==◌, ◌&&◌, ◌||◌, not, Bool, true, false, List, [], ◌∷◌, ◌++◌, drop, length, map, Option, Some, None, is_some, refl, sym, ap, subst, ◌∙◌, arith, if◌then◌else◌, eqb-true, same_tid, NodeNo, Tid, peer_of, IpcValue, queue_at, count_of, ScriptLine, Record, Participant, begin_incarnation, NodeValue, Work, part_of, work_on, Source, Commanded, Handed, Queues, Clock, Noticed, event_of, command_of, Parcel, leads_on, ShowsAll}
+use Rattle.qs_world_refine.proofs.Words.{MessagesFit, node_no, all_said, taken_scene, noticed, IsNoticed, CanCount, message_of, Scene, scene_of, handed, Shows, server_no, begun, GoesOn, IsSteady, HasBegun, rest_behind, same_Some}
 use Rattle.qs_engage.specs.declared.engage.Engage.{Engage}
-use Rattle.qs_ipc.specs.Ipc.{IpcValue, queue_at}
-use Rattle.qs_ipc.specs.Queue.{count_of}
-use Rattle.qs_book_journal.specs.declared.script_line.ScriptLine.{ScriptLine}
-use Rattle.qs_record.specs.declared.record.Record.{Record}
 use Rattle.qs_tm.specs.Manager as tm
-use Rattle.qs_tm.specs.declared.participant.Participant.{Participant}
-use Rattle.qs_node_step.specs.Restarts.{begin_incarnation}
-use Rattle.qs_node_step.specs.State.{NodeValue, Work, part_of, work_on}
 use Rattle.qs_node_step.specs.declared.event.Event.{Event}
 use Rattle.qs_node_step.specs.declared.event.Event.TheVariants as events
-use Rattle.qs_world.specs.Moves.{Source, Commanded, Handed, Queues, Clock, Noticed, event_of, command_of, may_serve}
-use Rattle.qs_world.specs.World.{Parcel, World}
+use Rattle.qs_world.specs.Moves.{may_serve}
+use Rattle.qs_world.specs.World.{World}
 use Rattle.qs_world_agree.specs.World as machine
-use Rattle.qs_world_agree.proofs.Carries.{leads_on}
-use Rattle.qs_world_refine.specs.EachMove.{ShowsAll, MessagesFit}
-use Rattle.qs_world_refine.specs.Links.{node_no}
-use Rattle.qs_world_refine.specs.Messages.{all_said}
-use Rattle.qs_world_refine.specs.MoveLaws.{taken_scene}
 use Rattle.qs_world_refine.specs.NodeFaces.{waiting_at}
-use Rattle.qs_world_refine.specs.RestartLaws.{noticed, IsNoticed}
-use Rattle.qs_world_refine.specs.ServeWhole.{CanCount}
-use Rattle.qs_world_refine.specs.Shows.{message_of, Scene, scene_of, sent_to, handed, Shows}
-use Rattle.qs_world_refine.specs.Sights.{server_no}
-use Rattle.qs_world_refine.specs.SoundSteps.{begun}
-use Rattle.qs_world_refine.specs.Stands.{GoesOn}
-use Rattle.qs_world_refine.specs.Steady.{IsSteady, HasBegun, IsEarly}
+use Rattle.qs_world_refine.specs.Shows.{sent_to}
+use Rattle.qs_world_refine.specs.Steady.{IsEarly}
 use Rattle.qs_world_refine.specs.StepLaws.{stepped}
-use Rattle.qs_world_refine.specs.TakenLaws.{rest_behind}
 use Rattle.qs_world_refine.proofs.BeginStands.{begin_incarnation_goes}
 use Rattle.qs_world_refine.proofs.Calm.{IsCalm}
 use Rattle.qs_world_refine.proofs.CommandStands.{command_goes}
@@ -50,6 +28,7 @@ use Rattle.qs_world_refine.proofs.SoundKnown.{same_is}
 use Rattle.qs_world_refine.proofs.SoundViews.{seen}
 use Rattle.qs_world_refine.proofs.Taken.{handed_taken, noticed_taken}
 use Rattle.qs_world_refine.proofs.TickGoes.{tick_goes}
+use Rattle.qs_base_lemmas.proofs.Tests.{some_not_zero}
 
 pub record StepCame (t : Tid) (world : World) (n free : ℕ) (source : Source) (event : Event) (w : machine.World) : Type 0 where
   pub later : Scene
@@ -159,10 +138,7 @@ module _ (t : Tid) (world : World) (w : machine.World) (steady : IsSteady world)
   can_count_now serves = by node.is_first refl
     where
       by : (b : Bool) → node.is_first ≡ b → CanCount t work
-      by true early = λ part s known below waits. absurd (never (waiting_at work.node t s) waits (ap (λ (queues : IpcValue). count_of t (queue_at queues (server_no s)).waiting) (keeps t world w steady home_in all n free n_in on).queues ∙ (steady.nodes n n_in on).idle early t s))
-        where
-          never : (k : ℕ) → 1 ≤ k → k ≡ 0 → ⊥
-          never k some none = omega (arith, some, none)
+      by true early = λ part s known below waits. absurd (some_not_zero (waiting_at work.node t s) waits (ap (λ (queues : IpcValue). count_of t (queue_at queues (server_no s)).waiting) (keeps t world w steady home_in all n free n_in on).queues ∙ (steady.nodes n n_in on).idle early t s))
       by false further = subst (λ (k : Work). CanCount t k) (sym (same further)) (can_count t node free serves)
         where
           same : node.is_first ≡ false → work ≡ work_on node free
@@ -264,12 +240,6 @@ module _ (t : Tid) (world : World) (w : machine.World) (steady : IsSteady world)
   pub step_came : (stamp : ℕ) (source : Source) (event : Event) → may_serve node source ≡ true → event_of world n stamp source ≡ Some event → StepCame t world n free source event w
   step_came stamp (Commanded k) event serves is = commanded k event is
   step_came stamp (Handed m) event serves is = handed_up stamp m event is
-  step_came stamp Queues event serves is = subst (λ (e : Event). StepCame t world n free Queues e w) (one events.ServeAll event is) (served serves)
-    where
-      one : (a b : Event) → Some a ≡ Some b → a ≡ b
-      one a b same = cc (same)
-  step_came stamp Clock event serves is = subst (λ (e : Event). StepCame t world n free Clock e w) (one events.Tick event is) timed
-    where
-      one : (a b : Event) → Some a ≡ Some b → a ≡ b
-      one a b same = cc (same)
+  step_came stamp Queues event serves is = subst (λ (e : Event). StepCame t world n free Queues e w) (same_Some events.ServeAll event is) (served serves)
+  step_came stamp Clock event serves is = subst (λ (e : Event). StepCame t world n free Clock e w) (same_Some events.Tick event is) timed
   step_came stamp (Noticed m new) event serves is = notices m new event (from_notice world n stamp m new event is)

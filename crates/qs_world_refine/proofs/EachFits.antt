@@ -1,39 +1,14 @@
 -- A message about a transaction that is shown fits, and what its coming asks of the machine holds.
-use Rattle.std.proofs.Common.{◌≡◌, ℕ, ◌+◌, ◌<◌, ◌≤◌, ◌==◌, ◌||◌, nat_lt, Bool, true, false, List, [], ◌∷◌, ◌++◌, Option, Some, None, refl, sym, ap, subst, ◌∙◌, arith, if◌then◌else◌}
-use Rattle.std.specs.List.{list_any, list_all, filter}
-use Rattle.std.proofs.lemmas.Bool.{eqb-true}
-use Rattle.std.proofs.lemmas.Bool.Decides.{nat_tests}
-use Rattle.qs_base.specs.declared.identifiers.Member.{Member}
-use Rattle.qs_base.specs.declared.identifiers.NodeNo.{NodeNo}
+use Rattle.qs_world_refine.proofs.Words.{◌≡◌, ℕ, ◌+◌, ◌<◌, ◌≤◌, ◌==◌, ◌||◌, nat_lt, Bool, true, false, List, [], ◌∷◌, ◌++◌, Option, Some, None, refl, sym, ap, subst, ◌∙◌, arith, if◌then◌else◌, list_any, list_all, filter, eqb-true, nat_tests, Member, NodeNo, ServerNo, Tid, same_node, is_for, Op, Message, Participant, Work, part_of, Open, Committed, Aborted, Leads, ShowsAll, Face, Said, Inquired, Link, link, IsLink, names_node, node_no, said, all_said, face_at, is_past_commit, unknown}
+use Rattle.qs_world_refine.proofs.Words.{unknown_at_home, outcome_of, AgreesWith, place, Scene, FitsMessage, begun, Stands, IsSteady, HasBegun, is_fit_message, IsNext, TakesTold}
 use Rattle.qs_base.specs.declared.identifiers.Outcome.{Outcome}
 use Rattle.qs_base.specs.declared.identifiers.Outcome.TheVariants as outcomes
-use Rattle.qs_base.specs.declared.identifiers.ServerNo.{ServerNo}
-use Rattle.qs_base.specs.declared.identifiers.Tid.{Tid}
-use Rattle.qs_engage.specs.Nodes.{same_node}
-use Rattle.qs_ipc.specs.Queue.{is_for}
-use Rattle.qs_ops.specs.declared.operation.Op.{Op}
-use Rattle.qs_packet.specs.declared.message.Message.{Message}
 use Rattle.qs_packet.specs.declared.message.Message.TheVariants as messages
-use Rattle.qs_tm.specs.declared.participant.Participant.{Participant}
-use Rattle.qs_node_step.specs.State.{Work, part_of}
 use Rattle.qs_world.specs.World.{World}
 use Rattle.qs_world_agree.specs.World as machine
-use Rattle.qs_world_agree.specs.World.{Open, Committed, Aborted}
-use Rattle.qs_world_agree.specs.Carry.{Leads}
 use Rattle.qs_world_refine.specs.CameWhole.{MayCome}
-use Rattle.qs_world_refine.specs.EachMove.{ShowsAll, IsAbout}
-use Rattle.qs_world_refine.specs.Faces.{Face}
-use Rattle.qs_world_refine.specs.Links.{Said, Inquired, Link, link, IsLink, names_node, node_no}
-use Rattle.qs_world_refine.specs.Messages.{said, all_said}
-use Rattle.qs_world_refine.specs.NodeFaces.{face_at, is_past_commit, unknown, unknown_at_home, outcome_of}
-use Rattle.qs_world_refine.specs.OutcomeWhole.{AgreesWith}
-use Rattle.qs_world_refine.specs.Places.{place}
-use Rattle.qs_world_refine.specs.Shows.{Scene}
-use Rattle.qs_world_refine.specs.SoundSteps.{FitsMessage, begun}
-use Rattle.qs_world_refine.specs.Stands.{Stands}
-use Rattle.qs_world_refine.specs.Steady.{IsSteady, HasBegun, is_fit_message, is_of_run, is_node_of_run}
-use Rattle.qs_world_refine.specs.Steps.{IsNext}
-use Rattle.qs_world_refine.specs.ToldWhole.{TakesTold}
+use Rattle.qs_world_refine.specs.EachMove.{IsAbout}
+use Rattle.qs_world_refine.specs.Steady.{is_of_run, is_node_of_run}
 use Rattle.qs_world_refine.proofs.EachHears.{is_calm, learnt, past_here, counts_no_more, keeps_past}
 use Rattle.qs_world_refine.proofs.Facts.{invariant}
 use Rattle.qs_world_refine.proofs.Heads.{shown_here, node_is, sender_is, peer_is, head_link, told_commit, told_abort, no_request, below_sent, names_no_home, taken_names}

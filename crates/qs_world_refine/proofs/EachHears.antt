@@ -1,28 +1,9 @@
 -- A message that comes to a node: what stands of a transaction that is shown goes on to stand, whatever the message is about.
-use Rattle.std.proofs.Common.{◌≡◌, ℕ, ◌<◌, ◌≤◌, ◌==◌, ◌&&◌, ◌||◌, not, Bool, true, false, Option, Some, None, is_some, refl, sym, ap, subst, ◌∙◌, if◌then◌else◌}
-use Rattle.std.specs.List.{list_any}
-use Rattle.std.proofs.lemmas.Bool.{eqb-true}
-use Rattle.qs_base.specs.Order.{same_tid}
-use Rattle.qs_base.specs.declared.identifiers.NodeNo.{NodeNo}
-use Rattle.qs_base.specs.declared.identifiers.Tid.{Tid}
-use Rattle.qs_engage.specs.Nodes.{same_node}
+use Rattle.qs_world_refine.proofs.Words.{◌≡◌, ℕ, ◌<◌, ◌≤◌, ◌==◌, ◌&&◌, ◌||◌, not, Bool, true, false, Option, Some, None, is_some, refl, sym, ap, subst, ◌∙◌, if◌then◌else◌, list_any, eqb-true, same_tid, NodeNo, Tid, same_node, Participant, was_committed, NodeValue, Work, part_of, work_on, Open, Committed, Aborted, Leads, ShowsAll, KeepsDecided, began_here, is_past_commit, KeepsPast, Scene, scene_of, is_past, begun, Stands, GoesOn, IsSteady, HasBegun}
 use Rattle.qs_tm.specs.Manager as tm
-use Rattle.qs_tm.specs.declared.participant.Participant.{Participant}
-use Rattle.qs_node_step.specs.Answering.{was_committed}
-use Rattle.qs_node_step.specs.State.{NodeValue, Work, part_of, work_on}
 use Rattle.qs_world.specs.World.{World}
 use Rattle.qs_world_agree.specs.World as machine
-use Rattle.qs_world_agree.specs.World.{Open, Committed, Aborted}
-use Rattle.qs_world_agree.specs.Carry.{Leads}
 use Rattle.qs_world_refine.specs.CloserWhole.{CountsNoMore}
-use Rattle.qs_world_refine.specs.EachMove.{ShowsAll, KeepsDecided}
-use Rattle.qs_world_refine.specs.NodeFaces.{began_here, is_past_commit}
-use Rattle.qs_world_refine.specs.OutcomeWhole.{KeepsPast}
-use Rattle.qs_world_refine.specs.Shows.{Scene, scene_of}
-use Rattle.qs_world_refine.specs.Sound.{is_past}
-use Rattle.qs_world_refine.specs.SoundSteps.{begun}
-use Rattle.qs_world_refine.specs.Stands.{Stands, GoesOn}
-use Rattle.qs_world_refine.specs.Steady.{IsSteady, HasBegun}
 use Rattle.qs_world_refine.proofs.BeginKeeps.{KeptOn, begin_keeps}
 use Rattle.qs_world_refine.proofs.BeginStands.{begin_incarnation_goes}
 use Rattle.qs_world_refine.proofs.Calm.{SameCore, IsCalm, calm, known_before}

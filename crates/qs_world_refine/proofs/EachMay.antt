@@ -1,29 +1,17 @@
 -- What comes to a node in a step may come, as far as its node is to stay sound.
-use Rattle.std.proofs.Common.{◌≡◌, ◌≢◌, ℕ, ◌+◌, ◌<◌, ◌≤◌, ◌==◌, ◌&&◌, nat_lt, nat_le, Bool, true, false, List, [], ◌∷◌, ◌++◌, length, drop, map, zero, suc, Option, Some, None, refl, sym, ap, subst, ◌∙◌, arith, if◌then◌else◌}
+use Rattle.qs_world_refine.proofs.Words.{◌≡◌, ◌≢◌, ℕ, ◌+◌, ◌<◌, ◌≤◌, ◌==◌, ◌&&◌, nat_lt, nat_le, Bool, true, false, List, [], ◌∷◌, ◌++◌, length, drop, map, zero, suc, Option, Some, None, refl, sym, ap, subst, ◌∙◌, arith, if◌then◌else◌, list_all, same_Some, nat_tests, same_node, Command, ScriptLine, Work, work_on, Source, Commanded, Handed, Queues, Clock, Noticed, event_of, command_of, client_count, next_parcel, Parcel, known_of, MessagesFit, node_no, BeginsNew, message_of, scene_of, goes_in_run}
+use Rattle.qs_world_refine.proofs.Words.{MayHappen, begun, IsSteady, is_fit_message, IsNext, rest_behind}
 use Rattle.std.specs.Prelude.{slice_get}
-use Rattle.std.specs.List.{list_all}
 use Rattle.std.proofs.lemmas.Option.{slice_get_within}
 use Rattle.qs_session_channels.proofs.Lists.{tail_from}
-use Rattle.std.proofs.lemmas.Bool.Decides.{nat_tests}
-use Rattle.qs_engage.specs.Nodes.{same_node}
-use Rattle.qs_book_journal.specs.declared.script_line.Command.{Command}
 use Rattle.qs_book_journal.specs.declared.script_line.Command.TheVariants as commands
-use Rattle.qs_book_journal.specs.declared.script_line.ScriptLine.{ScriptLine}
-use Rattle.qs_node_step.specs.State.{Work, work_on}
 use Rattle.qs_node_step.specs.declared.event.Event.{Event}
 use Rattle.qs_node_step.specs.declared.event.Event.TheVariants as events
-use Rattle.qs_world.specs.Moves.{Source, Commanded, Handed, Queues, Clock, Noticed, event_of, command_of, command_from, client_count, message_from, notice_of, has_begun}
-use Rattle.qs_world.specs.Posting.{next_parcel, next_line}
-use Rattle.qs_world.specs.World.{Parcel, World, known_of, inc_of}
-use Rattle.qs_world_refine.specs.EachMove.{MessagesFit, EachMayCome}
-use Rattle.qs_world_refine.specs.Links.{node_no}
-use Rattle.qs_world_refine.specs.SaidLaws.{BeginsNew}
-use Rattle.qs_world_refine.specs.Shows.{message_of, scene_of}
-use Rattle.qs_world_refine.specs.Sound.{goes_in_run}
-use Rattle.qs_world_refine.specs.SoundSteps.{MayHappen, begun}
-use Rattle.qs_world_refine.specs.Steady.{IsSteady, is_line_in_run, is_fit_message, is_fit_parcel}
-use Rattle.qs_world_refine.specs.Steps.{IsNext}
-use Rattle.qs_world_refine.specs.TakenLaws.{rest_behind}
+use Rattle.qs_world.specs.Moves.{command_from, message_from, notice_of, has_begun}
+use Rattle.qs_world.specs.Posting.{next_line}
+use Rattle.qs_world.specs.World.{World, inc_of}
+use Rattle.qs_world_refine.specs.EachMove.{EachMayCome}
+use Rattle.qs_world_refine.specs.Steady.{is_line_in_run, is_fit_parcel}
 use Rattle.qs_world_refine.proofs.BeginKeeps.{begin_keeps}
 use Rattle.qs_world_refine.proofs.Calm.{IsCalm, calm}
 use Rattle.qs_world_refine.proofs.SoundParts.{and_both}
@@ -37,21 +25,15 @@ pub record FromClient (world : World) (n k : ℕ) (event : Event) : Type 0 where
 
 first_line : (size : ℕ) (lines : List ScriptLine) (line : ScriptLine) → slice_get lines 0 ≡ Some line → list_all (is_line_in_run size) lines ≡ true → goes_in_run size line.command ≡ true
 first_line size [] line is all = absurd (cc (is))
-first_line size (l ∷ rest) line is all = let same : l ≡ line = one l line is in subst (λ (x : ScriptLine). goes_in_run size x.command ≡ true) same (and_both (is_line_in_run size l) (list_all (is_line_in_run size) rest) all).0
-  where
-    one : (a b : ScriptLine) → Some a ≡ Some b → a ≡ b
-    one a b same = cc (same)
+first_line size (l ∷ rest) line is all = let same : l ≡ line = same_Some l line is in subst (λ (x : ScriptLine). goes_in_run size x.command ≡ true) same (and_both (is_line_in_run size l) (list_all (is_line_in_run size) rest) all).0
 
 pub from_client : (world : World) (n k : ℕ) (event : Event) → IsSteady world → command_from world n k ≡ Some event → FromClient world n k event
 from_client world n k event steady is = by (nat_lt k client_count) refl ((world.clients k).at == n) is
   where
-    some_same : (a b : Event) → Some a ≡ Some b → a ≡ b
-    some_same a b same = cc (same)
-
     handed : k < client_count → (b : Bool) → (world.clients k).is_handed ≡ b → (o : Option ScriptLine) → (if b then None else slice_get (world.clients k).lines 0) ≡ o → (elim o [ None ↦ None | Some line ↦ Some (command_of line) ]) ≡ Some event → FromClient world n k event
     handed low b was None none so = absurd (cc (so))
     handed low true was (Some line) found so = absurd (cc (found))
-    handed low false was (Some line) found so = record { line = line; is = sym (some_same (command_of line) event so); in_run = first_line world.size (world.clients k).lines line found (steady.scripts k low) }
+    handed low false was (Some line) found so = record { line = line; is = sym (same_Some (command_of line) event so); in_run = first_line world.size (world.clients k).lines line found (steady.scripts k low) }
 
     by : (a : Bool) → nat_lt k client_count ≡ a → (b : Bool) → (if a && b then elim (next_line (world.clients k)) [ None ↦ None | Some line ↦ Some (command_of line) ] else None) ≡ Some event → FromClient world n k event
     by true low true so = handed (grind (arith, nat_tests, low)) (world.clients k).is_handed refl (next_line (world.clients k)) refl so
@@ -68,11 +50,8 @@ pub record FromNode (world : World) (n m : ℕ) (event : Event) : Type 0 where
 pub from_node : (world : World) (n stamp m : ℕ) (event : Event) → message_from world n stamp m ≡ Some event → FromNode world n m event
 from_node world n stamp m event is = by (next_parcel world n m) refl is
   where
-    some_same : (a b : Event) → Some a ≡ Some b → a ≡ b
-    some_same a b same = cc (same)
-
     timely : (parcel : Parcel) → next_parcel world n m ≡ Some parcel → (b : Bool) → (if b then Some (events.Received (node_no m) parcel.message) else None) ≡ Some event → FromNode world n m event
-    timely parcel found true so = record { parcel = parcel; found = found; is = sym (some_same (events.Received (node_no m) parcel.message) event so) }
+    timely parcel found true so = record { parcel = parcel; found = found; is = sym (same_Some (events.Received (node_no m) parcel.message) event so) }
     timely parcel found false so = absurd (cc (so))
 
     by : (o : Option Parcel) → next_parcel world n m ≡ o → (elim o [ None ↦ None | Some parcel ↦ if nat_lt parcel.stamp stamp then Some (events.Received (node_no m) parcel.message) else None ]) ≡ Some event → FromNode world n m event
@@ -130,16 +109,13 @@ pub record FromNotice (world : World) (n m new : ℕ) (event : Event) : Type 0 w
 pub from_notice : (world : World) (n stamp m new : ℕ) (event : Event) → notice_of world n stamp m new ≡ Some event → FromNotice world n m new event
 from_notice world n stamp m new event is = by (nat_lt 0 (known_of world n m) && (nat_lt (known_of world n m) new && has_begun world stamp m new)) refl is
   where
-    some_same : (a b : Event) → Some a ≡ Some b → a ≡ b
-    some_same a b same = cc (same)
-
     by : (b : Bool) → (nat_lt 0 (known_of world n m) && (nat_lt (known_of world n m) new && has_begun world stamp m new)) ≡ b → (if b then Some (events.PeerRestarted (node_no m) (known_of world n m) new) else None) ≡ Some event → FromNotice world n m new event
     by false tests so = absurd (cc (so))
     by true tests so =
         let first : (nat_lt 0 (known_of world n m) ≡ true) × ((nat_lt (known_of world n m) new && has_begun world stamp m new) ≡ true) = and_both (nat_lt 0 (known_of world n m)) (nat_lt (known_of world n m) new && has_begun world stamp m new) tests in
         let second : (nat_lt (known_of world n m) new ≡ true) × (has_begun world stamp m new ≡ true) = and_both (nat_lt (known_of world n m) new) (has_begun world stamp m new) first.1 in
         record {
-          is = sym (some_same (events.PeerRestarted (node_no m) (known_of world n m) new) event so);
+          is = sym (same_Some (events.PeerRestarted (node_no m) (known_of world n m) new) event so);
           known = grind (arith, nat_tests, first.0);
           later = grind (arith, nat_tests, second.0);
           begun = grind (arith, nat_tests, (and_both (nat_le new (inc_of world m)) _ second.1).0);
@@ -181,14 +157,8 @@ module _ (world : World) (n free : ℕ) (steady : IsSteady world) (fits : Messag
   may_come stamp (Commanded k) event is = let from = from_client world n k event steady is in subst (λ (e : Event). MayHappen e work × BeginsNew e work) (sym from.is) (commanded from.line from.in_run)
   may_come stamp (Handed m) event is = let from = from_node world n stamp m event is in
       subst (λ (e : Event). MayHappen e work × BeginsNew e work) (sym from.is) (((known_low m (known_sender world n m from.parcel steady from.found)).0, ((known_low m (known_sender world n m from.parcel steady from.found)).1, fits n m free from.parcel n_in on from.found)), tt)
-  may_come stamp Queues event is = subst (λ (e : Event). MayHappen e work × BeginsNew e work) (one events.ServeAll event is) (tt, tt)
-    where
-      one : (a b : Event) → Some a ≡ Some b → a ≡ b
-      one a b same = cc (same)
-  may_come stamp Clock event is = subst (λ (e : Event). MayHappen e work × BeginsNew e work) (one events.Tick event is) (tt, tt)
-    where
-      one : (a b : Event) → Some a ≡ Some b → a ≡ b
-      one a b same = cc (same)
+  may_come stamp Queues event is = subst (λ (e : Event). MayHappen e work × BeginsNew e work) (same_Some events.ServeAll event is) (tt, tt)
+  may_come stamp Clock event is = subst (λ (e : Event). MayHappen e work × BeginsNew e work) (same_Some events.Tick event is) (tt, tt)
   may_come stamp (Noticed m new) event is = let from = from_notice world n stamp m new event is in subst (λ (e : Event). MayHappen e work × BeginsNew e work) (sym from.is) ((known_low m from.known).0, tt)
 
 pub each_may_come : EachMayCome

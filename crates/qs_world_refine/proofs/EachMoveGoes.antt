@@ -1,33 +1,13 @@
 -- The law of each move, and of a message about a transaction that is shown.
-use Rattle.std.proofs.Common.{◌≡◌, ◌≢◌, ◌⊎◌, inl, inr, ℕ, ◌<◌, ◌≤◌, ◌==◌, ◌&&◌, ◌||◌, not, nat_lt, nat_le, Bool, true, false, [], Option, Some, None, refl, sym, ap, subst, ◌∙◌, arith, if◌then◌else◌}
-use Rattle.std.specs.List.{list_any, list_all, find}
-use Rattle.std.proofs.lemmas.Bool.{eqb-true}
-use Rattle.std.proofs.lemmas.Bool.Decides.{nat_tests}
-use Rattle.qs_base.specs.Order.{same_tid}
-use Rattle.qs_base.specs.declared.identifiers.Tid.{Tid}
-use Rattle.qs_engage.specs.Nodes.{same_node, has_node}
-use Rattle.qs_engage.specs.declared.nodes.Nodes.{Nodes}
-use Rattle.qs_book_machine.specs.Clauses.{is_crash}
-use Rattle.qs_restart.specs.Recovery.{Recovery, recovery, is_untold_of, nothing_said}
+use Rattle.qs_world_refine.proofs.Words.{◌≡◌, ◌≢◌, ◌⊎◌, inl, inr, ℕ, ◌<◌, ◌≤◌, ◌==◌, ◌&&◌, ◌||◌, not, nat_lt, nat_le, Bool, true, false, [], Option, Some, None, refl, sym, ap, subst, ◌∙◌, arith, if◌then◌else◌, list_any, list_all, find, eqb-true, not-true, nat_tests, same_tid, Tid, same_node, Nodes, is_crash, Recovery, recovery, is_untold_of, nothing_said, Participant, is_outcome_of, was_committed, is_kept_commit, recovered_of, new_manager, NodeValue, Cut, Stop, Rise, event_of, step_with, cut_with}
+use Rattle.qs_world_refine.proofs.Words.{stopped, reopened, risen, risen_host, is_in_order, is_later, may_step, known_of, Open, Committed, Aborted, ShowsAll, AllGoes, KeepsDecided, MessagesFit, node_no, met_at, WorldGoes, place, scene_of, may_vote, is_list_of, has_doubt, IsSteady, HasBegun, not_never}
+use Rattle.qs_engage.specs.Nodes.{has_node}
 use Rattle.qs_tm.specs.Manager as tm
-use Rattle.qs_tm.specs.declared.participant.Participant.{Participant}
-use Rattle.qs_node_kept.specs.Keeping.{is_outcome_of}
-use Rattle.qs_node_step.specs.Answering.{was_committed, is_kept_commit}
-use Rattle.qs_node_step.specs.Opening.{recovered_of, new_manager}
-use Rattle.qs_node_step.specs.State.{NodeValue}
 use Rattle.qs_node_step.specs.declared.event.Event.{Event}
-use Rattle.qs_world.specs.Moves.{Step, Cut, Stop, Rise, Meet, event_of, step_with, cut_with, stopped, reopened, risen, risen_host, met, has_begun, is_in_order, is_later, may_step}
-use Rattle.qs_world.specs.World.{World, known_of}
+use Rattle.qs_world.specs.Moves.{Step, Meet, met, has_begun}
+use Rattle.qs_world.specs.World.{World}
 use Rattle.qs_world_agree.specs.World as machine
-use Rattle.qs_world_agree.specs.World.{Open, Committed, Aborted}
-use Rattle.qs_world_refine.specs.EachMove.{ShowsAll, AllGoes, KeepsDecided, MessagesFit, EachMoveGoes, ShownFits}
-use Rattle.qs_world_refine.specs.Links.{node_no}
-use Rattle.qs_world_refine.specs.MeetingLaws.{met_at}
-use Rattle.qs_world_refine.specs.MoveLaws.{WorldGoes}
-use Rattle.qs_world_refine.specs.Places.{place}
-use Rattle.qs_world_refine.specs.Shows.{scene_of}
-use Rattle.qs_world_refine.specs.Sound.{may_vote, is_list_of, has_doubt}
-use Rattle.qs_world_refine.specs.Steady.{IsSteady, HasBegun}
+use Rattle.qs_world_refine.specs.EachMove.{EachMoveGoes, ShownFits}
 use Rattle.qs_world_refine.proofs.ClosedKept.{closed_commit}
 use Rattle.qs_world_refine.proofs.EachFits.{own_fits}
 use Rattle.qs_world_refine.proofs.EachHears.{first}
@@ -193,19 +173,15 @@ each_move_goes t world (Stop n stamp cause) w may steady fits home_in began all 
     goes_all t world w home_in all (stopped world n stamp cause (world.hosts n).log) refl goes
     (kept_same t world (stopped world n stamp cause (world.hosts n).log) w goes.next all goes.leads (node_stopped world n stamp cause (world.hosts n).log t.home.0))
     (λ k k_in up. inl (stays_stopped world n stamp cause (world.hosts n).log k up))
-each_move_goes t world (Rise n stamp inc) w may steady fits home_in began all = rise_goes_on t world w steady fits home_in began all n stamp inc (in_run world n stamp order.0) (off (world.channels.up n) both.0) (grind (arith, nat_tests, order.1))
+each_move_goes t world (Rise n stamp inc) w may steady fits home_in began all = rise_goes_on t world w steady fits home_in began all n stamp inc (in_run world n stamp order.0) (not-true (world.channels.up n) both.0) (grind (arith, nat_tests, order.1))
   where
-    off : (b : Bool) → not b ≡ true → b ≡ false
-    off true is = absurd (cc (is))
-    off false is = refl
-
     both : (not (world.channels.up n) ≡ true) × ((is_in_order world n stamp && nat_lt (world.channels.inc n) inc) ≡ true)
     both = and_both (not (world.channels.up n)) (is_in_order world n stamp && nat_lt (world.channels.inc n) inc) may
 
     order : (is_in_order world n stamp ≡ true) × (nat_lt (world.channels.inc n) inc ≡ true)
     order = and_both (is_in_order world n stamp) (nat_lt (world.channels.inc n) inc) both.1
 each_move_goes t world (Meet n stamp m first_inc) w may steady fits home_in began all = meet_goes_on t world w steady fits home_in began all n stamp m first_inc (later_in world n stamp order.0) runs.0 (grind (arith, nat_tests, others.1))
-    (λ is. not_same (m == n) others.0 (grind (arith, nat_tests, is))) (eqb-true (known_of world n m) 0 known.0) (grind (arith, nat_tests, begun_then.0)) (grind (arith, nat_tests, (and_both (nat_le first_inc (world.channels.inc m)) _ begun_then.1).0))
+    (λ is. not_never (m == n) others.0 (grind (arith, nat_tests, is))) (eqb-true (known_of world n m) 0 known.0) (grind (arith, nat_tests, begun_then.0)) (grind (arith, nat_tests, (and_both (nat_le first_inc (world.channels.inc m)) _ begun_then.1).0))
   where
     runs : (world.channels.up n ≡ true) × ((is_later world n stamp && ((not (m == n) && nat_lt m world.size) && ((known_of world n m == 0) && (nat_lt 0 first_inc && has_begun world stamp m first_inc)))) ≡ true)
     runs = and_both (world.channels.up n) _ may
@@ -224,10 +200,6 @@ each_move_goes t world (Meet n stamp m first_inc) w may steady fits home_in bega
 
     begun_then : (nat_lt 0 first_inc ≡ true) × (has_begun world stamp m first_inc ≡ true)
     begun_then = and_both (nat_lt 0 first_inc) (has_begun world stamp m first_inc) known.1
-
-    not_same : (b : Bool) → not b ≡ true → b ≡ true → ⊥
-    not_same true is so = absurd (cc (is))
-    not_same false is so = absurd (cc (so))
 
 -- ---- a message of a transaction that is shown
 

@@ -1,15 +1,9 @@
 -- A step for a transaction that has begun, made or cut off: whatever its event is, what shows it before shows it after.
-use Rattle.std.proofs.Common.{◌≡◌, ℕ, ◌<◌, Bool, true, Some}
-use Rattle.qs_base.specs.declared.identifiers.Tid.{Tid}
-use Rattle.qs_book_journal.specs.declared.entry.CrashCause.{CrashCause}
+use Rattle.qs_world_refine.proofs.Words.{◌≡◌, ℕ, ◌<◌, Bool, true, Some, Tid, CrashCause, Source, event_of, step_with, cut_with, ShowsAll, AllGoes, MessagesFit, BeginsNew, MayHappen, begun, IsSteady, HasBegun}
 use Rattle.qs_node_step.specs.declared.event.Event.{Event}
-use Rattle.qs_world.specs.Moves.{Source, event_of, step_with, cut_with, may_serve}
+use Rattle.qs_world.specs.Moves.{may_serve}
 use Rattle.qs_world.specs.World.{World}
 use Rattle.qs_world_agree.specs.World as machine
-use Rattle.qs_world_refine.specs.EachMove.{ShowsAll, AllGoes, MessagesFit}
-use Rattle.qs_world_refine.specs.SaidLaws.{BeginsNew}
-use Rattle.qs_world_refine.specs.SoundSteps.{MayHappen, begun}
-use Rattle.qs_world_refine.specs.Steady.{IsSteady, HasBegun}
 use Rattle.qs_world_refine.proofs.EachEvent.{StepCame, step_came}
 use Rattle.qs_world_refine.proofs.EachMay.{each_may_come}
 use Rattle.qs_world_refine.proofs.StepAll as step

@@ -1,32 +1,13 @@
 -- A node that runs is ready for a step, as far as what holds of all nodes and what shows a transaction say of it.
-use Rattle.std.proofs.Common.{◌≡◌, ◌≢◌, ℕ, ◌<◌, ◌==◌, ◌&&◌, ◌||◌, not, Bool, true, false, List, [], ◌∷◌, ◌++◌, fold, Option, Some, None, is_some, refl, sym, ap, ◌∙◌, arith, if◌then◌else◌}
-use Rattle.std.specs.List.{list_any}
-use Rattle.std.proofs.lemmas.Bool.Decides.{nat_tests}
-use Rattle.std.proofs.lemmas.List.Sums.{fold-append}
-use Rattle.qs_base.specs.Order.{same_tid}
+use Rattle.qs_world_refine.proofs.Words.{◌≡◌, ◌≢◌, ℕ, ◌<◌, ◌==◌, ◌&&◌, ◌||◌, not, Bool, true, false, List, [], ◌∷◌, ◌++◌, fold, Option, Some, None, is_some, refl, sym, ap, ◌∙◌, arith, if◌then◌else◌, list_any, nat_tests, fold-append, same_tid, Tid, Record, Prepared, recovery, found_record, nothing_said, is_vote_of, InLog, Participant, NodeValue, work_on, Open, Committed, Aborted, ShowsAll, ShowsFace, is_record_of, MayClose, AllClose, face, face_at, part_at, outcome_seen, place, no_flags, flags_at}
+use Rattle.qs_world_refine.proofs.Words.{IsSaid, scene_of, server_no, is_in_doubt, may_doubt, IsSteady, or_last, or_first}
 use Rattle.qs_base.specs.declared.identifiers.Outcome.{Outcome}
-use Rattle.qs_base.specs.declared.identifiers.Tid.{Tid}
-use Rattle.qs_record.specs.declared.record.Record.{Record}
 use Rattle.qs_record.specs.declared.record.Record.TheVariants as records
-use Rattle.qs_restart.specs.Recovery.{Prepared, recovery, found_record, nothing_said, is_of, is_vote_of}
+use Rattle.qs_restart.specs.Recovery.{is_of}
 use Rattle.qs_tm.specs.Manager as tm
-use Rattle.qs_tm.specs.declared.participant.InLog.{InLog}
-use Rattle.qs_tm.specs.declared.participant.Participant.{Participant}
-use Rattle.qs_node_step.specs.State.{NodeValue, work_on}
 use Rattle.qs_world.specs.World.{World}
 use Rattle.qs_world_agree.specs.World as machine
-use Rattle.qs_world_agree.specs.World.{Open, Committed, Aborted}
-use Rattle.qs_world_refine.specs.EachMove.{ShowsAll}
-use Rattle.qs_world_refine.specs.Faces.{ShowsFace}
-use Rattle.qs_world_refine.specs.MoveLaws.{is_record_of, MayClose, AllClose}
-use Rattle.qs_world_refine.specs.NodeFaces.{face, face_at, part_at, outcome_seen}
-use Rattle.qs_world_refine.specs.Places.{place}
 use Rattle.qs_world_refine.specs.RestartWhole.{IsTakenUp}
-use Rattle.qs_world_refine.specs.SaidLaws.{no_flags, flags_at, IsSaid}
-use Rattle.qs_world_refine.specs.Shows.{scene_of}
-use Rattle.qs_world_refine.specs.Sights.{server_no, is_in_doubt}
-use Rattle.qs_world_refine.specs.Stands.{may_doubt}
-use Rattle.qs_world_refine.specs.Steady.{IsSteady}
 use Rattle.qs_world_refine.specs.StepWhole.{IsReady}
 use Rattle.qs_world_refine.proofs.InTurn.{others_say}
 use Rattle.qs_world_refine.proofs.Reading.{part_known}
@@ -35,16 +16,8 @@ use Rattle.qs_world_refine.proofs.SaysSeen.{said_seen}
 -- a vote in doubt at some server is one in doubt
 no_doubt : (t : Tid) (s : ℕ) (votes : List Prepared) → list_any (λ (vote : Prepared). is_of t vote && not vote.committed) votes ≡ false → list_any (λ (vote : Prepared). is_vote_of t (server_no s) vote && not vote.committed) votes ≡ false
 no_doubt t s [] none = refl
-no_doubt t s (v ∷ votes) none = neither (off (is_of t v) (v.server.0 == s) (not v.committed) (first _ _ none)) (no_doubt t s votes (last (is_of t v && not v.committed) _ none))
+no_doubt t s (v ∷ votes) none = neither (off (is_of t v) (v.server.0 == s) (not v.committed) (or_first _ _ none)) (no_doubt t s votes (or_last (is_of t v && not v.committed) _ none))
   where
-    first : (a b : Bool) → (a || b) ≡ false → a ≡ false
-    first true b is = absurd (cc (is))
-    first false b is = refl
-
-    last : (a b : Bool) → (a || b) ≡ false → b ≡ false
-    last true b is = absurd (cc (is))
-    last false b is = is
-
     neither : {a b : Bool} → a ≡ false → b ≡ false → (a || b) ≡ false
     neither x y = rw (x, y) refl
 
@@ -76,11 +49,7 @@ module _ (t : Tid) (world : World) (w : machine.World) (steady : IsSteady world)
       none (Some outcome) b is = absurd (cc (is))
 
   unprepared : Undecided → (part : Participant) → tm.part_of t node.manager ≡ Some part → part.log.prepared ≡ false
-  unprepared off part known = last (is_some part.outcome) part.log.prepared (sym (ap (may_doubt (t.home.0 == n)) known) ∙ off)
-    where
-      last : (a b : Bool) → (a || b) ≡ false → b ≡ false
-      last true b is = absurd (cc (is))
-      last false b is = is
+  unprepared off part known = or_last (is_some part.outcome) part.log.prepared (sym (ap (may_doubt (t.home.0 == n)) known) ∙ off)
 
   away : Undecided → tm.part_of t node.manager ≡ None → t.home.0 ≢ n
   away off none same = let here : (t.home.0 == n) ≡ true = grind (arith, nat_tests, same) in let both : (t.home.0 == n) ≡ false = sym (ap (may_doubt (t.home.0 == n)) none) ∙ off in cc (here, both)

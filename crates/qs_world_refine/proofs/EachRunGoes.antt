@@ -1,9 +1,6 @@
 -- What shows a transaction goes on to show it over a run, move by move.
-use Rattle.std.proofs.Common.{[], ◌∷◌, refl, sym, subst}
-use Rattle.qs_world.specs.Moves.{moved}
+use Rattle.qs_world_refine.proofs.Words.{[], ◌∷◌, refl, sym, subst, moved, leads_on, AllGoes}
 use Rattle.qs_world.specs.World.{World}
-use Rattle.qs_world_agree.proofs.Carries.{leads_on}
-use Rattle.qs_world_refine.specs.EachMove.{AllGoes}
 use Rattle.qs_world_refine.specs.EachRun.{EachRunGoes}
 use Rattle.qs_world_refine.proofs.EachMoveGoes.{each_move_goes}
 

@@ -1,34 +1,13 @@
 -- A whole step of a node: what shows a transaction goes on to show it as the step's messages are put and its records stand or wait.
-use Rattle.std.proofs.Common.{◌≡◌, ℕ, ◌<◌, ◌==◌, ◌&&◌, ◌||◌, not, Bool, true, false, List, [], ◌∷◌, ◌++◌, length, Option, Some, None, refl, sym, ap, subst, ◌∙◌, arith, if◌then◌else◌}
-use Rattle.std.specs.Prelude.{unwrap_or}
-use Rattle.std.specs.List.{list_any}
-use Rattle.std.proofs.lemmas.Bool.{eqb-true}
-use Rattle.std.proofs.lemmas.Bool.Decides.{nat_tests}
-use Rattle.qs_base.specs.Order.{same_tid}
-use Rattle.qs_base.specs.declared.identifiers.NodeNo.{NodeNo}
+use Rattle.qs_world_refine.proofs.Words.{◌≡◌, ℕ, ◌<◌, ◌==◌, ◌&&◌, ◌||◌, not, Bool, true, false, List, [], ◌∷◌, ◌++◌, length, Option, Some, None, refl, sym, ap, subst, ◌∙◌, arith, if◌then◌else◌, unwrap_or, list_any, eqb-true, nat_tests, same_tid, NodeNo, Tid, same_node, is_no_node, Nodes, Record, Participant, NodeValue, work_on, Open, Committed, Aborted, Leads, ShowsAll, is_loose_of, is_forced_of, are_in_turn, node_no, MayClose, AllClose, face, face_at, outcome_seen, outcome_of, unknown}
+use Rattle.qs_world_refine.proofs.Words.{unknown_at_home, place, scene_of, sight, same_flag, where_so, IsSteady, and_false, or_last}
 use Rattle.qs_base.specs.declared.identifiers.Outcome.{Outcome}
 use Rattle.qs_base.specs.declared.identifiers.Outcome.TheVariants as outcomes
-use Rattle.qs_base.specs.declared.identifiers.Tid.{Tid}
-use Rattle.qs_engage.specs.Nodes.{same_node, has_node, is_no_node}
-use Rattle.qs_engage.specs.declared.nodes.Nodes.{Nodes}
-use Rattle.qs_record.specs.declared.record.Record.{Record}
+use Rattle.qs_engage.specs.Nodes.{has_node}
 use Rattle.qs_record.specs.declared.record.Record.TheVariants as records
 use Rattle.qs_tm.specs.Manager as tm
-use Rattle.qs_tm.specs.declared.participant.Participant.{Participant}
-use Rattle.qs_node_step.specs.State.{NodeValue, work_on}
 use Rattle.qs_world.specs.World.{World}
 use Rattle.qs_world_agree.specs.World as machine
-use Rattle.qs_world_agree.specs.World.{Open, Committed, Aborted}
-use Rattle.qs_world_agree.specs.Carry.{Leads}
-use Rattle.qs_world_refine.specs.EachMove.{ShowsAll}
-use Rattle.qs_world_refine.specs.JoinLaws.{is_loose_of, is_forced_of, are_in_turn}
-use Rattle.qs_world_refine.specs.Links.{node_no}
-use Rattle.qs_world_refine.specs.MoveLaws.{MayClose, AllClose}
-use Rattle.qs_world_refine.specs.NodeFaces.{face, face_at, outcome_seen, outcome_of, unknown, unknown_at_home}
-use Rattle.qs_world_refine.specs.Places.{place}
-use Rattle.qs_world_refine.specs.Shows.{scene_of, sight}
-use Rattle.qs_world_refine.specs.Sound.{same_flag, where_so}
-use Rattle.qs_world_refine.specs.Steady.{IsSteady}
 use Rattle.qs_world_refine.proofs.EachCame.{case_of}
 use Rattle.qs_world_refine.proofs.EachReady.{face_shown}
 use Rattle.qs_world_refine.proofs.LaterWorlds.{commit_stays, acks_on, is_committed_cell}
@@ -36,7 +15,7 @@ use Rattle.qs_world_refine.proofs.NodeSets.{none_listed}
 use Rattle.qs_world_refine.proofs.Reading.{part_known}
 use Rattle.qs_world_refine.proofs.SoundHolds.{known_sound}
 use Rattle.qs_world_refine.proofs.SoundParts.{and_both}
-use Rattle.qs_world_refine.proofs.TurnOn.{Fate, became, fate_found, fate_at, Turned, is_aborted_of, is_end_of, same_outcome, same_acks}
+use Rattle.qs_world_refine.proofs.TurnOn.{became, fate_found, fate_at, Turned, is_aborted_of, is_end_of, same_outcome, same_acks}
 
 -- ---- as the step begins the records that wait stand in turn
 
@@ -77,9 +56,6 @@ module _ (t : Tid) (world : World) (w : machine.World) (steady : IsSteady world)
   decided_kept : w.outcome q ≡ Committed → (acks : Nodes) → fate_at t node ≡ became None acks → ⊥
   decided_kept committed acks open_now = by (tm.part_of t node.manager) refl
     where
-      some_same : (f g : Fate) → Some f ≡ Some g → f ≡ g
-      some_same f g is = cc (is)
-
       by : (o : Option Participant) → tm.part_of t node.manager ≡ o → ⊥
       by None none = let both : None ≡ became None acks = sym (ap fate_found none) ∙ open_now in cc (both)
       by (Some part) known = let undecided : part.outcome ≡ None = same_outcome part.outcome None part.acknowledged acks (sym (ap fate_found known) ∙ open_now) in
@@ -124,24 +100,16 @@ module _ (t : Tid) (world : World) (w : machine.World) (steady : IsSteady world)
       neither : {a b : Bool} → a ≡ false → b ≡ false → (a || b) ≡ false
       neither x y = rw (x, y) refl
 
-      off : (a : Bool) → (a && false) ≡ false
-      off true = refl
-      off false = refl
-
       one : (r : Record) → MayClose t n q w r → is_forced_of t r ≡ false
       one (records.Prepare u server covers changes) may = rw may refl
       one (records.Commit u told) may = rw may refl
-      one (records.Aborted u) may = off (same_tid t u)
-      one (records.End u) may = off (same_tid t u)
+      one (records.Aborted u) may = and_false (same_tid t u)
+      one (records.End u) may = and_false (same_tid t u)
 
   turn_waits : (rs : List Record) → list_any (is_forced_of t) rs ≡ false → are_in_turn t rs ≡ true
   turn_waits [] none = refl
-  turn_waits (r ∷ rs) none = both (free_of (is_loose_of t r) (list_any (is_forced_of t) rs) (last (is_forced_of t r) _ none)) (turn_waits rs (last (is_forced_of t r) _ none))
+  turn_waits (r ∷ rs) none = both (free_of (is_loose_of t r) (list_any (is_forced_of t) rs) (or_last (is_forced_of t r) _ none)) (turn_waits rs (or_last (is_forced_of t r) _ none))
     where
-      last : (a b : Bool) → (a || b) ≡ false → b ≡ false
-      last true b is = absurd (cc (is))
-      last false b is = is
-
       free_of : (a b : Bool) → b ≡ false → (not a || not b) ≡ true
       free_of true b is = rw is refl
       free_of false b is = refl

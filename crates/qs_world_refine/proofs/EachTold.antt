@@ -1,44 +1,15 @@
 -- A Told that comes to the home's node finds what its coming asks.
-use Rattle.std.proofs.Common.{◌≡◌, ◌≢◌, ◌⊎◌, inl, inr, ℕ, ◌<◌, ◌==◌, ◌&&◌, ◌||◌, not, Bool, true, false, List, [], ◌∷◌, ◌++◌, fold, Option, Some, None, refl, sym, ap, subst, ◌∙◌, arith, if◌then◌else◌}
-use Rattle.std.specs.List.{list_any, filter}
-use Rattle.std.proofs.lemmas.Bool.Decides.{nat_tests}
-use Rattle.qs_base.specs.Order.{same_tid}
-use Rattle.qs_base.specs.declared.identifiers.NodeNo.{NodeNo}
+use Rattle.qs_world_refine.proofs.Words.{◌≡◌, ◌≢◌, ◌⊎◌, inl, inr, ℕ, ◌<◌, ◌==◌, ◌&&◌, ◌||◌, not, Bool, true, false, List, [], ◌∷◌, ◌++◌, fold, Option, Some, None, refl, sym, ap, subst, ◌∙◌, arith, if◌then◌else◌, list_any, filter, nat_tests, same_tid, NodeNo, Tid, same_node, has_all, Record, Recovery, recovery, found_record, is_untold_of, InLog, Participant, is_forced, tid_of, NodeValue, Work, part_of, work_on, is_other_node, Open, Committed, Aborted, Leads, ShowsTold, ShowsAll, Face, is_forced_of}
+use Rattle.qs_world_refine.proofs.Words.{names_node, node_no, is_record_of, MayClose, AllClose, began_here, unknown, unknown_at_home, outcome_of, place, no_flags, AreSaid, SaysOn, Scene, scene_of, sight, sight_during, list_of, same_flag, begun, Stands, IsSteady, HasBegun, IsNext, TakesTold, or_first, or_last, and_false, and_right}
 use Rattle.qs_base.specs.declared.identifiers.Outcome.TheVariants as outcomes
-use Rattle.qs_base.specs.declared.identifiers.Tid.{Tid}
-use Rattle.qs_engage.specs.Nodes.{same_node, has_node, has_all}
+use Rattle.qs_engage.specs.Nodes.{has_node}
 use Rattle.qs_packet.specs.declared.message.Message.TheVariants as messages
-use Rattle.qs_record.specs.declared.record.Record.{Record}
 use Rattle.qs_record.specs.declared.record.Record.TheVariants as records
-use Rattle.qs_restart.specs.Recovery.{Recovery, recovery, found_record, is_untold_of}
 use Rattle.qs_tm.specs.Manager as tm
 use Rattle.qs_tm.specs.Outcomes as outcome_rules
-use Rattle.qs_tm.specs.declared.participant.InLog.{InLog}
-use Rattle.qs_tm.specs.declared.participant.Participant.{Participant}
-use Rattle.qs_node_step.specs.Bringing.{is_forced, tid_of}
-use Rattle.qs_node_step.specs.State.{NodeValue, Work, part_of, work_on}
-use Rattle.qs_node_step.specs.Telling.{is_other_node}
 use Rattle.qs_world.specs.World.{World}
 use Rattle.qs_world_agree.specs.World as machine
-use Rattle.qs_world_agree.specs.World.{Open, Committed, Aborted}
-use Rattle.qs_world_agree.specs.Carry.{Leads}
-use Rattle.qs_world_refine.specs.DecisionLaws.{ShowsTold, IsListed}
-use Rattle.qs_world_refine.specs.EachMove.{ShowsAll}
-use Rattle.qs_world_refine.specs.Faces.{Face}
-use Rattle.qs_world_refine.specs.JoinLaws.{is_forced_of}
-use Rattle.qs_world_refine.specs.Links.{names_node, node_no}
-use Rattle.qs_world_refine.specs.MoveLaws.{is_record_of, MayClose, AllClose}
-use Rattle.qs_world_refine.specs.NodeFaces.{began_here, unknown, unknown_at_home, outcome_of}
-use Rattle.qs_world_refine.specs.Places.{place}
-use Rattle.qs_world_refine.specs.SaidLaws.{no_flags, AreSaid, SaysOn}
-use Rattle.qs_world_refine.specs.Shows.{Scene, scene_of, sight, sight_during}
-use Rattle.qs_world_refine.specs.Sights.{list_of}
-use Rattle.qs_world_refine.specs.Sound.{same_flag}
-use Rattle.qs_world_refine.specs.SoundSteps.{begun}
-use Rattle.qs_world_refine.specs.Stands.{Stands}
-use Rattle.qs_world_refine.specs.Steady.{IsSteady, HasBegun}
-use Rattle.qs_world_refine.specs.Steps.{IsNext}
-use Rattle.qs_world_refine.specs.ToldWhole.{TakesTold}
+use Rattle.qs_world_refine.specs.DecisionLaws.{IsListed}
 use Rattle.qs_world_refine.proofs.EachHears.{is_calm, keeps, was, past_commit}
 use Rattle.qs_world_refine.proofs.Heads.{shown_here, face_is, taken_names}
 use Rattle.qs_world_refine.proofs.LaterWorlds.{acks_on}
@@ -74,34 +45,18 @@ untold_one t rec said loose has = by (same_tid t (tid_of rec)) refl
 
 untold_before : (t : Tid) (rs : List Record) (said : Recovery) → list_any (is_forced_of t) rs ≡ false → list_any (is_untold_of t) (fold found_record said rs).untold ≡ true → list_any (is_untold_of t) said.untold ≡ true
 untold_before t [] said none has = has
-untold_before t (r ∷ rs) said none has = untold_one t r said (first (is_forced_of t r) _ none) (untold_before t rs (found_record said r) (last (is_forced_of t r) _ none) has)
-  where
-    first : (a b : Bool) → (a || b) ≡ false → a ≡ false
-    first true b is = absurd (cc (is))
-    first false b is = refl
-
-    last : (a b : Bool) → (a || b) ≡ false → b ≡ false
-    last true b is = absurd (cc (is))
-    last false b is = is
+untold_before t (r ∷ rs) said none has = untold_one t r said (or_first (is_forced_of t r) _ none) (untold_before t rs (found_record said r) (or_last (is_forced_of t r) _ none) has)
 
 -- where a Commit waits for its End behind them, none of them is of it
 none_behind : (t : Tid) (rs : List Record) (said : Recovery) → list_any (is_forced_of t) rs ≡ false → list_any (is_untold_of t) (fold found_record said rs).untold ≡ true → list_any (is_record_of t) rs ≡ false
 none_behind t [] said none has = refl
 none_behind t (r ∷ rs) said none has = neither (one (is_record_of t r) refl) (none_behind t rs (found_record said r) rest has)
   where
-    first : (a b : Bool) → (a || b) ≡ false → a ≡ false
-    first true b is = absurd (cc (is))
-    first false b is = refl
-
-    last : (a b : Bool) → (a || b) ≡ false → b ≡ false
-    last true b is = absurd (cc (is))
-    last false b is = is
-
     neither : {a b : Bool} → a ≡ false → b ≡ false → (a || b) ≡ false
     neither x y = rw (x, y) refl
 
     rest : list_any (is_forced_of t) rs ≡ false
-    rest = last (is_forced_of t r) _ none
+    rest = or_last (is_forced_of t r) _ none
 
     still : list_any (is_untold_of t) (found_record said r).untold ≡ true
     still = untold_before t rs (found_record said r) rest has
@@ -114,27 +69,15 @@ none_behind t (r ∷ rs) said none has = neither (one (is_record_of t r) refl) (
 
     one : (b : Bool) → is_record_of t r ≡ b → b ≡ false
     one false apart = refl
-    one true same = absurd (ended r same (first (is_forced_of t r) _ none) still)
+    one true same = absurd (ended r same (or_first (is_forced_of t r) _ none) still)
 
 -- where nothing is forced nothing of it is
 none_forced_of : (t : Tid) (rs : List Record) → list_any is_forced rs ≡ false → list_any (is_forced_of t) rs ≡ false
 none_forced_of t [] none = refl
-none_forced_of t (r ∷ rs) none = neither (off (is_record_of t r) (is_forced r) (first (is_forced r) _ none)) (none_forced_of t rs (last (is_forced r) _ none))
+none_forced_of t (r ∷ rs) none = neither (and_right (is_record_of t r) (is_forced r) (or_first (is_forced r) _ none)) (none_forced_of t rs (or_last (is_forced r) _ none))
   where
-    first : (a b : Bool) → (a || b) ≡ false → a ≡ false
-    first true b is = absurd (cc (is))
-    first false b is = refl
-
-    last : (a b : Bool) → (a || b) ≡ false → b ≡ false
-    last true b is = absurd (cc (is))
-    last false b is = is
-
     neither : {a b : Bool} → a ≡ false → b ≡ false → (a || b) ≡ false
     neither x y = rw (x, y) refl
-
-    off : (a b : Bool) → b ≡ false → (a && b) ≡ false
-    off true b is = is
-    off false b is = refl
 
 pub filter_none : (rs : List Record) → list_any is_forced rs ≡ false → filter is_forced rs ≡ []
 filter_none [] none = refl
@@ -152,15 +95,11 @@ waits_loose t n q w (r ∷ rs) all = neither (one r all.0) (waits_loose t n q w 
     neither : {a b : Bool} → a ≡ false → b ≡ false → (a || b) ≡ false
     neither x y = rw (x, y) refl
 
-    off : (a : Bool) → (a && false) ≡ false
-    off true = refl
-    off false = refl
-
     one : (r : Record) → MayClose t n q w r → is_forced_of t r ≡ false
     one (records.Prepare u server covers changes) may = rw may refl
     one (records.Commit u told) may = rw may refl
-    one (records.Aborted u) may = off (same_tid t u)
-    one (records.End u) may = off (same_tid t u)
+    one (records.Aborted u) may = and_false (same_tid t u)
+    one (records.End u) may = and_false (same_tid t u)
 
 module _ (t : Tid) (world : World) (w : machine.World) (steady : IsSteady world) (home_in : t.home.0 < world.size) (began : HasBegun world t) (all : ShowsAll t world w) (free : ℕ) (on : world.channels.up t.home.0 ≡ true)
     (v : machine.World) (leads : Leads w v) (scene : Scene) (sized : scene.size ≡ world.size) (same : scene.inc ≡ world.channels.inc) (logged : scene.log t.home.0 ≡ (world.hosts t.home.0).log)

@@ -1,18 +1,6 @@
 -- Tests of all entries of a map stay through each change of it, and so do keys that stand apart.
-use Rattle.std.proofs.Common.{◌≡◌, ◌==◌, ◌&&◌, not, Bool, true, false, List, [], ◌∷◌, map, Option, Some, None, refl, ap, subst, ◌∙◌, arith}
-use Rattle.std.proofs.lemmas.Bool.Decides.{nat_tests}
-use Rattle.std.specs.List.{list_all, find}
-use Rattle.std.specs.Map.{lookup, set_value, remove_entry}
-use Rattle.std.specs.BTreeMap.{insert_entry, is_at}
-use Rattle.std.specs.declared.cmp.Ordering.{Ordering}
-use Rattle.std.specs.declared.cmp.Ordering.TheVariants.{Less, Equal, Greater}
-use Rattle.qs_base.specs.Order.{tid_cmp}
-use Rattle.qs_base.specs.declared.identifiers.ServerNo.{ServerNo}
-use Rattle.qs_base.specs.declared.identifiers.Tid.{Tid}
-use Rattle.qs_ipc.specs.Ipc.{IpcValue, server_cmp}
-use Rattle.qs_ipc.specs.Queue.{QueueValue}
-use Rattle.qs_tm.specs.Manager.{changed_value}
-use Rattle.qs_world_refine.specs.Tidy.{is_other_server, are_servers_apart}
+use Rattle.qs_world_refine.proofs.Words.{◌≡◌, ◌==◌, ◌&&◌, not, Bool, true, false, List, [], ◌∷◌, map, Option, Some, None, refl, ap, subst, ◌∙◌, arith, nat_tests, list_all, find, lookup, set_value, remove_entry, insert_entry, is_at, Ordering, Less, Equal, Greater, tid_cmp, ServerNo, Tid, IpcValue, server_cmp, QueueValue, changed_value, are_servers_apart}
+use Rattle.qs_world_refine.specs.Tidy.{is_other_server}
 use Rattle.qs_world_refine.proofs.SoundParts.{and_both, both_and, all_found, all_set}
 
 -- ---- any map

@@ -1,11 +1,7 @@
 -- What each event makes of the face of the place where it happens, and that it leaves every other one.
-use Rattle.std.proofs.Common.{◌≡◌, ◌≢◌, ℕ, ◌+◌, ◌≤◌, Bool, true, false, arith}
-use Rattle.std.proofs.lemmas.Bool.Decides.{nat_tests}
-use Rattle.qs_world_agree.specs.World.{World, Open, Committed, with_at}
-use Rattle.qs_world_agree.specs.Guards.{next, next_server}
-use Rattle.qs_world_agree.specs.Step.{Step, Engage, Join, Cover, Issue, Issue_unmet, Issue_local, Serve, Serve_told, Lend, Yes, Yes_lost, Vote_read, Vote_recoverable, Vote_volatile, Notice, Commit}
-use Rattle.qs_world_refine.specs.Faces.{Face, ShowsFace, ShowsOpen}
-use Rattle.qs_world_refine.specs.Seen.{engaged_by, served_one, took_in, lent_one}
+use Rattle.qs_world_refine.proofs.Words.{◌≡◌, ◌≢◌, ℕ, ◌+◌, ◌≤◌, Bool, true, false, arith, nat_tests, Open, Committed, next, next_server, Join, Cover, Issue, Issue_unmet, Issue_local, Serve, Serve_told, Yes, Yes_lost, Vote_read, Vote_recoverable, Vote_volatile, Commit, Face, ShowsFace, ShowsOpen, engaged_by, served_one, took_in, lent_one}
+use Rattle.qs_world_agree.specs.World.{World, with_at}
+use Rattle.qs_world_agree.specs.Step.{Step, Engage, Lend, Notice}
 
 -- who is known as a node's place is one
 abbrev pub Knows : World → ℕ → Type 0

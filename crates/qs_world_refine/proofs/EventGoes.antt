@@ -1,15 +1,8 @@
 -- Each law of an event, from the event's step and from what holds of each lawful world of the machine.
-use Rattle.std.proofs.Common.{◌≡◌, ◌≢◌, ◌⊎◌, inl, inr, ℕ, ◌+◌, ◌≤◌, true, false, sym, ap, subst, ◌∙◌, arith}
+use Rattle.qs_world_refine.proofs.Words.{◌≡◌, ◌≢◌, ◌⊎◌, inl, inr, ℕ, ◌+◌, ◌≤◌, true, false, sym, ap, subst, ◌∙◌, arith, Tid, class_of, Open, Committed, Leads, IsLawful, Votes, place, class_in, Runs, Meets, SightGoes, Sight, ShowsSight}
 use Rattle.qs_base.specs.declared.identifiers.Class.TheVariants as classes
-use Rattle.qs_base.specs.declared.identifiers.Tid.{Tid}
-use Rattle.qs_ops.specs.Members.{class_of}
-use Rattle.qs_world_agree.specs.World.{World, Open, Committed, Immediate}
-use Rattle.qs_world_agree.specs.Carry.{Leads, IsLawful}
-use Rattle.qs_world_agree.specs.Guards.{Votes}
+use Rattle.qs_world_agree.specs.World.{World, Immediate}
 use Rattle.qs_world_refine.specs.EventLaws.{CountGoes, IssueGoes, EngageGoes, CoverGoes, ServeGoes, ServeToldGoes, LendGoes, PrepareGoes, AgreeGoes, CommitGoes, CommitUnloggedGoes, TellGoes, NoticeGoes, CrashGoes}
-use Rattle.qs_world_refine.specs.Places.{place, class_in}
-use Rattle.qs_world_refine.specs.Seen.{Runs, Meets, SightGoes}
-use Rattle.qs_world_refine.specs.Sights.{Sight, ShowsSight}
 use Rattle.qs_world_refine.proofs.Agreeing as agreeing
 use Rattle.qs_world_refine.proofs.Around.{known_is, place_some}
 use Rattle.qs_world_refine.proofs.Committing as committing

@@ -1,11 +1,5 @@
 -- From an opening on each transaction that has begun is shown, move by move.
-use Rattle.std.proofs.Common.{◌≤◌, nat_le, arith}
-use Rattle.std.proofs.lemmas.Bool.Decides.{nat_tests}
-use Rattle.qs_restart.specs.Recovery.{recovery}
-use Rattle.qs_world.specs.Openings.{IsOpening, is_whole_log}
-use Rattle.qs_world.specs.World.{Opening, start}
-use Rattle.qs_world.proofs.Below.{each_is}
-use Rattle.qs_world_refine.specs.ShownWorlds.{IsShownWorld}
+use Rattle.qs_world_refine.proofs.Words.{◌≤◌, nat_le, arith, nat_tests, recovery, IsOpening, is_whole_log, Opening, start, each_is, IsShownWorld}
 use Rattle.qs_world_refine.specs.EveryRun.{EveryRunShown, EveryRunGoes, EveryRunAgrees, EveryRunTells, EveryRunTellsLearners}
 use Rattle.qs_world_refine.proofs.Listing.{start_listed}
 use Rattle.qs_world_refine.proofs.NodesAgree.{nodes_agree, learners_stand, logs_stand}

@@ -1,10 +1,8 @@
 -- What the machine's invariant says of any world that it leads to.
-use Rattle.std.proofs.Common.{◌≡◌, ℕ, ◌≤◌}
+use Rattle.qs_world_refine.proofs.Words.{◌≡◌, ℕ, ◌≤◌, Leads, IsLawful, Inv, lawful}
 use Rattle.qs_world_agree.specs.World.{World}
-use Rattle.qs_world_agree.specs.Carry.{Leads, IsLawful}
-use Rattle.qs_world_agree.proofs.Whole.{Inv}
 use Rattle.qs_world_agree.proofs.Lawful.{inv_reached}
-use Rattle.qs_world_agree.proofs.Carries.{lawful, reached_on}
+use Rattle.qs_world_agree.proofs.Carries.{reached_on}
 
 pub invariant : (w : World) → IsLawful w → Inv w
 invariant w l = inv_reached w l.reached

@@ -1,34 +1,17 @@
 -- A node finds in the first step of an incarnation that another one restarted: its machine comes to know that before the node looks at what its log left open.
-use Rattle.std.proofs.Common.{◌≡◌, ◌≢◌, ◌⊎◌, inl, inr, ℕ, ◌<◌, ◌≤◌, ◌==◌, ◌&&◌, ◌||◌, not, Bool, true, false, List, [], ◌++◌, Option, Some, None, fold, refl, sym, ap, subst, ◌∙◌, arith, if◌then◌else◌}
+use Rattle.qs_world_refine.proofs.Words.{◌≡◌, ◌≢◌, ◌⊎◌, inl, inr, ℕ, ◌<◌, ◌≤◌, ◌==◌, ◌&&◌, not, Bool, true, false, List, [], ◌++◌, Option, Some, None, fold, refl, sym, ap, subst, ◌∙◌, arith, if◌then◌else◌, is_at, list_any, tid_cmp, Tid, peer_of, no_peer, is_covered, PeerPart, is_one, is_owed_by, Outstanding, Participant, block, notice_tid, peer_restarted, Work, part_of, with_manager, with_queues, Face, node_no, face, face_at, part_at, noticed, IsNoticed, all_said, Scene, ShowsWork, sight_during}
+use Rattle.qs_world_refine.proofs.Words.{Stands, GoesOn, Goes, or_from}
 use Rattle.std.specs.Prelude.{slice_set}
 use Rattle.std.proofs.lemmas.List.{set-get_or}
-use Rattle.std.specs.BTreeMap.{is_at}
-use Rattle.std.specs.List.{list_any}
-use Rattle.qs_base.specs.Order.{tid_cmp}
-use Rattle.qs_base.specs.declared.identifiers.Tid.{Tid}
-use Rattle.qs_engage.specs.Engage.{peer_of, no_peer, is_open_to, is_covered}
-use Rattle.qs_engage.specs.declared.engage.PeerPart.{PeerPart}
+use Rattle.qs_engage.specs.Engage.{is_open_to}
 use Rattle.qs_ipc.specs.Ipc as ipc
 use Rattle.qs_ops.specs.declared.answer.Cause.TheVariants as causes
 use Rattle.qs_tm.specs.Manager as tm
-use Rattle.qs_tm.specs.Manager.{is_one}
 use Rattle.qs_tm.specs.Participant as participant
-use Rattle.qs_tm.specs.Participant.{is_owed_by, waits_for, is_to}
-use Rattle.qs_tm.specs.declared.participant.Outstanding.{Outstanding}
+use Rattle.qs_tm.specs.Participant.{waits_for, is_to}
 use Rattle.qs_tm.specs.declared.manager.Which.TheVariants as whiches
-use Rattle.qs_tm.specs.declared.participant.Participant.{Participant}
-use Rattle.qs_node_step.specs.Asking.{block}
-use Rattle.qs_node_step.specs.Restarts.{notice_tid, peer_restarted}
-use Rattle.qs_node_step.specs.State.{Work, part_of, with_manager, with_queues}
 use Rattle.qs_world_agree.specs.World.{World}
-use Rattle.qs_world_refine.specs.Faces.{Face}
-use Rattle.qs_world_refine.specs.Links.{node_no}
-use Rattle.qs_world_refine.specs.NodeFaces.{face, face_at, part_at}
-use Rattle.qs_world_refine.specs.RestartLaws.{noticed, IsNoticed}
-use Rattle.qs_world_refine.specs.Messages.{all_said}
-use Rattle.qs_world_refine.specs.Shows.{Scene, sent_to, ShowsWork, sight_during}
-use Rattle.qs_world_refine.specs.Stands.{Stands, GoesOn}
-use Rattle.qs_world_refine.specs.Steps.{Goes}
+use Rattle.qs_world_refine.specs.Shows.{sent_to}
 use Rattle.qs_world_refine.proofs.Alike.{SameFace, same_itself, found_itself, sight_alike}
 use Rattle.qs_world_refine.proofs.During.{Leaves, quiet_itself}
 use Rattle.qs_world_refine.proofs.Keeping.{Keeps, keeps_goes}
@@ -135,10 +118,7 @@ module _ (t : Tid) (scene : Scene) (n m old new : ℕ) (m_in : m < scene.size) (
     numbered = keeps_goes t (noticed later n m new) n work renumbered w keeps (told_alike t later (noticed later n m new).knows known_twice n work w is.shown)
 
     owed : is_owed_by (node_no m) part ≡ false
-    owed = neither (is_open_to (node_no m) part.engage) (waits_for (node_no m) part) (ap (λ (e : PeerPart). not (is_covered e)) nothing.peer) (ap (λ (l : List Outstanding). list_any (is_to (node_no m)) l) nothing.waiting)
-      where
-        neither : (a b : Bool) → a ≡ false → b ≡ false → (a || b) ≡ false
-        neither a b x y = rw (x, y) refl
+    owed = or_from (is_open_to (node_no m) part.engage) (waits_for (node_no m) part) (ap (λ (e : PeerPart). not (is_covered e)) nothing.peer) (ap (λ (l : List Outstanding). list_any (is_to (node_no m)) l) nothing.waiting)
 
     found_known : IsFound t later n m old new work w part
     found_known = record {

@@ -1,29 +1,14 @@
 -- Another node than the home forgets a transaction that it only read: Forget.
-use Rattle.std.proofs.Common.{◌≡◌, ◌≢◌, ℕ, ◌<◌, ◌&&◌, not, Bool, true, false, Option, Some, None, unwrap_or, refl, subst, ap, ◌∙◌, arith, if◌then◌else◌}
-use Rattle.std.specs.Prelude.{is_none}
-use Rattle.std.proofs.lemmas.Bool.Decides.{nat_tests}
-use Rattle.qs_base.specs.declared.identifiers.Tid.{Tid}
-use Rattle.qs_engage.specs.Engage.{no_peer}
-use Rattle.qs_engage.specs.Nodes.{same_node, is_no_node}
+use Rattle.qs_world_refine.proofs.Words.{◌≡◌, ◌≢◌, ℕ, ◌<◌, ◌&&◌, not, Bool, true, false, Option, None, unwrap_or, refl, subst, ap, ◌∙◌, arith, if◌then◌else◌, is_none, nat_tests, Tid, no_peer, same_node, is_no_node, no_member, new_participant, is_undecided, only_read, Participant, Work, with_queues, drop_counts, forget, IsLawful, Face, face, part_at, uncast_of, unknown_at_home, began_here, SightGoes, sight_faced, Scene, sight_during, ShowsWork, Sight, ShowsSight, in_order, IsAt, Goes, and_parts}
+use Rattle.qs_world_refine.proofs.Words.{not-true, none_is}
 use Rattle.qs_ipc.specs.Ipc as ipc
 use Rattle.qs_tm.specs.Manager as tm
-use Rattle.qs_tm.specs.Members.{no_member}
 use Rattle.qs_tm.specs.Participant as participant
-use Rattle.qs_tm.specs.Participant.{new_participant, is_undecided, only_read}
-use Rattle.qs_tm.specs.declared.participant.Participant.{Participant}
-use Rattle.qs_node_step.specs.State.{Work, with_queues}
-use Rattle.qs_node_step.specs.Telling.{drop_counts, forget}
 use Rattle.qs_world_agree.specs.World.{World}
-use Rattle.qs_world_agree.specs.Carry.{IsLawful}
 use Rattle.qs_world_refine.specs.DecisionLaws.{ForgetReadGoes}
-use Rattle.qs_world_refine.specs.Faces.{Face}
-use Rattle.qs_world_refine.specs.NodeFaces.{face, part_at, uncast_of, unknown_at_home, waiting_at, began_here}
-use Rattle.qs_world_refine.specs.Seen.{SightGoes, sight_faced}
+use Rattle.qs_world_refine.specs.NodeFaces.{waiting_at}
 use Rattle.qs_world_refine.specs.SeenOutcome.{forgotten_face}
-use Rattle.qs_world_refine.specs.Shows.{Scene, sight_during, ShowsWork}
-use Rattle.qs_world_refine.specs.Sights.{Sight, ShowsSight}
-use Rattle.qs_world_refine.specs.Sound.{in_order}
-use Rattle.qs_world_refine.specs.Steps.{IsAt, Knows, Goes}
+use Rattle.qs_world_refine.specs.Steps.{Knows}
 use Rattle.qs_world_refine.proofs.Alike.{SameFace, found_itself}
 use Rattle.qs_world_refine.proofs.During.{local_shown, face_here, runs}
 use Rattle.qs_world_refine.proofs.Forgetting.{forgotten}
@@ -32,19 +17,6 @@ use Rattle.qs_world_refine.proofs.NodeSets.{none_listed}
 use Rattle.qs_world_refine.proofs.Others.{forget_queues_leave}
 use Rattle.qs_world_refine.proofs.Reading.{part_known}
 use Rattle.qs_world_refine.proofs.StartWorlds.{alike_at, nobody}
-
-both : (a b : Bool) → (a && b) ≡ true → (a ≡ true) × (b ≡ true)
-both true true is = (refl, refl)
-both true false is = absurd (cc is)
-both false b is = absurd (cc is)
-
-off_not : (a : Bool) → not a ≡ true → a ≡ false
-off_not true is = absurd (cc is)
-off_not false is = refl
-
-none_of : {A : Type 0} (o : Option A) → is_none o ≡ true → o ≡ None
-none_of None is = refl
-none_of (Some x) is = absurd (cc is)
 
 -- what waits stays where counts are dropped
 pub dropped_waits : (tid : Tid) (work : Work) (s : ℕ) → waiting_at (with_queues (drop_counts tid) work).node tid s ≡ waiting_at work.node tid s
@@ -72,22 +44,22 @@ module _ (tid : Tid) (scene : Scene) (n : ℕ) (work : Work) (part : Participant
   not_here = rw not_home refl
 
   parts : ((is_undecided part && not part.engage.home) ≡ true) × (((is_none part.engage.superior && not part.involved) && (is_no_node part.told && only_read part)) ≡ true)
-  parts = both (is_undecided part && not part.engage.home) ((is_none part.engage.superior && not part.involved) && (is_no_node part.told && only_read part)) over
+  parts = and_parts (is_undecided part && not part.engage.home) ((is_none part.engage.superior && not part.involved) && (is_no_node part.told && only_read part)) over
 
   undecided : part.outcome ≡ None
-  undecided = none_of part.outcome (both (is_undecided part) (not part.engage.home) parts.0).0
+  undecided = none_is part.outcome (and_parts (is_undecided part) (not part.engage.home) parts.0).0
 
   idle : (is_none part.engage.superior && not part.involved) ≡ true
-  idle = (both (is_none part.engage.superior && not part.involved) (is_no_node part.told && only_read part) parts.1).0
+  idle = (and_parts (is_none part.engage.superior && not part.involved) (is_no_node part.told && only_read part) parts.1).0
 
   alone : part.engage.superior ≡ None
-  alone = none_of part.engage.superior (both (is_none part.engage.superior) (not part.involved) idle).0
+  alone = none_is part.engage.superior (and_parts (is_none part.engage.superior) (not part.involved) idle).0
 
   untold : is_no_node part.told ≡ true
-  untold = (both (is_no_node part.told) (only_read part) (both (is_none part.engage.superior && not part.involved) (is_no_node part.told && only_read part) parts.1).1).0
+  untold = (and_parts (is_no_node part.told) (only_read part) (and_parts (is_none part.engage.superior && not part.involved) (is_no_node part.told && only_read part) parts.1).1).0
 
   uninvolved : part.involved ≡ false
-  uninvolved = off_not part.involved (both (is_none part.engage.superior) (not part.involved) idle).1
+  uninvolved = not-true part.involved (and_parts (is_none part.engage.superior) (not part.involved) idle).1
 
   turn : SightGoes tid (sight_faced x n (forgotten_face (x.face n))) w
   turn = event.forget_read tid x w n lawful shown (runs tid scene n work at) elsewhere home_in (rw face_before (rw undecided refl)) (rw face_before (rw (not_here, alone) refl)) (rw face_before uninvolved)

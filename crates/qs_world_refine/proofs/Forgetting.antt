@@ -1,22 +1,7 @@
 -- A transaction that a node forgets is known there no more, since what is known stands in order.
-use Rattle.std.proofs.Common.{◌≡◌, ◌⊎◌, inl, inr, ◌&&◌, Bool, true, false, List, [], ◌∷◌, Option, Some, None, refl, ap, ◌∙◌}
-use Rattle.std.specs.Map.{lookup, remove_entry, set_value}
-use Rattle.std.specs.BTreeMap.{is_at}
-use Rattle.std.specs.declared.cmp.Ordering.{Ordering}
-use Rattle.std.specs.declared.cmp.Ordering.TheVariants.{Less, Equal, Greater}
-use Rattle.qs_base.proofs.TidOrder.{tid_exact, tid_total}
-use Rattle.qs_base.specs.Order.{tid_cmp}
-use Rattle.qs_base.specs.declared.identifiers.Tid.{Tid}
+use Rattle.qs_world_refine.proofs.Words.{◌≡◌, ◌⊎◌, inl, inr, ◌&&◌, Bool, true, false, List, [], ◌∷◌, Option, Some, None, refl, ap, ◌∙◌, lookup, remove_entry, set_value, is_at, Ordering, Less, Equal, Greater, tid_exact, tid_cmp, Tid, changed_value, Manager, Participant, in_order, is_less, and_parts}
+use Rattle.qs_base.proofs.TidOrder.{tid_total}
 use Rattle.qs_tm.specs.Manager as tm
-use Rattle.qs_tm.specs.Manager.{changed_value}
-use Rattle.qs_tm.specs.declared.manager.Manager.{Manager}
-use Rattle.qs_tm.specs.declared.participant.Participant.{Participant}
-use Rattle.qs_world_refine.specs.Sound.{in_order, is_less}
-
-both : (a b : Bool) → (a && b) ≡ true → (a ≡ true) × (b ≡ true)
-both true true is = (refl, refl)
-both true false is = absurd (cc is)
-both false b is = absurd (cc is)
 
 less_is : (r : Ordering) → is_less r ≡ true → r ≡ Less
 less_is Less is = refl
@@ -50,10 +35,10 @@ order_changed tid f manager ordered = by (lookup (is_at (tid_cmp tid)) manager.k
 
 pub none_behind : (tid : Tid) (e : Tid × Participant) (es : List (Tid × Participant)) → in_order (e ∷ es) ≡ true → (tid_cmp tid e.0 ≡ Equal) ⊎ (tid_cmp tid e.0 ≡ Less) → lookup (is_at (tid_cmp tid)) es ≡ None
 none_behind tid e [] ordered first = refl
-none_behind tid e (next ∷ rest) ordered first = rw below (none_behind tid next rest (both (is_less (tid_cmp e.0 next.0)) (in_order (next ∷ rest)) ordered).1 (inr below))
+none_behind tid e (next ∷ rest) ordered first = rw below (none_behind tid next rest (and_parts (is_less (tid_cmp e.0 next.0)) (in_order (next ∷ rest)) ordered).1 (inr below))
   where
     step : tid_cmp e.0 next.0 ≡ Less
-    step = less_is (tid_cmp e.0 next.0) (both (is_less (tid_cmp e.0 next.0)) (in_order (next ∷ rest)) ordered).0
+    step = less_is (tid_cmp e.0 next.0) (and_parts (is_less (tid_cmp e.0 next.0)) (in_order (next ∷ rest)) ordered).0
 
     by : (tid_cmp tid e.0 ≡ Equal) ⊎ (tid_cmp tid e.0 ≡ Less) → tid_cmp tid next.0 ≡ Less
     by (inl same) = ap (λ (t : Tid). tid_cmp t next.0) (tid_exact tid e.0 same) ∙ step
@@ -68,7 +53,7 @@ removed tid (e ∷ es) ordered = by (tid_cmp tid e.0) refl (removed tid es (rest
   where
     rest_ordered : (es : List (Tid × Participant)) → in_order (e ∷ es) ≡ true → in_order es ≡ true
     rest_ordered [] ordered = refl
-    rest_ordered (next ∷ rest) ordered = (both (is_less (tid_cmp e.0 next.0)) (in_order (next ∷ rest)) ordered).1
+    rest_ordered (next ∷ rest) ordered = (and_parts (is_less (tid_cmp e.0 next.0)) (in_order (next ∷ rest)) ordered).1
 
     by : (r : Ordering) → tid_cmp tid e.0 ≡ r → lookup (is_at (tid_cmp tid)) (remove_entry (is_at (tid_cmp tid)) es) ≡ None → lookup (is_at (tid_cmp tid)) (remove_entry (is_at (tid_cmp tid)) (e ∷ es)) ≡ None
     by Equal is more = rw is (none_behind tid e es ordered (inl is))

@@ -1,13 +1,8 @@
 -- Another node than the home forgets what it only read: Forget.
-use Rattle.std.proofs.Common.{◌≡◌, ◌≢◌, ℕ, ◌+◌, ◌≤◌, true, false, [], ◌∷◌, arith, refl, ◌∙◌, ap}
-use Rattle.std.proofs.lemmas.Bool.Decides.{nat_tests}
-use Rattle.qs_world_agree.specs.World.{World, Open, with_at}
-use Rattle.qs_world_agree.specs.Guards.{Votes}
-use Rattle.qs_world_agree.specs.Step.{Step, Forget}
-use Rattle.qs_world_refine.specs.Faces.{Face, ShowsFace, ShowsOpen}
-use Rattle.qs_world_refine.specs.Links.{link, waiting_link}
+use Rattle.qs_world_refine.proofs.Words.{◌≡◌, ◌≢◌, ℕ, ◌+◌, ◌≤◌, true, false, [], ◌∷◌, arith, refl, ◌∙◌, ap, nat_tests, Open, Votes, Forget, Face, ShowsFace, ShowsOpen, link, waiting_link, place}
+use Rattle.qs_world_agree.specs.World.{World, with_at}
+use Rattle.qs_world_agree.specs.Step.{Step}
 use Rattle.qs_world_refine.specs.OutcomeLaws.{ForgetGoes}
-use Rattle.qs_world_refine.specs.Places.{place}
 use Rattle.qs_world_refine.specs.SeenOutcome.{forgotten_face}
 use Rattle.qs_world_refine.proofs.Facts.{invariant}
 use Rattle.qs_world_refine.proofs.Local.{Local, local_sight}

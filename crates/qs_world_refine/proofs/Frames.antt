@@ -1,18 +1,6 @@
 -- What one primitive of a step does for one transaction leaves every other one.
-use Rattle.std.proofs.Common.{◌≡◌, true, false, List, [], ◌∷◌, refl, arith}
-use Rattle.std.specs.BTreeMap.{is_at}
-use Rattle.std.proofs.lemmas.Bool.Decides.{nat_tests}
-use Rattle.qs_base.specs.Order.{tid_cmp}
-use Rattle.qs_base.specs.declared.identifiers.NodeNo.{NodeNo}
-use Rattle.qs_base.specs.declared.identifiers.Tid.{Tid}
-use Rattle.qs_packet.specs.declared.message.Message.{Message}
-use Rattle.qs_record.specs.declared.record.Record.{Record}
+use Rattle.qs_world_refine.proofs.Words.{◌≡◌, true, false, List, [], ◌∷◌, refl, arith, is_at, nat_tests, tid_cmp, NodeNo, Tid, Message, Record, Manager, Participant, send, send_each, log, tid_of, Work, with_manager, said}
 use Rattle.qs_tm.specs.Manager as tm
-use Rattle.qs_tm.specs.declared.manager.Manager.{Manager}
-use Rattle.qs_tm.specs.declared.participant.Participant.{Participant}
-use Rattle.qs_node_step.specs.Bringing.{send, send_each, log, tid_of}
-use Rattle.qs_node_step.specs.State.{Work, with_manager}
-use Rattle.qs_world_refine.specs.Messages.{said}
 use Rattle.qs_world_refine.proofs.Alike.{found_itself}
 use Rattle.qs_world_refine.proofs.During.{Leaves, forced_log, leaves_itself, leaves_on, send_leaves, record_quiet}
 use Rattle.qs_world_refine.proofs.LogFrames.{Apart, record_tid}

@@ -1,10 +1,8 @@
 -- What holds of the machine's worlds besides its own invariant: links to places that are not known yet are empty, and nobody names the home.
-use Rattle.std.proofs.Common.{◌≡◌, ◌≢◌, ℕ, ◌+◌, ◌<◌, ◌≤◌, true, false, arith}
-use Rattle.std.proofs.lemmas.Bool.Decides.{nat_tests}
-use Rattle.qs_world_agree.specs.World.{World, Open, Aborted}
-use Rattle.qs_world_agree.specs.Guards.{carried}
-use Rattle.qs_world_agree.specs.Step.{Step, Issue, Issue_unmet, Issue_local, Meet, Notice, Engage, Join, Cover, Serve, Serve_told, Lend, Yield, Ask, Vote_read, Vote_volatile, Force, Vote_recoverable, Vote_abort, Yes, Yes_lost, Count, Ignore, Refuse, Miss, Forget, Crash, Restart, Restart_in_doubt, Restart_home, Commit, Commit_cut, Commit_unlogged, Abort, Tell, Learn, Learn_cut, Learn_home, Acknowledge, Take_told, End, Checkpoint, Tell_abort, Learn_abort, Name_again, Take_names, Learn_abort_home, Abort_logged, Drop_engage, Drop_join, Drop_cover, Inquire, Inquire_lost, Inquire_home, Answer_commit, Answer_running, Answer_abort}
-use Rattle.qs_world_agree.proofs.Counts.{Counts}
+use Rattle.qs_world_refine.proofs.Words.{◌≡◌, ◌≢◌, ℕ, ◌+◌, ◌<◌, ◌≤◌, true, false, arith, nat_tests, Open, Aborted, carried, Issue, Issue_unmet, Issue_local, Join, Cover, Serve, Serve_told, Yield, Ask, Vote_read, Vote_volatile, Force, Vote_recoverable, Vote_abort, Yes, Yes_lost, Count, Ignore, Refuse, Miss, Forget, Crash, Restart, Restart_in_doubt, Restart_home, Commit, Commit_cut, Commit_unlogged, Abort, Tell, Learn, Learn_cut, Learn_home, Acknowledge, Take_told, End, Checkpoint, Tell_abort}
+use Rattle.qs_world_refine.proofs.Words.{Learn_abort, Name_again, Take_names, Learn_abort_home, Abort_logged, Drop_engage, Drop_join, Drop_cover, Inquire, Inquire_lost, Inquire_home, Answer_commit, Answer_running, Answer_abort, Counts}
+use Rattle.qs_world_agree.specs.World.{World}
+use Rattle.qs_world_agree.specs.Step.{Step, Meet, Notice, Engage, Lend}
 
 pub record Fresh (w : World) (q p : ℕ) : Type 0 where
   pub set : (x n : ℕ) → w.closers q p < x → w.closer_set q p x n ≡ false  -- a set stands at the numbers that were put alone

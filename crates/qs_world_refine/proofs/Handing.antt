@@ -1,19 +1,8 @@
 -- A message that is handed up is gone from its link.
-use Rattle.std.proofs.Common.{◌≡◌, ◌≢◌, ℕ, ◌==◌, ◌&&◌, not, Bool, true, false, List, [], ◌++◌, arith, refl, sym, ap, ◌∙◌, if◌then◌else◌}
-use Rattle.std.proofs.lemmas.Bool.{eqb-true}
-use Rattle.std.proofs.lemmas.Bool.Decides.{nat_tests}
-use Rattle.qs_base.specs.declared.identifiers.Tid.{Tid}
-use Rattle.qs_packet.specs.declared.message.Message.{Message}
-use Rattle.qs_node_step.specs.declared.event.Sending.{Sending}
-use Rattle.qs_node_step.specs.State.{Work}
+use Rattle.qs_world_refine.proofs.Words.{◌≡◌, ◌≢◌, ℕ, ◌==◌, ◌&&◌, not, Bool, true, false, List, [], ◌++◌, arith, refl, sym, ap, ◌∙◌, if◌then◌else◌, eqb-true, nat_tests, Tid, Message, Sending, Work, Face, Said, said, all_said, face_at, Scene, said_during, sight_during, ShowsWork, handed, Sight, ShowsSight, IsNext}
 use Rattle.qs_world_agree.specs.World.{World}
-use Rattle.qs_world_refine.specs.Faces.{Face}
-use Rattle.qs_world_refine.specs.Links.{Said}
-use Rattle.qs_world_refine.specs.Messages.{said, all_said}
-use Rattle.qs_world_refine.specs.NodeFaces.{face_at}
-use Rattle.qs_world_refine.specs.Shows.{Scene, sent_to, said_during, sight_during, ShowsWork, handed}
-use Rattle.qs_world_refine.specs.Sights.{Sight, ShowsSight, with_at4}
-use Rattle.qs_world_refine.specs.Steps.{IsNext}
+use Rattle.qs_world_refine.specs.Shows.{sent_to}
+use Rattle.qs_world_refine.specs.Sights.{with_at4}
 use Rattle.qs_world_refine.proofs.Alike.{SameFace, same_itself, sight_alike}
 use Rattle.qs_world_refine.proofs.During.{Quiet, said_same, unmet_same, found_same, quiet_itself}
 use Rattle.qs_world_refine.proofs.Still.{at_four}

@@ -1,27 +1,11 @@
 -- What the agreement machine says of a message that comes first on its link, and of a node that knows the commit.
-use Rattle.std.proofs.Common.{◌≡◌, ◌≢◌, ◌⊎◌, inl, inr, ℕ, ◌+◌, ◌<◌, ◌≤◌, ◌==◌, ◌&&◌, ◌||◌, not, Bool, true, false, List, [], ◌∷◌, ◌++◌, Option, Some, None, is_some, refl, sym, ap, subst, ◌∙◌, arith, if◌then◌else◌}
-use Rattle.std.proofs.lemmas.Bool.Decides.{nat_tests}
-use Rattle.qs_base.specs.Order.{same_tid}
-use Rattle.qs_base.specs.declared.identifiers.NodeNo.{NodeNo}
+use Rattle.qs_world_refine.proofs.Words.{◌≡◌, ◌≢◌, ◌⊎◌, inl, inr, ℕ, ◌+◌, ◌<◌, ◌≤◌, ◌==◌, ◌&&◌, ◌||◌, not, Bool, true, false, List, [], ◌∷◌, ◌++◌, Option, Some, None, is_some, refl, sym, ap, subst, ◌∙◌, arith, if◌then◌else◌, nat_tests, same_tid, NodeNo, Tid, same_node, Message, Participant, Work, part_of, Open, Committed, Aborted, Inv, Face, ShowsFace, Said, Requested, Closed, Outcome_told, Taken_in, link, IsLink, IsTold, names_node, node_no, said, all_said, began_here, face, face_at, part_at}
+use Rattle.qs_world_refine.proofs.Words.{outcome_of, place, known_place, Scene, is_superior, same_flag, Stands, IsNext}
 use Rattle.qs_base.specs.declared.identifiers.Outcome.{Outcome}
 use Rattle.qs_base.specs.declared.identifiers.Outcome.TheVariants as outcomes
-use Rattle.qs_base.specs.declared.identifiers.Tid.{Tid}
-use Rattle.qs_engage.specs.Nodes.{same_node}
-use Rattle.qs_packet.specs.declared.message.Message.{Message}
-use Rattle.qs_tm.specs.declared.participant.Participant.{Participant}
-use Rattle.qs_node_step.specs.State.{Work, part_of}
 use Rattle.qs_world_agree.specs.World as machine
-use Rattle.qs_world_agree.specs.World.{World, Open, Committed, Aborted}
-use Rattle.qs_world_agree.proofs.Whole.{Inv}
-use Rattle.qs_world_refine.specs.Faces.{Face, ShowsFace}
-use Rattle.qs_world_refine.specs.Links.{Said, Requested, Closed, Outcome_told, Taken_in, link, IsLink, IsTold, IsTaken, names_node, node_no}
-use Rattle.qs_world_refine.specs.Messages.{said, all_said}
-use Rattle.qs_world_refine.specs.NodeFaces.{began_here, face, face_at, part_at, outcome_of}
-use Rattle.qs_world_refine.specs.Places.{place, known_place}
-use Rattle.qs_world_refine.specs.Shows.{Scene}
-use Rattle.qs_world_refine.specs.Sound.{is_superior, same_flag}
-use Rattle.qs_world_refine.specs.Stands.{Stands}
-use Rattle.qs_world_refine.specs.Steps.{IsNext}
+use Rattle.qs_world_agree.specs.World.{World}
+use Rattle.qs_world_refine.specs.Links.{IsTaken}
 use Rattle.qs_world_refine.proofs.During.{face_here}
 use Rattle.qs_world_refine.proofs.Facts.{invariant}
 use Rattle.qs_world_refine.proofs.FreshRuns.{fresh}

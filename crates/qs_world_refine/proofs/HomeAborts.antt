@@ -1,23 +1,8 @@
 -- A home aborts a transaction that it runs, this one or another.
-use Rattle.std.proofs.Common.{◌≡◌, ℕ, Bool, true, false, [], Option, Some, None, refl, sym, subst, ap, ◌∙◌}
-use Rattle.std.specs.Prelude.{is_none}
-use Rattle.std.proofs.lemmas.Bool.{eqb-true}
-use Rattle.qs_base.specs.Order.{same_tid}
-use Rattle.qs_base.specs.declared.identifiers.NodeNo.{NodeNo}
+use Rattle.qs_world_refine.proofs.Words.{◌≡◌, ℕ, Bool, true, false, [], Option, Some, None, refl, sym, subst, ap, ◌∙◌, is_none, eqb-true, same_tid, NodeNo, Tid, same_node, Cause, is_undecided, Participant, decide, Work, part_of, Scene, same_flag, StaysSound, Stands, GoesOn}
 use Rattle.qs_base.specs.declared.identifiers.Outcome.{Outcome}
 use Rattle.qs_base.specs.declared.identifiers.Outcome.TheVariants as outcomes
-use Rattle.qs_base.specs.declared.identifiers.Tid.{Tid}
-use Rattle.qs_engage.specs.Nodes.{same_node}
-use Rattle.qs_ops.specs.declared.answer.Cause.{Cause}
-use Rattle.qs_tm.specs.Participant.{is_undecided}
-use Rattle.qs_tm.specs.declared.participant.Participant.{Participant}
-use Rattle.qs_node_step.specs.Deciding.{decide}
-use Rattle.qs_node_step.specs.State.{Work, part_of}
 use Rattle.qs_world_agree.specs.World.{World}
-use Rattle.qs_world_refine.specs.Shows.{Scene}
-use Rattle.qs_world_refine.specs.Sound.{same_flag}
-use Rattle.qs_world_refine.specs.SoundLaws.{StaysSound}
-use Rattle.qs_world_refine.specs.Stands.{Stands, GoesOn}
 use Rattle.qs_world_refine.proofs.DecideAbort.{decide_abort}
 use Rattle.qs_world_refine.proofs.During.{Leaves}
 use Rattle.qs_world_refine.proofs.KindsKept.{decide_kinds}

@@ -1,23 +1,8 @@
 -- Records that come in turn say of a transaction the same in two orders: as they came, and those that must be forced first.
-use Rattle.std.proofs.Common.{◌≡◌, ℕ, ◌==◌, ◌&&◌, ◌||◌, not, Bool, true, false, List, [], ◌∷◌, ◌++◌, fold, refl, sym, ap, subst, ◌∙◌, arith, if◌then◌else◌}
-use Rattle.std.specs.List.{filter, list_all, list_any, flat_map}
-use Rattle.std.proofs.lemmas.Bool.{eqb-true}
-use Rattle.std.proofs.lemmas.Bool.Decides.{nat_tests}
+use Rattle.qs_world_refine.proofs.Words.{◌≡◌, ℕ, ◌==◌, ◌&&◌, ◌||◌, not, Bool, true, false, List, [], ◌∷◌, ◌++◌, fold, refl, sym, ap, subst, ◌∙◌, arith, if◌then◌else◌, filter, list_all, list_any, flat_map, eqb-true, or_parts, nat_tests, filter-append, list_any-append, same_tid, NodeNo, Tid, Record, Prepared, Untold, Recovery, found_record, names_transaction, is_vote_of, is_untold_of, mark_committed, is_forced, is_loose_of, is_forced_of, are_in_turn, names_node, node_no, is_record_of, is_in_doubt}
+use Rattle.qs_world_refine.proofs.Words.{list_of, server_no, is_of_other, or-false, false-or, or_assoc}
 use Rattle.std.proofs.lemmas.Grind.{flat_map-append}
-use Rattle.std.proofs.lemmas.List.Elements.{filter-append}
-use Rattle.std.proofs.lemmas.List.Folds.{list_any-append}
-use Rattle.qs_base.specs.Order.{same_tid}
-use Rattle.qs_base.specs.declared.identifiers.NodeNo.{NodeNo}
-use Rattle.qs_base.specs.declared.identifiers.Tid.{Tid}
-use Rattle.qs_record.specs.declared.record.Record.{Record}
 use Rattle.qs_record.specs.declared.record.Record.TheVariants as records
-use Rattle.qs_restart.specs.Recovery.{Prepared, Untold, Recovery, found_record, names_transaction, is_vote_of, is_untold_of, mark_committed}
-use Rattle.qs_node_step.specs.Bringing.{is_forced}
-use Rattle.qs_world_refine.specs.JoinLaws.{is_loose_of, is_forced_of, are_in_turn}
-use Rattle.qs_world_refine.specs.Links.{names_node, node_no}
-use Rattle.qs_world_refine.specs.MoveLaws.{is_record_of}
-use Rattle.qs_world_refine.specs.Sights.{is_in_doubt, list_of, server_no}
-use Rattle.qs_world_refine.specs.Starts.{is_of_other}
 use Rattle.qs_world_refine.proofs.Alike.{SameFound, found_on}
 use Rattle.qs_world_refine.proofs.Doubts.{is_doubt_at, none_of, doubts_marked, any_last}
 use Rattle.qs_world_refine.proofs.Frames.{same_record}
@@ -29,16 +14,12 @@ use Rattle.qs_world_refine.proofs.SoundParts.{and_both}
 use Rattle.qs_world_refine.proofs.StartLogs.{says_on}
 use Rattle.qs_world_refine.proofs.Voting.{put_there}
 
-off_both : (a b : Bool) → (a || b) ≡ false → (a ≡ false) × (b ≡ false)
-off_both true b is = absurd (cc (is))
-off_both false b is = (refl, is)
-
 module _ (tid : Tid) where
   -- ---- records of other transactions
 
   all_others : (recs : List Record) → list_any (is_record_of tid) recs ≡ false → list_all (is_of_other tid) recs ≡ true
   all_others [] none = refl
-  all_others (rec ∷ recs) none = let both = off_both (is_record_of tid rec) (list_any (is_record_of tid) recs) none in rw both.0 (all_others recs both.1)
+  all_others (rec ∷ recs) none = let both = or_parts (is_record_of tid rec) (list_any (is_record_of tid) recs) none in rw both.0 (all_others recs both.1)
 
   pub others_say : (recs : List Record) (r : Recovery) → list_any (is_record_of tid) recs ≡ false → SameFound tid r (fold found_record r recs)
   others_say recs r none = says_on tid recs r (all_others recs none)
@@ -46,8 +27,8 @@ module _ (tid : Tid) where
   neither : (recs : List Record) → list_any (is_loose_of tid) recs ≡ false → list_any (is_forced_of tid) recs ≡ false → list_any (is_record_of tid) recs ≡ false
   neither [] a b = refl
   neither (rec ∷ recs) a b =
-      let first = off_both (is_loose_of tid rec) (list_any (is_loose_of tid) recs) a in
-      let last = off_both (is_forced_of tid rec) (list_any (is_forced_of tid) recs) b in
+      let first = or_parts (is_loose_of tid rec) (list_any (is_loose_of tid) recs) a in
+      let last = or_parts (is_forced_of tid rec) (list_any (is_forced_of tid) recs) b in
       by (is_record_of tid rec) (is_forced rec) first.0 last.0 (neither recs first.1 last.1)
     where
       by : (c d : Bool) → (c && not d) ≡ false → (c && d) ≡ false → list_any (is_record_of tid) recs ≡ false → (c || list_any (is_record_of tid) recs) ≡ false
@@ -120,21 +101,9 @@ module _ (tid : Tid) where
   is_commit (records.End u) = false
 
   committed_one : (rec : Record) (r : Recovery) → list_any (same_tid tid) (found_record r rec).committed ≡ (list_any (same_tid tid) r.committed || is_commit rec)
-  committed_one (records.Prepare u server covers changes) r = or_none (list_any (same_tid tid) r.committed)
-    where
-      or_none : (a : Bool) → a ≡ (a || false)
-      or_none true = refl
-      or_none false = refl
-  committed_one (records.Aborted u) r = or_none (list_any (same_tid tid) r.committed)
-    where
-      or_none : (a : Bool) → a ≡ (a || false)
-      or_none true = refl
-      or_none false = refl
-  committed_one (records.End u) r = or_none (list_any (same_tid tid) r.committed)
-    where
-      or_none : (a : Bool) → a ≡ (a || false)
-      or_none true = refl
-      or_none false = refl
+  committed_one (records.Prepare u server covers changes) r = false-or (list_any (same_tid tid) r.committed)
+  committed_one (records.Aborted u) r = false-or (list_any (same_tid tid) r.committed)
+  committed_one (records.End u) r = false-or (list_any (same_tid tid) r.committed)
   committed_one (records.Commit u told) r = kept told ∙ (list_any-append (same_tid tid) r.committed (if names_transaction u then u ∷ [] else []) ∙ ap (λ (b : Bool). list_any (same_tid tid) r.committed || b) (by (names_transaction u) (same_tid tid u)))
     where
       kept : (told : List NodeNo) → list_any (same_tid tid) (found_record r (records.Commit u told)).committed ≡ list_any (same_tid tid) (r.committed ++ (if names_transaction u then u ∷ [] else []))
@@ -142,24 +111,12 @@ module _ (tid : Tid) where
       kept (first ∷ others) = refl
 
       by : (a b : Bool) → list_any (same_tid tid) (if a then u ∷ [] else []) ≡ (a && same_tid tid u)
-      by true b = or_none (same_tid tid u)
-        where
-          or_none : (a : Bool) → (a || false) ≡ a
-          or_none true = refl
-          or_none false = refl
+      by true b = or-false (same_tid tid u)
       by false b = refl
 
   pub committed_all : (recs : List Record) (r : Recovery) → list_any (same_tid tid) (fold found_record r recs).committed ≡ (list_any (same_tid tid) r.committed || list_any is_commit recs)
-  committed_all [] r = or_none (list_any (same_tid tid) r.committed)
-    where
-      or_none : (a : Bool) → a ≡ (a || false)
-      or_none true = refl
-      or_none false = refl
-  committed_all (rec ∷ recs) r = committed_all recs (found_record r rec) ∙ (ap (λ (b : Bool). b || list_any is_commit recs) (committed_one rec r) ∙ or_more (list_any (same_tid tid) r.committed) (is_commit rec) (list_any is_commit recs))
-    where
-      or_more : (a b c : Bool) → ((a || b) || c) ≡ (a || (b || c))
-      or_more true b c = refl
-      or_more false b c = refl
+  committed_all [] r = false-or (list_any (same_tid tid) r.committed)
+  committed_all (rec ∷ recs) r = committed_all recs (found_record r rec) ∙ (ap (λ (b : Bool). b || list_any is_commit recs) (committed_one rec r) ∙ or_assoc (list_any (same_tid tid) r.committed) (is_commit rec) (list_any is_commit recs))
 
   -- ---- from logs that say the same a record that must be forced leads to such
 
@@ -234,7 +191,7 @@ module _ (tid : Tid) where
   -- where the transaction has none that need not be forced, these may be left out
   pub forced_say : (recs : List Record) (r s : Recovery) → list_any (is_loose_of tid) recs ≡ false → SameFound tid r s → SameFound tid (fold found_record r (filter is_forced recs)) (fold found_record s recs)
   forced_say [] r s none same = same
-  forced_say (rec ∷ recs) r s none same = by (is_forced rec) refl (off_both (is_loose_of tid rec) (list_any (is_loose_of tid) recs) none).0 (λ r s. forced_say recs r s (off_both (is_loose_of tid rec) (list_any (is_loose_of tid) recs) none).1)
+  forced_say (rec ∷ recs) r s none same = by (is_forced rec) refl (or_parts (is_loose_of tid rec) (list_any (is_loose_of tid) recs) none).0 (λ r s. forced_say recs r s (or_parts (is_loose_of tid rec) (list_any (is_loose_of tid) recs) none).1)
     where
       left : (b c : Bool) → c ≡ false → (b && not c) ≡ false → b ≡ false
       left true c is so = absurd (cc (is, so))

@@ -1,22 +1,10 @@
 -- A node sends an inquiry to the home's node, as its superior or the home restarted, or as it begins with a Prepare in doubt.
-use Rattle.std.proofs.Common.{◌≡◌, ◌≢◌, inl, ℕ, ◌<◌, ◌&&◌, not, Bool, true, false, Option, Some, None, refl, ap, ◌∙◌, if◌then◌else◌}
+use Rattle.qs_world_refine.proofs.Words.{◌≡◌, ◌≢◌, inl, ℕ, ◌<◌, ◌&&◌, not, Bool, true, false, Option, Some, None, refl, ap, ◌∙◌, if◌then◌else◌, Tid, Participant, send, is_orphaned_by, resume_home, Work, Open, IsLawful, ShowsFace, MayInquire, Inquired, node_no, face, place, Scene, sight_during, ShowsWork, Sight, IsAt, Goes}
 use Rattle.qs_base.specs.declared.identifiers.Outcome.{Outcome}
-use Rattle.qs_base.specs.declared.identifiers.Tid.{Tid}
 use Rattle.qs_packet.specs.declared.message.Message.TheVariants as messages
-use Rattle.qs_tm.specs.declared.participant.Participant.{Participant}
-use Rattle.qs_node_step.specs.Bringing.{send}
-use Rattle.qs_node_step.specs.Restarts.{is_orphaned_by, resume_home}
-use Rattle.qs_node_step.specs.State.{Work}
-use Rattle.qs_world_agree.specs.World.{World, Open}
-use Rattle.qs_world_agree.specs.Carry.{IsLawful}
-use Rattle.qs_world_refine.specs.Faces.{ShowsFace}
-use Rattle.qs_world_refine.specs.InquireLaws.{MayInquire, InquireRuleGoes, ResumeDoubtGoes}
-use Rattle.qs_world_refine.specs.Links.{Inquired, node_no}
-use Rattle.qs_world_refine.specs.NodeFaces.{face}
-use Rattle.qs_world_refine.specs.Places.{place}
-use Rattle.qs_world_refine.specs.Shows.{Scene, sight_during, ShowsWork}
-use Rattle.qs_world_refine.specs.Sights.{Sight}
-use Rattle.qs_world_refine.specs.Steps.{IsAt, Knows, Goes}
+use Rattle.qs_world_agree.specs.World.{World}
+use Rattle.qs_world_refine.specs.InquireLaws.{InquireRuleGoes, ResumeDoubtGoes}
+use Rattle.qs_world_refine.specs.Steps.{Knows}
 use Rattle.qs_world_refine.proofs.During.{face_here, runs}
 use Rattle.qs_world_refine.proofs.Inquiring as event
 use Rattle.qs_world_refine.proofs.Keeping.{nothing_goes}

@@ -1,34 +1,14 @@
 -- An Inquire comes to the home's node, and what stood of its transaction stands.
-use Rattle.std.proofs.Common.{◌≡◌, ◌≢◌, ℕ, ◌==◌, ◌&&◌, not, Bool, true, false, List, Option, Some, None, is_some, refl, sym, subst, ap, ◌∙◌, arith, if◌then◌else◌}
-use Rattle.std.specs.BTreeMap.{is_at}
-use Rattle.std.proofs.lemmas.Bool.Decides.{nat_tests}
-use Rattle.qs_base.specs.Order.{tid_cmp}
-use Rattle.qs_base.specs.declared.identifiers.NodeNo.{NodeNo}
+use Rattle.qs_world_refine.proofs.Words.{◌≡◌, ◌≢◌, ℕ, ◌==◌, ◌&&◌, not, Bool, true, false, List, Option, Some, None, is_some, refl, sym, subst, ap, ◌∙◌, arith, if◌then◌else◌, is_at, nat_tests, tid_cmp, NodeNo, Tid, same_node, Message, aborted_participant, Participant, was_committed, answer_unknown, answer_known, send, NodeValue, Work, part_of, with_manager, message_came, keep_abort_told, node_no, began_here, KeepsPast, Scene, handed, same_flag, where_so, StaysSound, Stands, GoesOn, IsNext, Goes}
+use Rattle.qs_world_refine.proofs.Words.{eq-eqb, and_from}
 use Rattle.qs_base.specs.declared.identifiers.Outcome.{Outcome}
 use Rattle.qs_base.specs.declared.identifiers.Outcome.TheVariants as outcomes
-use Rattle.qs_base.specs.declared.identifiers.Tid.{Tid}
-use Rattle.qs_engage.specs.Nodes.{same_node}
-use Rattle.qs_packet.specs.declared.message.Message.{Message}
 use Rattle.qs_packet.specs.declared.message.Message.TheVariants as messages
 use Rattle.qs_tm.specs.Manager as tm
 use Rattle.qs_tm.specs.Outcomes as outcome_rules
-use Rattle.qs_tm.specs.Outcomes.{aborted_participant}
 use Rattle.qs_tm.specs.Participant as participant
-use Rattle.qs_tm.specs.declared.participant.Participant.{Participant}
-use Rattle.qs_node_step.specs.Answering.{was_committed, answer_unknown, answer_known}
-use Rattle.qs_node_step.specs.Bringing.{send}
-use Rattle.qs_node_step.specs.State.{NodeValue, Work, part_of, with_manager}
-use Rattle.qs_node_step.specs.Step.{message_came}
-use Rattle.qs_node_step.specs.Telling.{keep_abort_told}
 use Rattle.qs_world_agree.specs.World.{World}
-use Rattle.qs_world_refine.specs.Links.{node_no}
-use Rattle.qs_world_refine.specs.NodeFaces.{began_here}
-use Rattle.qs_world_refine.specs.OutcomeWhole.{KeepsPast, InquireStands}
-use Rattle.qs_world_refine.specs.Shows.{Scene, handed}
-use Rattle.qs_world_refine.specs.Sound.{same_flag, where_so}
-use Rattle.qs_world_refine.specs.SoundLaws.{StaysSound}
-use Rattle.qs_world_refine.specs.Stands.{Stands, GoesOn}
-use Rattle.qs_world_refine.specs.Steps.{IsNext, Goes}
+use Rattle.qs_world_refine.specs.OutcomeWhole.{InquireStands}
 use Rattle.qs_world_refine.proofs.DecidedStands.{KeepsOutcome, KeepOutcomes, outcome_on, outcome_sent}
 use Rattle.qs_world_refine.proofs.During.{Leaves}
 use Rattle.qs_world_refine.proofs.InquiryCame.{running, commit, past, abort}
@@ -130,13 +110,7 @@ module _ (t : Tid) (scene : Scene) (m i : ℕ) (rest : List Message) (work : Wor
     earlier never same = off (began_here work.node t) (tm.knows t work.node.manager) (was_committed t work.node) began (ap is_some none) never keeps.began
       where
         began : began_here work.node t ≡ true
-        began = both (same_node t.home work.node.setting.node) (t.inc == work.node.setting.inc) (ap (λ (k : NodeNo). same_node t.home k) is.at.node ∙ here) (rw is.at.inc (equal t.inc (scene.inc t.home.0) same))
-          where
-            equal : (a b : ℕ) → a ≡ b → (a == b) ≡ true
-            equal a b e = grind (arith, nat_tests, e)
-
-            both : (a b : Bool) → a ≡ true → b ≡ true → (a && b) ≡ true
-            both a b so then_so = rw (so, then_so) refl
+        began = and_from (same_node t.home work.node.setting.node) (t.inc == work.node.setting.inc) (ap (λ (k : NodeNo). same_node t.home k) is.at.node ∙ here) (rw is.at.inc (eq-eqb t.inc (scene.inc t.home.0) same))
 
         off : (a b c : Bool) → a ≡ true → b ≡ false → c ≡ false → where_so (a && not b) c ≡ true → ⊥
         off a b c so then_so last holds = cc (rw (so, then_so, last) at holds)

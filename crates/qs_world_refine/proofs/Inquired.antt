@@ -1,16 +1,9 @@
 -- The home's node answers inquiries: Answer_running, Answer_commit and Answer_abort.
-use Rattle.std.proofs.Common.{◌≡◌, ◌≢◌, ◌⊎◌, inl, inr, ℕ, ◌+◌, ◌==◌, Bool, true, false, List, [], ◌∷◌, arith, refl, sym, ◌∙◌, subst, ap}
-use Rattle.std.proofs.lemmas.Bool.Decides.{nat_tests}
-use Rattle.qs_base.specs.declared.identifiers.Tid.{Tid}
-use Rattle.qs_world_agree.specs.World.{World, Open, Committed, Aborted, with_at, with_at2}
+use Rattle.qs_world_refine.proofs.Words.{◌≡◌, ◌≢◌, ◌⊎◌, inl, inr, ℕ, ◌+◌, ◌==◌, Bool, true, false, List, [], ◌∷◌, arith, refl, sym, ◌∙◌, subst, ap, nat_tests, Tid, Open, Committed, Aborted, Answer_running, Answer_commit, Answer_abort, Face, ShowsFace, telling_face, Said, Inquired, Link, link, waiting_link, IsLink, place, Runs, Meets, Sight, ShowsSight}
+use Rattle.qs_world_agree.specs.World.{World, with_at, with_at2}
 use Rattle.qs_world_agree.specs.Guards.{NextInquiry, TellsAbort}
-use Rattle.qs_world_agree.specs.Step.{Step, Answer_running, Answer_commit, Answer_abort}
-use Rattle.qs_world_refine.specs.Faces.{Face, ShowsFace}
-use Rattle.qs_world_refine.specs.InquiryLaws.{telling_face, MayTellAbort, AnswerRunningGoes, AnswerCommitGoes, AnswerAbortGoes}
-use Rattle.qs_world_refine.specs.Links.{Said, Inquired, Link, link, waiting_link, IsLink}
-use Rattle.qs_world_refine.specs.Places.{place}
-use Rattle.qs_world_refine.specs.Seen.{Runs, Meets}
-use Rattle.qs_world_refine.specs.Sights.{Sight, ShowsSight}
+use Rattle.qs_world_agree.specs.Step.{Step}
+use Rattle.qs_world_refine.specs.InquiryLaws.{MayTellAbort, AnswerRunningGoes, AnswerCommitGoes, AnswerAbortGoes}
 use Rattle.qs_world_refine.proofs.Around.{known_is}
 use Rattle.qs_world_refine.proofs.Streams.{Stays, asked}
 use Rattle.qs_world_refine.proofs.Taking.{Takes, take_sight}

@@ -1,16 +1,7 @@
 -- A node inquires of the home's node: Inquire, Inquire_lost or Inquire_home.
-use Rattle.std.proofs.Common.{◌≡◌, ◌≢◌, inl, inr, ℕ, ◌+◌, ◌<◌, ◌≤◌, ◌==◌, true, [], ◌∷◌, ◌++◌, arith, refl, sym, ◌∙◌, ap, if◌then◌else◌}
-use Rattle.std.proofs.lemmas.Bool.Decides.{nat_tests}
-use Rattle.qs_base.specs.declared.identifiers.Tid.{Tid}
-use Rattle.qs_world_agree.specs.World.{World, Open, with_at, with_at2}
-use Rattle.qs_world_agree.specs.Step.{Inquire, Inquire_lost, Inquire_home}
-use Rattle.qs_world_agree.specs.Carry.{Leads}
-use Rattle.qs_world_refine.specs.Faces.{Face, ShowsFace}
-use Rattle.qs_world_refine.specs.InquireLaws.{MayInquire, InquireGoes, InquireWaitsGoes}
-use Rattle.qs_world_refine.specs.Links.{Inquired, link, waiting_link, IsLink}
-use Rattle.qs_world_refine.specs.Places.{place}
-use Rattle.qs_world_refine.specs.Seen.{Runs, sight_said}
-use Rattle.qs_world_refine.specs.Sights.{Sight, ShowsSight}
+use Rattle.qs_world_refine.proofs.Words.{◌≡◌, ◌≢◌, inl, inr, ℕ, ◌+◌, ◌<◌, ◌≤◌, ◌==◌, true, [], ◌∷◌, ◌++◌, arith, refl, sym, ◌∙◌, ap, if◌then◌else◌, nat_tests, Tid, Open, Inquire, Inquire_lost, Inquire_home, Leads, Face, ShowsFace, MayInquire, Inquired, link, waiting_link, IsLink, place, Runs, sight_said, Sight, ShowsSight}
+use Rattle.qs_world_agree.specs.World.{World, with_at, with_at2}
+use Rattle.qs_world_refine.specs.InquireLaws.{InquireGoes, InquireWaitsGoes}
 use Rattle.qs_world_refine.proofs.Around.{faces_around, links_around, known_is, place_some}
 use Rattle.qs_world_refine.proofs.FreshRuns.{fresh}
 use Rattle.qs_world_refine.proofs.Same.{same_place}

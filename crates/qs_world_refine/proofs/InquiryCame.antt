@@ -1,34 +1,15 @@
 -- An Inquire comes to the home's node: Answer_running, Answer_commit or Answer_abort, and a Tell goes back.
-use Rattle.std.proofs.Common.{◌≡◌, inl, ℕ, ◌<◌, Bool, true, false, List, ◌∷◌, Option, Some, None, unwrap_or, refl, sym, subst, ap, ◌∙◌, arith, if◌then◌else◌}
-use Rattle.std.specs.BTreeMap.{is_at}
-use Rattle.std.proofs.lemmas.Bool.Decides.{nat_tests}
-use Rattle.qs_base.specs.Order.{tid_cmp}
+use Rattle.qs_world_refine.proofs.Words.{◌≡◌, inl, ℕ, ◌<◌, Bool, true, false, List, ◌∷◌, Option, Some, None, unwrap_or, refl, sym, subst, ap, ◌∙◌, arith, if◌then◌else◌, is_at, nat_tests, tid_cmp, Tid, same_node, Message, new_participant, Participant, answer_unknown, answer_known, send, Work, here, part_of, with_manager, message_came, keep_abort_told, Committed, telling_face, Inquired, node_no, all_said, face, face_at, part_at, unknown_at_home, SightGoes, sight_taken, Scene, sight_during, ShowsWork}
+use Rattle.qs_world_refine.proofs.Words.{handed, Sight, IsAt, IsNext, IsKnown, Goes}
 use Rattle.qs_base.specs.declared.identifiers.Outcome.{Outcome}
 use Rattle.qs_base.specs.declared.identifiers.Outcome.TheVariants as outcomes
-use Rattle.qs_base.specs.declared.identifiers.Tid.{Tid}
-use Rattle.qs_engage.specs.Nodes.{same_node}
-use Rattle.qs_packet.specs.declared.message.Message.{Message}
 use Rattle.qs_packet.specs.declared.message.Message.TheVariants as messages
 use Rattle.qs_tm.specs.Manager as tm
 use Rattle.qs_tm.specs.Outcomes as outcome_rules
 use Rattle.qs_tm.specs.Participant as participant
-use Rattle.qs_tm.specs.Participant.{new_participant}
-use Rattle.qs_tm.specs.declared.participant.Participant.{Participant}
-use Rattle.qs_node_step.specs.Answering.{answer_unknown, answer_known}
-use Rattle.qs_node_step.specs.Bringing.{send}
-use Rattle.qs_node_step.specs.State.{Work, here, part_of, with_manager}
-use Rattle.qs_node_step.specs.Step.{message_came}
-use Rattle.qs_node_step.specs.Telling.{keep_abort_told}
-use Rattle.qs_world_agree.specs.World.{World, Committed, with_at}
-use Rattle.qs_world_refine.specs.InquiryLaws.{telling_face, MayTellAbort, AnswerGoes}
+use Rattle.qs_world_agree.specs.World.{World, with_at}
+use Rattle.qs_world_refine.specs.InquiryLaws.{MayTellAbort, AnswerGoes}
 use Rattle.qs_world_refine.specs.InquiryRules.{InquiryRunningGoes, InquiryCommitGoes, InquiryPastGoes, InquiryAbortGoes}
-use Rattle.qs_world_refine.specs.Links.{Inquired, node_no}
-use Rattle.qs_world_refine.specs.Messages.{all_said}
-use Rattle.qs_world_refine.specs.NodeFaces.{face, face_at, part_at, unknown_at_home}
-use Rattle.qs_world_refine.specs.Seen.{SightGoes, sight_taken}
-use Rattle.qs_world_refine.specs.Shows.{Scene, sight_during, ShowsWork, handed}
-use Rattle.qs_world_refine.specs.Sights.{Sight}
-use Rattle.qs_world_refine.specs.Steps.{IsAt, IsNext, IsKnown, Goes}
 use Rattle.qs_world_refine.proofs.Alike.{SameFace, same_itself, found_itself}
 use Rattle.qs_world_refine.proofs.Answered.{commit_put, abort_put}
 use Rattle.qs_world_refine.proofs.Arrays.{node_put}

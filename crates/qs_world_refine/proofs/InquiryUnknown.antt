@@ -1,33 +1,12 @@
 -- An Inquire comes to a later incarnation of the home's node, which knows nothing of the transaction: Answer_abort, and a Tell goes back.
-use Rattle.std.proofs.Common.{◌≡◌, ◌≢◌, inr, ℕ, ◌==◌, ◌&&◌, ◌||◌, Bool, true, false, List, Option, Some, None, refl, sym, subst, ap, ◌∙◌, arith, if◌then◌else◌}
-use Rattle.std.specs.Prelude.{is_some}
-use Rattle.std.specs.List.{list_any}
-use Rattle.std.specs.BTreeMap.{is_at}
-use Rattle.std.proofs.lemmas.Bool.Decides.{nat_tests}
-use Rattle.qs_base.specs.Order.{tid_cmp, same_tid}
-use Rattle.qs_base.specs.declared.identifiers.NodeNo.{NodeNo}
+use Rattle.qs_world_refine.proofs.Words.{◌≡◌, ◌≢◌, inr, ℕ, ◌==◌, ◌&&◌, Bool, true, false, List, Option, Some, None, refl, sym, subst, ap, ◌∙◌, arith, if◌then◌else◌, is_some, list_any, is_at, nat_tests, tid_cmp, same_tid, NodeNo, Tid, no_nodes, same_node, Message, aborted_participant, Participant, was_committed, is_kept_commit, kept_outcome, send, Work, here, part_of, message_came, keep_abort_told, Open, Face, telling_face, node_no, face, unknown_at_home, began_here, is_past_commit, Scene}
+use Rattle.qs_world_refine.proofs.Words.{sight_during, ShowsWork, handed, IsAt, IsNext, Goes, and_false, or_last}
 use Rattle.qs_base.specs.declared.identifiers.Outcome.TheVariants as outcomes
-use Rattle.qs_base.specs.declared.identifiers.Tid.{Tid}
-use Rattle.qs_engage.specs.Nodes.{no_nodes, same_node}
-use Rattle.qs_packet.specs.declared.message.Message.{Message}
 use Rattle.qs_packet.specs.declared.message.Message.TheVariants as messages
 use Rattle.qs_tm.specs.Manager as tm
 use Rattle.qs_tm.specs.Outcomes as outcome_rules
-use Rattle.qs_tm.specs.Outcomes.{aborted_participant}
-use Rattle.qs_tm.specs.declared.participant.Participant.{Participant}
-use Rattle.qs_node_step.specs.Answering.{was_committed, is_kept_commit, kept_outcome}
-use Rattle.qs_node_step.specs.Bringing.{send}
-use Rattle.qs_node_step.specs.State.{Work, here, part_of}
-use Rattle.qs_node_step.specs.Step.{message_came}
-use Rattle.qs_node_step.specs.Telling.{keep_abort_told}
-use Rattle.qs_world_agree.specs.World.{World, Open}
-use Rattle.qs_world_refine.specs.Faces.{Face}
-use Rattle.qs_world_refine.specs.InquiryLaws.{telling_face}
+use Rattle.qs_world_agree.specs.World.{World}
 use Rattle.qs_world_refine.specs.InquiryRules.{InquiryUnknownGoes}
-use Rattle.qs_world_refine.specs.Links.{node_no}
-use Rattle.qs_world_refine.specs.NodeFaces.{face, unknown_at_home, began_here, is_past_commit}
-use Rattle.qs_world_refine.specs.Shows.{Scene, sight_during, ShowsWork, handed}
-use Rattle.qs_world_refine.specs.Steps.{IsAt, IsNext, Goes}
 use Rattle.qs_world_refine.proofs.Alike.{SameFace}
 use Rattle.qs_world_refine.proofs.Arrays.{node_put}
 use Rattle.qs_world_refine.proofs.During.{face_here}
@@ -47,11 +26,7 @@ kept_told tid peer work none home = lookup_changed (is_at (tid_cmp tid)) (outcom
 
 -- a later incarnation that has no Commit of it in its log
 pub past_none : (tid : Tid) (work : Work) → began_here work.node tid ≡ false → was_committed tid work.node ≡ false → is_past_commit work.node tid ≡ false
-past_none tid work not_here was = rw not_here (second (is_kept_commit (kept_outcome tid work.node)) (list_any (same_tid tid) work.node.committed) was)
-  where
-    second : (a b : Bool) → (a || b) ≡ false → b ≡ false
-    second true b is = absurd (cc is)
-    second false b is = is
+past_none tid work not_here was = rw not_here (or_last (is_kept_commit (kept_outcome tid work.node)) (list_any (same_tid tid) work.node.committed) was)
 
 module _ (tid : Tid) (scene : Scene) (m i : ℕ) (rest : List Message) (work : Work) (w : World) (shown : ShowsWork tid scene tid.home.0 work w) (at : IsAt scene tid.home.0 work) (next : IsNext scene tid.home.0 m i (messages.Inquire tid) rest)
     (manager_is : work.node.manager.node ≡ work.node.setting.node) (none : part_of tid work ≡ None) (was : was_committed tid work.node ≡ false) (later : tid.inc ≢ scene.inc tid.home.0) where
@@ -65,11 +40,7 @@ module _ (tid : Tid) (scene : Scene) (m i : ℕ) (rest : List Message) (work : W
   not_here = by (tid.inc == work.node.setting.inc) (rw at.inc (grind (arith, nat_tests, later)))
     where
       by : (b : Bool) → b ≡ false → (same_node tid.home work.node.setting.node && b) ≡ false
-      by b is = rw is (off (same_node tid.home work.node.setting.node))
-        where
-          off : (a : Bool) → (a && false) ≡ false
-          off true = refl
-          off false = refl
+      by b is = rw is (and_false (same_node tid.home work.node.setting.node))
 
   face_before : (sight_during tid scene tid.home.0 work).face tid.home.0 ≡ face work.node tid (unknown_at_home work.node tid)
   face_before = face_here tid scene tid.home.0 work ∙ ap (λ (p : Participant). face work.node tid p) (home_unknown tid work home none)

@@ -1,14 +1,6 @@
 -- A node sends a request to another one, no incarnation of which is known: Issue_unmet.
-use Rattle.std.proofs.Common.{◌≡◌, ℕ, ◌+◌, ◌==◌, true, arith, subst, sym, ap, ◌∙◌}
-use Rattle.std.proofs.lemmas.Bool.Decides.{nat_tests}
-use Rattle.qs_base.specs.declared.identifiers.NodeNo.{NodeNo}
+use Rattle.qs_world_refine.proofs.Words.{◌≡◌, ℕ, ◌+◌, ◌==◌, true, arith, subst, sym, ap, ◌∙◌, nat_tests, NodeNo, Face, Requested, SightGoes, sight_waiting, sight_during, Sight, ShowsSight}
 use Rattle.qs_world_agree.specs.World.{with_at}
-use Rattle.qs_world_refine.specs.Faces.{Face}
-use Rattle.qs_world_refine.specs.Links.{Requested}
-use Rattle.qs_world_refine.specs.Seen.{SightGoes}
-use Rattle.qs_world_refine.specs.SeenOutcome.{sight_waiting}
-use Rattle.qs_world_refine.specs.Shows.{sight_during}
-use Rattle.qs_world_refine.specs.Sights.{Sight, ShowsSight}
 use Rattle.qs_world_refine.specs.WaitingLaws.{IssueAwaitsGoes}
 use Rattle.qs_world_refine.proofs.During.{runs}
 use Rattle.qs_world_refine.proofs.IssueAway as issued

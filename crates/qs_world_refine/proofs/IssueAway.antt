@@ -1,32 +1,13 @@
 -- A request goes to another node that is known: Issue.
-use Rattle.std.proofs.Common.{◌≡◌, ◌≢◌, ◌⊎◌, inl, inr, ℕ, ◌+◌, ◌<◌, ◌≤◌, ◌==◌, Bool, true, false, [], ◌∷◌, Some, None, refl, sym, ap, ◌∙◌, arith, if◌then◌else◌}
-use Rattle.std.specs.BTreeMap.{is_at}
-use Rattle.std.proofs.lemmas.Bool.{eqb-true}
-use Rattle.std.proofs.lemmas.Bool.Decides.{nat_tests}
-use Rattle.qs_base.specs.Order.{tid_cmp}
-use Rattle.qs_base.specs.declared.identifiers.Tid.{Tid}
+use Rattle.qs_world_refine.proofs.Words.{◌≡◌, ◌≢◌, ◌⊎◌, inl, inr, ℕ, ◌+◌, ◌<◌, ◌≤◌, ◌==◌, Bool, true, false, [], ◌∷◌, Some, None, refl, sym, ap, ◌∙◌, arith, if◌then◌else◌, is_at, eqb-true, nat_tests, tid_cmp, Tid, peer_of, last_number, next_sent, PeerPart, Op, Message, Manager, Outstanding, Participant, is_other, send, issue_away, enter_issue, ask_on, is_asked, label_of, NodeValue, Work, part_of, with_manager, Open, Leads, IsLawful, node_no, Requested, said, face, face_at, loans_at, Scene}
+use Rattle.qs_world_refine.proofs.Words.{sight_during, ShowsWork, SightGoes, IsAt, IsWhole, IsKnown, Goes, same_Some}
 use Rattle.qs_engage.specs.Engage as engage
-use Rattle.qs_engage.specs.Engage.{peer_of, last_number, next_sent}
-use Rattle.qs_engage.specs.declared.engage.PeerPart.{PeerPart}
-use Rattle.qs_ops.specs.declared.operation.Op.{Op}
-use Rattle.qs_packet.specs.declared.message.Message.{Message}
 use Rattle.qs_packet.specs.declared.message.Message.TheVariants as messages
 use Rattle.qs_tm.specs.Manager as tm
 use Rattle.qs_tm.specs.Participant as participant
-use Rattle.qs_tm.specs.declared.manager.Manager.{Manager}
-use Rattle.qs_tm.specs.declared.participant.Outstanding.{Outstanding}
-use Rattle.qs_tm.specs.declared.participant.Participant.{Participant}
-use Rattle.qs_node_step.specs.Bringing.{is_other, send}
-use Rattle.qs_node_step.specs.Requests.{issue_away, enter_issue, ask_on, is_asked, label_of}
-use Rattle.qs_node_step.specs.State.{NodeValue, Work, part_of, with_manager}
-use Rattle.qs_world_agree.specs.World.{World, Open, with_at}
-use Rattle.qs_world_agree.specs.Carry.{Leads, IsLawful}
-use Rattle.qs_world_refine.specs.Links.{node_no, Requested}
-use Rattle.qs_world_refine.specs.Messages.{said}
-use Rattle.qs_world_refine.specs.NodeFaces.{face, face_at, loans_at}
-use Rattle.qs_world_refine.specs.Shows.{Scene, sight_during, ShowsWork}
-use Rattle.qs_world_refine.specs.Seen.{SightGoes, sight_issued}
-use Rattle.qs_world_refine.specs.Steps.{IsAt, IsWhole, Knows, IsKnown, Goes}
+use Rattle.qs_world_agree.specs.World.{World, with_at}
+use Rattle.qs_world_refine.specs.Seen.{sight_issued}
+use Rattle.qs_world_refine.specs.Steps.{Knows}
 use Rattle.qs_world_refine.proofs.Alike.{SameFace, found_itself}
 use Rattle.qs_world_refine.proofs.Arrays.{peer_put}
 use Rattle.qs_world_refine.proofs.During.{Leaves, Quiet, leaves_on, leaves_shown, send_leaves, face_here, runs, meets}
@@ -129,10 +110,7 @@ module _ (tid : Tid) (scene : Scene) (n m : ℕ) (request : Outstanding) (op : O
     where
       by : (b : Bool) → b ≡ false → (if b then None else Some ((peer_of part.engage (node_no m)).sent + 1)) ≡ Some request.number → request.number ≡ (peer_of part.engage (node_no m)).sent + 1
       by true e is = absurd (cc e)
-      by false e is = sym (some_same ((peer_of part.engage (node_no m)).sent + 1) request.number is)
-        where
-          some_same : (a b : ℕ) → Some a ≡ Some b → a ≡ b
-          some_same a b e = cc e
+      by false e is = sym (same_Some ((peer_of part.engage (node_no m)).sent + 1) request.number is)
 
   known_after : part_of tid before ≡ Some (issued_part tid request part)
   known_after =

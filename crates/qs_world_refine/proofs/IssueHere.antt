@@ -1,23 +1,9 @@
 -- A request goes to a server of its own node: Issue_local; and the owner asks for the commit: Ask.
-use Rattle.std.proofs.Common.{◌≡◌, ◌⊎◌, inl, inr, ℕ, ◌+◌, ◌≤◌, Bool, true, false, Some, None, refl, sym, subst, ap, ◌∙◌, if◌then◌else◌}
-use Rattle.std.specs.BTreeMap.{is_at}
-use Rattle.qs_base.specs.Order.{tid_cmp}
-use Rattle.qs_base.specs.declared.identifiers.Tid.{Tid}
+use Rattle.qs_world_refine.proofs.Words.{◌≡◌, ◌⊎◌, inl, inr, ℕ, ◌+◌, ◌≤◌, Bool, true, false, Some, None, refl, sym, subst, ap, ◌∙◌, if◌then◌else◌, is_at, tid_cmp, Tid, is_for, Delivery, Op, Outstanding, Participant, issue_here, enter_issue, with_local, Work, here, part_of, with_queues, Open, face, loans_at, SightGoes, sight_faced, Scene, sight_during, ShowsWork, Sight, IsAt, Goes}
 use Rattle.qs_ipc.specs.Ipc as ipc
-use Rattle.qs_ipc.specs.Queue.{is_for}
-use Rattle.qs_ipc.specs.declared.delivery.Delivery.{Delivery}
-use Rattle.qs_ops.specs.declared.operation.Op.{Op}
 use Rattle.qs_tm.specs.Participant as participant
-use Rattle.qs_tm.specs.declared.participant.Outstanding.{Outstanding}
-use Rattle.qs_tm.specs.declared.participant.Participant.{Participant}
-use Rattle.qs_node_step.specs.Requests.{issue_here, enter_issue, with_local}
-use Rattle.qs_node_step.specs.State.{Work, here, part_of, with_queues}
-use Rattle.qs_world_agree.specs.World.{World, Open, with_at}
-use Rattle.qs_world_refine.specs.NodeFaces.{face, loans_at}
-use Rattle.qs_world_refine.specs.Seen.{SightGoes, sight_faced}
-use Rattle.qs_world_refine.specs.Shows.{Scene, sight_during, ShowsWork}
-use Rattle.qs_world_refine.specs.Sights.{Sight}
-use Rattle.qs_world_refine.specs.Steps.{IsAt, Knows, Goes}
+use Rattle.qs_world_agree.specs.World.{World, with_at}
+use Rattle.qs_world_refine.specs.Steps.{Knows}
 use Rattle.qs_world_refine.proofs.Alike.{SameFace, found_itself}
 use Rattle.qs_world_refine.proofs.Asking as event
 use Rattle.qs_world_refine.proofs.During.{local_shown, face_here, runs}

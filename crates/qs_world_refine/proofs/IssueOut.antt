@@ -1,21 +1,7 @@
 -- A node that is engaged issues a request to another one, known or not.
-use Rattle.std.proofs.Common.{◌≡◌, ◌≢◌, inl, ℕ, ◌<◌, ◌==◌, nat_lt, Bool, true, false, Some, None, refl, subst, arith}
-use Rattle.std.proofs.lemmas.Bool.{eqb-true}
-use Rattle.std.proofs.lemmas.Bool.Decides.{nat_tests}
-use Rattle.qs_base.specs.declared.identifiers.NodeNo.{NodeNo}
-use Rattle.qs_base.specs.declared.identifiers.Tid.{Tid}
-use Rattle.qs_engage.specs.Engage.{next_sent}
-use Rattle.qs_engage.specs.Nodes.{same_node}
-use Rattle.qs_ops.specs.declared.operation.Op.{Op}
-use Rattle.qs_tm.specs.declared.participant.Outstanding.{Outstanding}
-use Rattle.qs_tm.specs.declared.participant.Participant.{Participant}
-use Rattle.qs_node_step.specs.Requests.{issue_away}
-use Rattle.qs_node_step.specs.State.{Work, here}
+use Rattle.qs_world_refine.proofs.Words.{◌≡◌, ◌≢◌, inl, ℕ, ◌<◌, ◌==◌, nat_lt, Bool, true, false, Some, None, refl, subst, arith, eqb-true, nat_tests, NodeNo, Tid, next_sent, same_node, Op, Outstanding, Participant, issue_away, Work, here, IsLawful, face, Scene, ShowsWork, IsAt, Goes, never_both}
 use Rattle.qs_world_agree.specs.World.{World}
-use Rattle.qs_world_agree.specs.Carry.{IsLawful}
-use Rattle.qs_world_refine.specs.NodeFaces.{face}
-use Rattle.qs_world_refine.specs.Shows.{Scene, ShowsWork}
-use Rattle.qs_world_refine.specs.Steps.{IsAt, Knows, Goes}
+use Rattle.qs_world_refine.specs.Steps.{Knows}
 use Rattle.qs_world_refine.proofs.IssueAwaits.{issue_awaits}
 use Rattle.qs_world_refine.proofs.RuleGoes.{issue_away as issue_away_goes}
 
@@ -31,10 +17,7 @@ module _ (tid : Tid) (scene : Scene) (n : ℕ) (request : Outstanding) (op : Op)
       in_run = subst (λ (k : ℕ). to.0 < k) at.nodes (grind (arith, nat_tests, within))
 
       apart : to.0 ≢ n
-      apart e = off (same_node to (here work)) (rw at.node (grind (arith, nat_tests, e))) other
-        where
-          off : (b : Bool) → b ≡ true → b ≡ false → ⊥
-          off b is other = cc (is, other)
+      apart e = never_both (same_node to (here work)) (rw at.node (grind (arith, nat_tests, e))) other
 
       by : (b : Bool) → (scene.knows n to.0 == 0) ≡ b → Goes tid scene n (issue_away tid request op work) w
       by true none = issue_awaits tid scene n to.0 request op work part w lawful shown at (record { in_run = in_run; other = apart; none = eqb-true (scene.knows n to.0) 0 none }) refl knows undecided numbered (inl on)

@@ -1,29 +1,11 @@
 -- A request of a transaction that a node runs leaves standing what stood, of this one and of every other.
-use Rattle.std.proofs.Common.{◌≡◌, inl, ℕ, nat_lt, Bool, true, false, [], Option, Some, None, refl, sym, subst, ap, ◌∙◌, if◌then◌else◌}
-use Rattle.qs_base.specs.Order.{same_tid}
-use Rattle.qs_base.specs.declared.identifiers.ClientNo.{ClientNo}
-use Rattle.qs_base.specs.declared.identifiers.Member.{Member}
-use Rattle.qs_base.specs.declared.identifiers.Tid.{Tid}
-use Rattle.qs_engage.specs.Engage.{next_sent}
-use Rattle.qs_engage.specs.Nodes.{same_node}
+use Rattle.qs_world_refine.proofs.Words.{◌≡◌, inl, ℕ, nat_lt, Bool, true, false, [], Option, Some, None, refl, sym, subst, ap, ◌∙◌, if◌then◌else◌, same_tid, ClientNo, Member, Tid, next_sent, same_node, is_for, Op, client_server, is_undecided, Outstanding, Participant, with_issued, request_as, request_command, enter_issue, with_local, issue_as, issue_here, issue_away, next_number, Work, here, part_of, with_queues, face, Scene, StaysSound, Stands, GoesOn, Goes}
 use Rattle.qs_ipc.specs.Ipc as ipc
-use Rattle.qs_ipc.specs.Queue.{is_for}
-use Rattle.qs_ops.specs.declared.operation.Op.{Op}
-use Rattle.qs_node_servers.specs.Servers.{client_server}
 use Rattle.qs_tm.specs.Manager as tm
 use Rattle.qs_tm.specs.Participant as participant
-use Rattle.qs_tm.specs.Participant.{is_undecided}
-use Rattle.qs_tm.specs.declared.participant.Outstanding.{Outstanding}
-use Rattle.qs_tm.specs.declared.participant.Participant.{Participant}
-use Rattle.qs_node_step.specs.Commands.{with_issued, request_as, request_command}
-use Rattle.qs_node_step.specs.Requests.{enter_issue, with_local, issue_as, issue_here, issue_away, next_number, next_local}
-use Rattle.qs_node_step.specs.State.{Work, here, part_of, with_queues}
+use Rattle.qs_node_step.specs.Requests.{next_local}
 use Rattle.qs_world_agree.specs.World.{World}
-use Rattle.qs_world_refine.specs.NodeFaces.{face}
-use Rattle.qs_world_refine.specs.Shows.{Scene}
-use Rattle.qs_world_refine.specs.SoundLaws.{StaysSound}
-use Rattle.qs_world_refine.specs.Stands.{Stands, GoesOn}
-use Rattle.qs_world_refine.specs.Steps.{Knows, Goes}
+use Rattle.qs_world_refine.specs.Steps.{Knows}
 use Rattle.qs_world_refine.proofs.Alike.{SameFace}
 use Rattle.qs_world_refine.proofs.Frames.{out_leaves}
 use Rattle.qs_world_refine.proofs.HomeAborts.{none_is}

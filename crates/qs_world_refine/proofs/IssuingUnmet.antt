@@ -1,12 +1,7 @@
 -- A request goes to another node, no place of which is known, and waits: Issue_unmet.
-use Rattle.std.proofs.Common.{◌≡◌, ◌≢◌, ◌⊎◌, inl, inr, ℕ, ◌+◌, ◌≤◌, true, [], ◌∷◌, arith, refl, sym, ◌∙◌, ap}
-use Rattle.std.proofs.lemmas.Bool.Decides.{nat_tests}
-use Rattle.qs_world_agree.specs.World.{World, Open, Committed, with_at, with_at2, with_at3}
-use Rattle.qs_world_agree.specs.Guards.{held, held_at}
-use Rattle.qs_world_agree.specs.Step.{Step, Issue_unmet}
-use Rattle.qs_world_refine.specs.Faces.{Face, ShowsFace}
-use Rattle.qs_world_refine.specs.Links.{Requested, link, waiting_link, IsLink}
-use Rattle.qs_world_refine.specs.Places.{place}
+use Rattle.qs_world_refine.proofs.Words.{◌≡◌, ◌≢◌, ◌⊎◌, inl, inr, ℕ, ◌+◌, ◌≤◌, true, [], ◌∷◌, arith, refl, sym, ◌∙◌, ap, nat_tests, Open, Committed, with_at3, held, held_at, Issue_unmet, Face, ShowsFace, Requested, link, waiting_link, IsLink, place}
+use Rattle.qs_world_agree.specs.World.{World, with_at, with_at2}
+use Rattle.qs_world_agree.specs.Step.{Step}
 use Rattle.qs_world_refine.specs.WaitingLaws.{IssueUnmetGoes}
 use Rattle.qs_world_refine.proofs.EventFaces.{face_issue_unmet}
 use Rattle.qs_world_refine.proofs.Facts.{posted_below}

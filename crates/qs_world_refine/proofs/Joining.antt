@@ -1,29 +1,11 @@
 -- A whole step shows the world after it, once records that need not be forced are on the disk too.
-use Rattle.std.proofs.Common.{◌≡◌, ◌<◌, ℕ, ◌==◌, ◌&&◌, ◌||◌, not, Bool, true, false, List, [], ◌∷◌, ◌++◌, fold, refl, sym, ap, subst, ◌∙◌, arith, if◌then◌else◌}
-use Rattle.std.specs.List.{filter, list_any}
-use Rattle.std.proofs.lemmas.Bool.Decides.{nat_tests}
-use Rattle.std.proofs.lemmas.List.Folds.{list_any-append}
-use Rattle.std.proofs.lemmas.List.Sums.{fold-append}
-use Rattle.qs_base.specs.Order.{same_tid}
-use Rattle.qs_base.specs.declared.identifiers.Tid.{Tid}
-use Rattle.qs_record.specs.declared.record.Record.{Record}
+use Rattle.qs_world_refine.proofs.Words.{◌≡◌, ◌<◌, ℕ, ◌==◌, ◌&&◌, ◌||◌, not, Bool, true, false, List, [], ◌∷◌, ◌++◌, fold, refl, sym, ap, subst, ◌∙◌, if◌then◌else◌, filter, list_any, list_any-append, fold-append, same_tid, Tid, Record, Recovery, recovery, found_record, nothing_said, is_forced, Work, effects_of, step_work, Effects, Source, Leads, leads_on, is_loose_of, is_forced_of, are_in_turn, IsSeated, ShowsWorld, MayClose, AllClose, sight_logged, taken_scene, StepShown, is_record_of, place}
+use Rattle.qs_world_refine.proofs.Words.{SightGoes, sight, Shows, or_parts, and_right, or_assoc, and_false, eqb-self}
 use Rattle.qs_record.specs.declared.record.Record.TheVariants as records
-use Rattle.qs_restart.specs.Recovery.{Recovery, recovery, found_record, nothing_said}
-use Rattle.qs_node_step.specs.Bringing.{is_forced}
-use Rattle.qs_node_step.specs.State.{Work}
-use Rattle.qs_node_step.specs.Step.{effects_of, step_work}
-use Rattle.qs_node_step.specs.declared.event.Effects.{Effects}
 use Rattle.qs_node_step.specs.declared.event.Event.{Event}
-use Rattle.qs_world.specs.Moves.{Source}
 use Rattle.qs_world.specs.World.{World}
 use Rattle.qs_world_agree.specs.World as machine
-use Rattle.qs_world_agree.specs.Carry.{Leads}
-use Rattle.qs_world_agree.proofs.Carries.{leads_on}
-use Rattle.qs_world_refine.specs.JoinLaws.{is_loose, is_loose_of, is_forced_of, are_in_turn, StepForced, StepCloses}
-use Rattle.qs_world_refine.specs.MoveLaws.{IsSeated, ShowsWorld, MayClose, AllClose, sight_logged, taken_scene, StepShown, is_record_of}
-use Rattle.qs_world_refine.specs.Places.{place}
-use Rattle.qs_world_refine.specs.Seen.{SightGoes}
-use Rattle.qs_world_refine.specs.Shows.{sight, Shows}
+use Rattle.qs_world_refine.specs.JoinLaws.{is_loose, StepForced, StepCloses}
 use Rattle.qs_world_refine.specs.StepLaws.{stepped}
 use Rattle.qs_world_refine.proofs.Alike.{SameFound, same_itself, found_itself, sight_alike}
 use Rattle.qs_world_refine.proofs.ClosingAll.{stays_closed, closed_goes}
@@ -33,9 +15,6 @@ use Rattle.qs_world_refine.proofs.Moving.{inc_taken, up_taken}
 use Rattle.qs_world_refine.proofs.Sending.{append_nil}
 use Rattle.qs_world_refine.proofs.StepMoves.{at_home, all_append}
 
-same_number : (k : ℕ) → (k == k) ≡ true
-same_number k = grind (arith, nat_tests)
-
 -- ---- lists of records
 
 -- what may close need not be forced
@@ -43,28 +22,20 @@ none_forced : (tid : Tid) (n q : ℕ) (w : machine.World) (recs : List Record) �
 none_forced tid n q w [] all = refl
 none_forced tid n q w (rec ∷ recs) all = rw (one rec all.0) (none_forced tid n q w recs all.1)
   where
-    off : (a : Bool) → (a && false) ≡ false
-    off true = refl
-    off false = refl
-
     one : (rec : Record) → MayClose tid n q w rec → is_forced_of tid rec ≡ false
     one (records.Prepare u server covers changes) may = rw may refl
     one (records.Commit u told) may = rw may refl
-    one (records.Aborted u) may = off (same_tid tid u)
-    one (records.End u) may = off (same_tid tid u)
+    one (records.Aborted u) may = and_false (same_tid tid u)
+    one (records.End u) may = and_false (same_tid tid u)
 
 -- and is no Commit
 none_commit : (tid : Tid) (n q : ℕ) (w : machine.World) (recs : List Record) → AllClose tid n q w recs → list_any (is_commit tid) recs ≡ false
 none_commit tid n q w [] all = refl
 none_commit tid n q w (rec ∷ recs) all = rw (one rec all.0) (none_commit tid n q w recs all.1)
   where
-    off : (a b : Bool) → b ≡ false → (a && b) ≡ false
-    off true b is = is
-    off false b is = refl
-
     one : (rec : Record) → MayClose tid n q w rec → is_commit tid rec ≡ false
     one (records.Prepare u server covers changes) may = refl
-    one (records.Commit u told) may = off _ (same_tid tid u) may
+    one (records.Commit u told) may = and_right _ (same_tid tid u) may
     one (records.Aborted u) may = refl
     one (records.End u) may = refl
 
@@ -124,14 +95,10 @@ module _ (tid : Tid) (r : Recovery) (waiting recs : List Record) (alone : list_a
       forced : Recovery
       forced = fold found_record r (filter is_forced recs)
 
-      off_both : (a b : Bool) → (a || b) ≡ false → (a ≡ false) × (b ≡ false)
-      off_both true b is = absurd (cc (is))
-      off_both false b is = (refl, is)
-
       neither : (xs : List Record) → list_any (is_loose_of tid) xs ≡ false → list_any (is_forced_of tid) xs ≡ false → list_any (is_record_of tid) xs ≡ false
       neither [] a b = refl
-      neither (x ∷ xs) a b = at (is_record_of tid x) (is_forced x) (off_both (is_loose_of tid x) (list_any (is_loose_of tid) xs) a).0 (off_both (is_forced_of tid x) (list_any (is_forced_of tid) xs) b).0
-          (neither xs (off_both (is_loose_of tid x) (list_any (is_loose_of tid) xs) a).1 (off_both (is_forced_of tid x) (list_any (is_forced_of tid) xs) b).1)
+      neither (x ∷ xs) a b = at (is_record_of tid x) (is_forced x) (or_parts (is_loose_of tid x) (list_any (is_loose_of tid) xs) a).0 (or_parts (is_forced_of tid x) (list_any (is_forced_of tid) xs) b).0
+          (neither xs (or_parts (is_loose_of tid x) (list_any (is_loose_of tid) xs) a).1 (or_parts (is_forced_of tid x) (list_any (is_forced_of tid) xs) b).1)
         where
           at : (c d : Bool) → (c && not d) ≡ false → (c && d) ≡ false → list_any (is_record_of tid) xs ≡ false → (c || list_any (is_record_of tid) xs) ≡ false
           at true true p q more = absurd (cc (q))
@@ -151,15 +118,11 @@ module _ (tid : Tid) (r : Recovery) (waiting recs : List Record) (alone : list_a
       commits = ap (λ (b : Bool). list_any (is_commit tid) (filter is_forced recs) || b) (list_any-append (is_commit tid) waiting (filter is_loose recs) ∙ ap (λ (b : Bool). b || list_any (is_commit tid) (filter is_loose recs)) uncommitted)
           ∙ (commits_split tid recs ∙ sym (list_any-append (is_commit tid) waiting recs ∙ ap (λ (b : Bool). b || list_any (is_commit tid) recs) uncommitted))
 
-      or_more : (a b c : Bool) → ((a || b) || c) ≡ (a || (b || c))
-      or_more true b c = refl
-      or_more false b c = refl
-
       by : (b : Bool) → list_any (is_loose_of tid) (waiting ++ recs) ≡ b → SameFound tid (fold found_record forced (waiting ++ filter is_loose recs)) (fold found_record r (waiting ++ recs))
       by true some = record {
         prepared = λ k. second.prepared k ∙ sym (first.prepared k);
         committed = committed_all tid (waiting ++ recs) r ∙ sym (committed_all tid (waiting ++ filter is_loose recs) forced ∙ (ap (λ (b : Bool). b || list_any (is_commit tid) (waiting ++ filter is_loose recs)) (committed_all tid (filter is_forced recs) r)
-            ∙ (or_more (list_any (same_tid tid) r.committed) (list_any (is_commit tid) (filter is_forced recs)) (list_any (is_commit tid) (waiting ++ filter is_loose recs)) ∙ ap (λ (b : Bool). list_any (same_tid tid) r.committed || b) commits)));
+            ∙ (or_assoc (list_any (same_tid tid) r.committed) (list_any (is_commit tid) (filter is_forced recs)) (list_any (is_commit tid) (waiting ++ filter is_loose recs)) ∙ ap (λ (b : Bool). list_any (same_tid tid) r.committed || b) commits)));
         unended = second.unended ∙ sym first.unended;
         named = λ m. second.named m ∙ sym (first.named m);
       }
@@ -171,7 +134,7 @@ module _ (tid : Tid) (r : Recovery) (waiting recs : List Record) (alone : list_a
           second : IsEnded tid (fold found_record r (waiting ++ recs))
           second = last_ends tid (waiting ++ recs) r some turn
       by false none =
-          let parts = off_both (list_any (is_loose_of tid) waiting) (list_any (is_loose_of tid) recs) (sym (list_any-append (is_loose_of tid) waiting recs) ∙ none) in
+          let parts = or_parts (list_any (is_loose_of tid) waiting) (list_any (is_loose_of tid) recs) (sym (list_any-append (is_loose_of tid) waiting recs) ∙ none) in
           let no_waiting : list_any (is_record_of tid) waiting ≡ false = neither waiting parts.0 alone in
           let no_loose : list_any (is_record_of tid) (waiting ++ filter is_loose recs) ≡ false = list_any-append (is_record_of tid) waiting (filter is_loose recs) ∙ rw (no_waiting, neither (filter is_loose recs) (loose_left tid recs ∙ parts.1) loose_alone) refl in
           on (fold found_record forced (waiting ++ filter is_loose recs)) forced (fold found_record r (waiting ++ recs))
@@ -256,7 +219,7 @@ step_closes_after tid world n free source event w seated home_in n_in on sw forc
 
         whole : Shows tid (stepped (taken_scene world n source) n work ((world.hosts n).log ++ ((world.hosts n).waiting ++ out.records))) ends.next
         whole = sight_alike tid (sight_logged (sight tid (stepped (taken_scene world n source) n work forced)) n ((world.hosts n).waiting ++ filter is_loose out.records)) (sight tid (stepped (taken_scene world n source) n work ((world.hosts n).log ++ ((world.hosts n).waiting ++ out.records)))) ends.next
-            (record { size = refl; inc = refl; up = refl; knows = refl; face = λ k. same_itself ((sight tid (stepped (taken_scene world n source) n work forced)).face k); said = λ a i b j. refl; unmet = λ a b. refl; found = λ k. found k (k == n) (n == n) (same_number n) }) ends.shown
+            (record { size = refl; inc = refl; up = refl; knows = refl; face = λ k. same_itself ((sight tid (stepped (taken_scene world n source) n work forced)).face k); said = λ a i b j. refl; unmet = λ a b. refl; found = λ k. found k (k == n) (n == n) (eqb-self n) }) ends.shown
           where
             found : (k : ℕ) (b c : Bool) → c ≡ true → SameFound tid (if b then fold found_record (recovery (if c then forced else (world.hosts n).log)) ((world.hosts n).waiting ++ filter is_loose out.records) else recovery (if b then forced else (world.hosts k).log))
                 (recovery (if b then (world.hosts n).log ++ ((world.hosts n).waiting ++ out.records) else (world.hosts k).log))

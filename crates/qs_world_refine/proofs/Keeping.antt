@@ -1,21 +1,8 @@
 -- A piece of a step that changes what a node keeps of the transaction, and nothing of its face.
-use Rattle.std.proofs.Common.{◌≡◌, ℕ, ◌==◌, Bool, true, false, Option, Some, None, [], ◌∷◌, ◌++◌, refl, if◌then◌else◌}
-use Rattle.std.specs.BTreeMap.{is_at}
-use Rattle.std.specs.Map.{lookup, remove_entry}
-use Rattle.qs_base.specs.Order.{tid_cmp}
-use Rattle.qs_base.specs.declared.identifiers.ClientNo.{ClientNo}
-use Rattle.qs_base.specs.declared.identifiers.Tid.{Tid}
-use Rattle.qs_ops.specs.declared.answer.Answer.{Answer}
+use Rattle.qs_world_refine.proofs.Words.{◌≡◌, ℕ, ◌==◌, Bool, true, false, Option, Some, None, [], ◌∷◌, ◌++◌, refl, if◌then◌else◌, is_at, lookup, remove_entry, tid_cmp, ClientNo, Tid, Answer, Participant, OpenCommand, answer, Work, with_manager, client_cmp, face, face_at, Scene, sight_during, ShowsWork, Goes}
 use Rattle.qs_book_journal.specs.declared.entry.Act.TheVariants as acts
 use Rattle.qs_tm.specs.Manager as tm
-use Rattle.qs_tm.specs.declared.participant.Participant.{Participant}
-use Rattle.qs_node_step.specs.declared.state.OpenCommand.{OpenCommand}
-use Rattle.qs_node_step.specs.Bringing.{answer}
-use Rattle.qs_node_step.specs.State.{Work, with_manager, client_cmp}
 use Rattle.qs_world_agree.specs.World.{World}
-use Rattle.qs_world_refine.specs.NodeFaces.{face, face_at}
-use Rattle.qs_world_refine.specs.Shows.{Scene, sight_during, ShowsWork}
-use Rattle.qs_world_refine.specs.Steps.{Goes}
 use Rattle.qs_world_refine.proofs.Alike.{SameFace, found_itself, same_itself, face_on, sight_alike}
 use Rattle.qs_world_refine.proofs.During.{Quiet, Leaves, quiet_itself, quiet_on, leaves_itself, said_same, unmet_same, found_same}
 use Rattle.qs_world_refine.proofs.Frames.{out_leaves}

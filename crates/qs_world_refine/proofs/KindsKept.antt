@@ -1,42 +1,18 @@
 -- What a node does of itself leaves each server of its kind.
-use Rattle.std.proofs.Common.{◌≡◌, ℕ, Bool, true, false, List, [], ◌∷◌, Option, Some, None, fold, ap, ◌∙◌, if◌then◌else◌}
-use Rattle.qs_base.specs.declared.identifiers.NodeNo.{NodeNo}
+use Rattle.qs_world_refine.proofs.Words.{◌≡◌, ℕ, Bool, true, false, List, [], ◌∷◌, Option, Some, None, fold, ap, ◌∙◌, if◌then◌else◌, NodeNo, ServerNo, Tid, release_of, same_node, is_for, ServerValue, number_of, vote_of, after_vote, after_notice, Cause, Op, Note, Vote, Message, Record, server_at, audit_no, files_no, is_undecided, is_forgotten, Decision, Outstanding, Participant, enter, send, send_each, log_if, notify, end_member, end_members, due_endings, learn_member, learners_at, give_notices}
+use Rattle.qs_world_refine.proofs.Words.{keep_outcome, decide, decide_as, enter_issue, with_local, issue_as, issue_here, issue_away, next_number, is_asked, ask_on, label_of, may_answer, is_quiet, is_pass_due, pass_rule, ready_rule, say_yes, refusal_goes_to, send_refusal, refuse_elsewhere, refuse_rule, forget_rule, try, settle_tid, Work, here, part_of, doings_of, with_manager, with_queues, change_server, forget, owes_note, issue_note, note_text, change_count, vote_with, vote_next, vote_frame}
+use Rattle.qs_world_refine.proofs.Words.{due_votes, vote_pass, HasKinds}
 use Rattle.qs_base.specs.declared.identifiers.Outcome.{Outcome}
 use Rattle.qs_base.specs.declared.identifiers.Outcome.TheVariants as outcomes
-use Rattle.qs_base.specs.declared.identifiers.ServerNo.{ServerNo}
-use Rattle.qs_base.specs.declared.identifiers.Tid.{Tid}
-use Rattle.qs_engage.specs.Engage.{release_of}
-use Rattle.qs_engage.specs.Nodes.{same_node}
-use Rattle.qs_ipc.specs.Queue.{is_for}
 use Rattle.qs_ipc.specs.Ipc as ipc
-use Rattle.qs_ops.specs.Server.{ServerValue, number_of, vote_of, after_vote, after_notice}
-use Rattle.qs_ops.specs.declared.answer.Cause.{Cause}
 use Rattle.qs_ops.specs.declared.answer.Cause.TheVariants as causes
-use Rattle.qs_ops.specs.declared.operation.Op.{Op}
-use Rattle.qs_ops.specs.declared.operation.Op.TheVariants.{Note}
 use Rattle.qs_ops.specs.declared.vote.Notice.{Notice}
 use Rattle.qs_ops.specs.declared.vote.Notice.TheVariants as notices
-use Rattle.qs_ops.specs.declared.vote.Vote.{Vote}
 use Rattle.qs_ops.specs.declared.vote.Vote.TheVariants as votes
-use Rattle.qs_packet.specs.declared.message.Message.{Message}
 use Rattle.qs_packet.specs.declared.message.Message.TheVariants as messages
-use Rattle.qs_record.specs.declared.record.Record.{Record}
-use Rattle.qs_node_servers.specs.Servers.{server_at, audit_no}
 use Rattle.qs_tm.specs.Manager as tm
-use Rattle.qs_tm.specs.Members.{files_no}
-use Rattle.qs_tm.specs.Participant.{is_undecided, is_forgotten}
-use Rattle.qs_tm.specs.declared.manager.Decision.{Decision}
-use Rattle.qs_tm.specs.declared.participant.Outstanding.{Outstanding}
-use Rattle.qs_tm.specs.declared.participant.Participant.{Participant}
 use Rattle.qs_book_journal.specs.declared.entry.Act.TheVariants as acts
-use Rattle.qs_node_step.specs.Bringing.{enter, send, send_each, log_if}
-use Rattle.qs_node_step.specs.Deciding.{notify, notice_of, end_member, end_members, due_endings, learn_member, learners_at, give_notices, keep_outcome, decide, decide_as}
-use Rattle.qs_node_step.specs.Requests.{enter_issue, with_local, issue_as, issue_here, issue_away, next_number, is_asked, ask_on, label_of}
-use Rattle.qs_node_step.specs.Settling.{may_answer, is_quiet, is_pass_due, pass_rule, ready_rule, say_yes, refusal_goes_to, send_refusal, refuse_elsewhere, refuse_rule, forget_rule, try, settle_tid}
-use Rattle.qs_node_step.specs.State.{Work, here, part_of, doings_of, with_manager, with_queues, change_server}
-use Rattle.qs_node_step.specs.Telling.{forget}
-use Rattle.qs_node_step.specs.Voting.{owes_note, issue_note, note_text, change_count, vote_with, vote_next, vote_frame, due_votes, vote_pass}
-use Rattle.qs_world_refine.specs.PassLaws.{HasKinds}
+use Rattle.qs_node_step.specs.Deciding.{notice_of}
 use Rattle.qs_world_refine.proofs.SendGoes.{send_node}
 use Rattle.qs_world_refine.proofs.ServerKinds.{kind_kept, vote_kind, notice_kind}
 

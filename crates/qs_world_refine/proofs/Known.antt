@@ -1,12 +1,6 @@
 -- What a rule makes of a transaction that is known, and undecided.
-use Rattle.std.proofs.Common.{◌≡◌, Bool, true, Option, Some, None, ap, ◌∙◌, refl, if◌then◌else◌}
-use Rattle.qs_base.specs.declared.identifiers.Tid.{Tid}
+use Rattle.qs_world_refine.proofs.Words.{◌≡◌, Bool, true, Option, Some, None, ap, ◌∙◌, refl, if◌then◌else◌, Tid, is_undecided, Manager, Participant, where_undecided, Work, part_of}
 use Rattle.qs_tm.specs.Manager as tm
-use Rattle.qs_tm.specs.Participant.{is_undecided}
-use Rattle.qs_tm.specs.declared.manager.Manager.{Manager}
-use Rattle.qs_tm.specs.declared.participant.Participant.{Participant}
-use Rattle.qs_node_step.specs.Asking.{where_undecided}
-use Rattle.qs_node_step.specs.State.{Work, part_of}
 
 pub is_open : (part : Participant) → part.outcome ≡ None → is_undecided part ≡ true
 is_open part undecided = rw undecided refl

@@ -1,10 +1,12 @@
 -- What is told and acknowledged stays so while the home's node runs in the same incarnation, whatever else happens.
-use Rattle.std.proofs.Common.{◌≡◌, ℕ, ◌≤◌, true, List, [], ◌∷◌, arith, sym, subst, ap, ◌∙◌}
-use Rattle.std.proofs.lemmas.Bool.Decides.{nat_tests}
+use Rattle.qs_world_refine.proofs.Words.{◌≡◌, ℕ, ◌≤◌, true, List, [], ◌∷◌, arith, sym, subst, ap, ◌∙◌, nat_tests, Issue, Issue_unmet, Issue_local, Join, Cover, Serve, Serve_told, Yield, Ask, Vote_read, Vote_volatile, Force, Vote_recoverable, Vote_abort, Yes, Yes_lost, Count, Ignore, Refuse, Miss, Forget, Crash, Restart, Restart_in_doubt, Restart_home, Commit, Commit_cut, Commit_unlogged, Abort, Tell, Learn, Learn_cut, Learn_home, Acknowledge, Take_told, End, Checkpoint, Tell_abort, Learn_abort}
+use Rattle.qs_world_refine.proofs.Words.{Name_again, Take_names, Learn_abort_home, Abort_logged, Drop_engage, Drop_join, Drop_cover, Inquire, Inquire_lost, Inquire_home, Answer_commit, Answer_running, Answer_abort}
+use Rattle.std.proofs.Common.{le_refl}
 use Rattle.qs_world_agree.specs.World.{World}
-use Rattle.qs_world_agree.specs.Step.{Event, Step, Issue, Issue_unmet, Issue_local, Meet, Notice, Engage, Join, Cover, Serve, Serve_told, Lend, Yield, Ask, Vote_read, Vote_volatile, Force, Vote_recoverable, Vote_abort, Yes, Yes_lost, Count, Ignore, Refuse, Miss, Forget, Crash, Restart, Restart_in_doubt, Restart_home, Commit, Commit_cut, Commit_unlogged, Abort, Tell, Learn, Learn_cut, Learn_home, Acknowledge, Take_told, End, Checkpoint, Tell_abort, Learn_abort, Name_again, Take_names, Learn_abort_home, Abort_logged, Drop_engage, Drop_join, Drop_cover, Inquire, Inquire_lost, Inquire_home, Answer_commit, Answer_running, Answer_abort}
+use Rattle.qs_world_agree.specs.Step.{Event, Step, Meet, Notice, Engage, Lend}
 use Rattle.qs_world_agree.specs.Laws.{Run}
 use Rattle.qs_world_refine.specs.OutcomeLaws.{AcksStay}
+use Rattle.qs_base_lemmas.proofs.Tests.{le_le}
 
 record Lasting (w v : World) (k m : ℕ) : Type 0 where
   home : v.node v.home ≡ w.node w.home
@@ -79,23 +81,17 @@ record Kept (w v : World) (m : ℕ) : Type 0 where
 
 -- over a run
 kept : (events : List Event) (w v : World) (m : ℕ) → Run w events v → Kept w v m
-kept [] w v m run = record { home = ap (λ (u : World). u.node u.home) run; later = λ k. subst (λ (u : World). w.present k ≤ u.present k) (sym run) (same (w.present k)); told = λ _ has. subst (λ (u : World). u.acknowledged m ≡ true) (sym run) has }
-  where
-    same : (n : ℕ) → n ≤ n
-    same n = omega arith
+kept [] w v m run = record { home = ap (λ (u : World). u.node u.home) run; later = λ k. subst (λ (u : World). w.present k ≤ u.present k) (sym run) (le_refl (w.present k)); told = λ _ has. subst (λ (u : World). u.acknowledged m ≡ true) (sym run) has }
 kept (e ∷ events) w v m run =
     let first : (k : ℕ) → Lasting w run.0 k m = λ k. lasts e w run.0 k m run.1 in
     let rest : Kept run.0 v m = kept events run.0 v m run.2 in
     record {
       home = rest.home ∙ (first 0).home;
-      later = λ k. less (w.present k) (run.0.present k) (v.present k) (first k).later (rest.later k);
+      later = λ k. le_le (w.present k) (run.0.present k) (v.present k) (first k).later (rest.later k);
       told = λ same has.
           let mid : run.0.present (w.node w.home) ≡ w.present (w.node w.home) = between (w.present (w.node w.home)) (run.0.present (w.node w.home)) (v.present (w.node w.home)) (first (w.node w.home)).later (rest.later (w.node w.home)) same in
           rest.told (ap v.present (first 0).home ∙ (same ∙ (sym mid ∙ ap run.0.present (sym (first 0).home)))) ((first 0).told mid has);
     }
-  where
-    less : (a b c : ℕ) → a ≤ b → b ≤ c → a ≤ c
-    less a b c low high = omega (arith, low, high)
 
 pub acks_stay : AcksStay
 acks_stay w v leads same m has = (kept leads.events w v m leads.run).told same has

@@ -1,11 +1,7 @@
 -- What the agreement machine goes on to keep: a commit that was decided, and acknowledgements while the home's node runs in the same incarnation.
-use Rattle.std.proofs.Common.{◌≡◌, ℕ, ◌<◌, Bool, true, false, refl, sym, ap, ◌∙◌}
-use Rattle.qs_base.specs.declared.identifiers.Tid.{Tid}
-use Rattle.qs_world_agree.specs.World.{World, Outcome, Open, Committed, Aborted}
-use Rattle.qs_world_agree.specs.Carry.{Leads, IsLawful}
+use Rattle.qs_world_refine.proofs.Words.{◌≡◌, ℕ, ◌<◌, Bool, true, false, refl, sym, ap, ◌∙◌, Tid, Open, Committed, Aborted, Leads, IsLawful, place, Sight, ShowsStage}
+use Rattle.qs_world_agree.specs.World.{World, Outcome}
 use Rattle.qs_world_agree.proofs.Heeded.{lasts_run}
-use Rattle.qs_world_refine.specs.Places.{place}
-use Rattle.qs_world_refine.specs.Sights.{Sight, ShowsStage}
 use Rattle.qs_world_refine.proofs.Facts.{invariant}
 use Rattle.qs_world_refine.proofs.Lasting.{acks_stay}
 

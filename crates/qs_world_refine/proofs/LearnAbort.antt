@@ -1,40 +1,15 @@
 -- Another node than the home learns abort, whether it knew the transaction or not: Learn_abort; and Told goes.
-use Rattle.std.proofs.Common.{◌≡◌, ℕ, Bool, true, false, List, [], ◌++◌, Option, Some, None, unwrap_or, refl, sym, subst, ap, ◌∙◌, if◌then◌else◌}
-use Rattle.std.specs.Prelude.{is_some}
-use Rattle.std.specs.List.{filter}
-use Rattle.std.specs.BTreeMap.{is_at}
-use Rattle.qs_base.specs.Order.{tid_cmp}
-use Rattle.qs_base.specs.declared.identifiers.NodeNo.{NodeNo}
+use Rattle.qs_world_refine.proofs.Words.{◌≡◌, ℕ, Bool, true, false, List, [], ◌++◌, Option, Some, None, unwrap_or, refl, sym, subst, ap, ◌∙◌, if◌then◌else◌, is_some, filter, is_at, tid_cmp, NodeNo, Tid, same_node, is_no_node, listed, Message, Record, recovery, named_by, aborted_participant, new_participant, is_undecided, Participant, is_forced, send, log_if, give_notices, Sending, Work, here, part_of, with_manager, message_came, learn, learn_unknown, names_of, Aborted, IsLawful, Face, node_no}
+use Rattle.qs_world_refine.proofs.Words.{all_said, face, face_at, part_at, unknown_at_home, NamedGoes, sight_faced, Scene, sight_during, ShowsWork, handed, Sight, ShowsSight, Goes}
 use Rattle.qs_base.specs.declared.identifiers.Outcome.TheVariants as outcomes
-use Rattle.qs_base.specs.declared.identifiers.Tid.{Tid}
-use Rattle.qs_engage.specs.Nodes.{same_node, is_no_node, listed}
-use Rattle.qs_packet.specs.declared.message.Message.{Message}
 use Rattle.qs_packet.specs.declared.message.Message.TheVariants as messages
-use Rattle.qs_record.specs.declared.record.Record.{Record}
 use Rattle.qs_record.specs.declared.record.Record.TheVariants as records
-use Rattle.qs_restart.specs.Recovery.{recovery}
 use Rattle.qs_tm.specs.Manager as tm
 use Rattle.qs_tm.specs.Outcomes as outcome_rules
-use Rattle.qs_tm.specs.Outcomes.{named_by, aborted_participant}
-use Rattle.qs_tm.specs.Participant.{new_participant, is_undecided}
-use Rattle.qs_tm.specs.declared.participant.Participant.{Participant}
-use Rattle.qs_node_step.specs.Bringing.{is_forced, send, log_if}
-use Rattle.qs_node_step.specs.Deciding.{give_notices}
-use Rattle.qs_node_step.specs.declared.event.Sending.{Sending}
-use Rattle.qs_node_step.specs.State.{Work, here, part_of, with_manager}
-use Rattle.qs_node_step.specs.Step.{message_came}
-use Rattle.qs_node_step.specs.Telling.{learn, learn_unknown, names_of}
-use Rattle.qs_world_agree.specs.World.{World, Aborted}
-use Rattle.qs_world_agree.specs.Carry.{IsLawful}
+use Rattle.qs_world_agree.specs.World.{World}
 use Rattle.qs_world_refine.specs.AbortRules.{IsToldAbort, TellAbortGoes, TellAbortUnknownGoes}
-use Rattle.qs_world_refine.specs.Faces.{Face}
-use Rattle.qs_world_refine.specs.Links.{node_no}
-use Rattle.qs_world_refine.specs.Messages.{all_said}
-use Rattle.qs_world_refine.specs.NodeFaces.{face, face_at, part_at, unknown_at_home}
-use Rattle.qs_world_refine.specs.Seen.{NamedGoes, sight_faced}
-use Rattle.qs_world_refine.specs.Shows.{Scene, sent_to, sight_during, ShowsWork, handed}
-use Rattle.qs_world_refine.specs.Sights.{Sight, ShowsSight}
-use Rattle.qs_world_refine.specs.Steps.{Knows, Goes}
+use Rattle.qs_world_refine.specs.Shows.{sent_to}
+use Rattle.qs_world_refine.specs.Steps.{Knows}
 use Rattle.qs_world_refine.proofs.Alike.{SameFace, face_on, found_itself}
 use Rattle.qs_world_refine.proofs.During.{Quiet, forced_log, recovery_same, local_shown, face_here, runs}
 use Rattle.qs_world_refine.proofs.Keeping.{part_keeps}

@@ -1,16 +1,9 @@
 -- A node that is told commit learns or acknowledges it: Learn and Acknowledge.
-use Rattle.std.proofs.Common.{◌≡◌, ◌≢◌, ◌⊎◌, inl, inr, ℕ, ◌<◌, Bool, true, false, List, [], ◌∷◌, ◌++◌, arith, refl, sym, ◌∙◌, ap}
-use Rattle.std.proofs.lemmas.Bool.Decides.{nat_tests}
-use Rattle.qs_base.specs.declared.identifiers.Tid.{Tid}
-use Rattle.qs_restart.specs.Recovery.{Recovery}
-use Rattle.qs_world_agree.specs.World.{World, Open, Committed, with_at}
-use Rattle.qs_world_agree.specs.Step.{Step, Learn, Acknowledge}
+use Rattle.qs_world_refine.proofs.Words.{◌≡◌, ◌≢◌, ◌⊎◌, inl, inr, ℕ, ◌<◌, Bool, true, false, List, [], ◌∷◌, ◌++◌, arith, refl, sym, ◌∙◌, ap, nat_tests, Tid, Recovery, Open, Committed, Learn, Acknowledge, Face, ShowsFace, Said, Link, link, waiting_link, IsLink, place, Runs, Meets, sight_taken, sight_said, Sight, ShowsSight, ShowsLog, is_in_doubt}
+use Rattle.qs_world_agree.specs.World.{World, with_at}
+use Rattle.qs_world_agree.specs.Step.{Step}
 use Rattle.qs_world_refine.specs.EventLaws.{LearnGoes, AcknowledgeGoes}
-use Rattle.qs_world_refine.specs.Faces.{Face, ShowsFace}
-use Rattle.qs_world_refine.specs.Links.{Said, Link, link, waiting_link, IsLink}
-use Rattle.qs_world_refine.specs.Places.{place}
-use Rattle.qs_world_refine.specs.Seen.{Runs, Meets, sight_taken, sight_said, sight_learnt}
-use Rattle.qs_world_refine.specs.Sights.{Sight, ShowsSight, ShowsLog, is_in_doubt}
+use Rattle.qs_world_refine.specs.Seen.{sight_learnt}
 use Rattle.qs_world_refine.proofs.Around.{faces_around, links_around}
 use Rattle.qs_world_refine.proofs.Local.{Local, local_sight}
 use Rattle.qs_world_refine.proofs.Still.{SameStage, stage_still, at_one}

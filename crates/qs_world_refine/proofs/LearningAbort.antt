@@ -1,16 +1,9 @@
 -- A node that is told abort learns it, or names again whom it drew in: Learn_abort and Name_again.
-use Rattle.std.proofs.Common.{◌≡◌, ◌≢◌, ℕ, ◌<◌, ◌==◌, Bool, true, false, [], ◌∷◌, arith, refl, sym, ◌∙◌, ap, if◌then◌else◌}
-use Rattle.std.proofs.lemmas.Bool.Decides.{nat_tests}
-use Rattle.qs_base.specs.declared.identifiers.Tid.{Tid}
-use Rattle.qs_world_agree.specs.World.{World, Open, Committed, Aborted, with_at}
+use Rattle.qs_world_refine.proofs.Words.{◌≡◌, ◌≢◌, ℕ, ◌<◌, ◌==◌, Bool, true, false, [], ◌∷◌, arith, refl, sym, ◌∙◌, ap, if◌then◌else◌, nat_tests, Tid, Open, Committed, Aborted, Learn_abort, Name_again, Face, ShowsFace, link, waiting_link, place, Runs, drew, Sight, ShowsSight}
+use Rattle.qs_world_agree.specs.World.{World, with_at}
 use Rattle.qs_world_agree.specs.Guards.{drawn, names}
-use Rattle.qs_world_agree.specs.Step.{Step, Learn_abort, Name_again}
+use Rattle.qs_world_agree.specs.Step.{Step}
 use Rattle.qs_world_refine.specs.EventLaws.{LearnAbortGoes, NameAgainGoes}
-use Rattle.qs_world_refine.specs.Faces.{Face, ShowsFace}
-use Rattle.qs_world_refine.specs.Links.{link, waiting_link}
-use Rattle.qs_world_refine.specs.Places.{place}
-use Rattle.qs_world_refine.specs.Seen.{Runs, drew}
-use Rattle.qs_world_refine.specs.Sights.{Sight, ShowsSight}
 use Rattle.qs_world_refine.proofs.FreshRuns.{fresh}
 use Rattle.qs_world_refine.proofs.Local.{Local, local_sight}
 use Rattle.qs_world_refine.proofs.Streams.{Stays}

@@ -1,37 +1,14 @@
 -- What the logs of an opening say of a transaction: they stand together.
-use Rattle.std.proofs.Common.{◌≡◌, ◌⊎◌, inl, inr, ℕ, ◌<◌, ◌==◌, ◌&&◌, ◌||◌, not, nat_lt, Bool, true, false, List, [], ◌∷◌, ◌++◌, fold, refl, sym, ap, subst, ◌∙◌, arith, if◌then◌else◌}
-use Rattle.std.specs.List.{filter, flat_map, list_all, list_any}
-use Rattle.std.proofs.lemmas.Bool.{eqb-true}
-use Rattle.std.proofs.lemmas.Bool.Decides.{nat_tests}
-use Rattle.std.proofs.lemmas.List.Folds.{list_any-append}
-use Rattle.qs_base.specs.Order.{same_tid}
-use Rattle.qs_base.specs.declared.identifiers.NodeNo.{NodeNo}
-use Rattle.qs_base.specs.declared.identifiers.Tid.{Tid}
-use Rattle.qs_engage.specs.Nodes.{same_node}
-use Rattle.qs_book_machine.specs.Nodes.{is_recoverable}
-use Rattle.qs_record.specs.declared.record.Record.{Record}
+use Rattle.qs_world_refine.proofs.Words.{◌≡◌, ◌⊎◌, inl, inr, ℕ, ◌<◌, ◌==◌, ◌&&◌, ◌||◌, not, nat_lt, Bool, true, false, List, [], ◌∷◌, ◌++◌, fold, refl, sym, ap, subst, ◌∙◌, arith, if◌then◌else◌, filter, flat_map, list_all, list_any, eqb-true, not-true, or_left, or_right, nat_tests, list_any-append, same_tid, NodeNo, Tid, same_node, is_recoverable, Record, Prepared, Untold, Recovery, nothing_said, recovery, found_record, names_transaction, is_untold_of, with_list, IsOpening, is_record, is_earlier}
+use Rattle.qs_world_refine.proofs.Words.{is_committed_at_home, is_list, is_in_run, is_untold, are_unended, Opening, each_is, fits_record, names_node, node_no, list_of, has_doubt, may_take_up, is_steady_record, never_not}
 use Rattle.qs_record.specs.declared.record.Record.TheVariants as records
-use Rattle.qs_restart.specs.Recovery.{Prepared, Untold, Recovery, nothing_said, recovery, found_record, names_transaction, is_of, is_untold_of, with_list}
-use Rattle.qs_world.specs.Openings.{IsOpening, is_record, is_earlier, is_committed_at_home, is_list, is_in_run, is_commit_of, names_it, is_still_told, is_open_vote, is_doubt, is_untold, are_unended, has_node}
-use Rattle.qs_world.specs.World.{Opening}
-use Rattle.qs_world.proofs.Below.{each_is}
-use Rattle.qs_world_refine.specs.Begun.{fits_record}
-use Rattle.qs_world_refine.specs.Links.{names_node, node_no}
-use Rattle.qs_world_refine.specs.Sights.{list_of}
-use Rattle.qs_world_refine.specs.Sound.{has_doubt, may_take_up}
-use Rattle.qs_world_refine.specs.Steadies.{is_steady_record}
+use Rattle.qs_restart.specs.Recovery.{is_of}
+use Rattle.qs_world.specs.Openings.{is_commit_of, names_it, is_still_told, is_open_vote, is_doubt, has_node}
 use Rattle.qs_world_refine.proofs.Doubts.{is_doubt_of}
 use Rattle.qs_world_refine.proofs.SaidTidy.{IsSaidTidy, log_tidy, takes_up}
 use Rattle.qs_world_refine.proofs.SoundBegin.{all_implied}
 use Rattle.qs_world_refine.proofs.SoundKnown.{same_is}
 use Rattle.qs_world_refine.proofs.SoundParts.{and_both, both_and}
-
-first_so : (a b : Bool) → a ≡ true → (a || b) ≡ true
-first_so a b is = rw is refl
-
-last_so : (a b : Bool) → b ≡ true → (a || b) ≡ true
-last_so true b is = refl
-last_so false b is = is
 
 turned : (t u : Tid) → same_tid t u ≡ true → same_tid u t ≡ true
 turned t u is = grind (arith, nat_tests, is)
@@ -46,7 +23,7 @@ any_left p q (a ∷ xs) is = by (q a) is (any_left p q xs)
         at : (b c : Bool) → (b || c) ≡ true → (c ≡ true → list_any p xs ≡ true) → (b || list_any p xs) ≡ true
         at true c is more = refl
         at false c is more = more is
-    by false is more = last_so (p a) (list_any p xs) (more is)
+    by false is more = or_right (p a) (list_any p xs) (more is)
 
 -- ---- one log
 
@@ -63,14 +40,14 @@ module _ (tid : Tid) where
 
   commit_logged : (names : names_transaction tid ≡ true) (u : Tid) (told : List NodeNo) (said : Recovery) (more : Recovery) → more.untold ≡ said.untold → more.committed ≡ said.committed ++ (if names_transaction u then u ∷ [] else []) → Logged said → Logged (with_list u told more)
   commit_logged names u [] said more untold committed is has = ap (list_any (same_tid tid)) committed ∙ (list_any-append (same_tid tid) said.committed _
-      ∙ first_so _ _ (is (subst (λ (l : List Untold). list_any (is_untold_of tid) l ≡ true) untold (any_left (is_untold_of tid) (λ commit. not (is_untold_of u commit)) more.untold has))))
+      ∙ or_left _ _ (is (subst (λ (l : List Untold). list_any (is_untold_of tid) l ≡ true) untold (any_left (is_untold_of tid) (λ commit. not (is_untold_of u commit)) more.untold has))))
   commit_logged names u (first ∷ others) said more untold committed is has = ap (list_any (same_tid tid)) committed ∙ (list_any-append (same_tid tid) said.committed _
       ∙ which (list_any (is_untold_of tid) said.untold) (is_untold_of tid (record { tid = u; told = first ∷ others })) refl refl
       (sym (list_any-append (is_untold_of tid) said.untold (record { tid = u; told = first ∷ others } ∷ [])) ∙ subst (λ (l : List Untold). list_any (is_untold_of tid) (l ++ record { tid = u; told = first ∷ others } ∷ []) ≡ true) untold has))
     where
       which : (a b : Bool) → list_any (is_untold_of tid) said.untold ≡ a → is_untold_of tid (record { tid = u; told = first ∷ others }) ≡ b → (a || (b || false)) ≡ true → (list_any (same_tid tid) said.committed || list_any (same_tid tid) (if names_transaction u then u ∷ [] else [])) ≡ true
-      which true b old new so = first_so _ _ (is old)
-      which false true old new so = last_so (list_any (same_tid tid) said.committed) _ (named_now u (subst (λ (k : Tid). names_transaction k ≡ true) (sym (same_is u tid new)) names) (turned u tid new))
+      which true b old new so = or_left _ _ (is old)
+      which false true old new so = or_right (list_any (same_tid tid) said.committed) _ (named_now u (subst (λ (k : Tid). names_transaction k ≡ true) (sym (same_is u tid new)) names) (turned u tid new))
       which false false old new so = absurd (cc (so))
 
   record_logged : names_transaction tid ≡ true → (rec : Record) (said : Recovery) → Logged said → Logged (found_record said rec)
@@ -113,11 +90,11 @@ module _ (tid : Tid) where
     where
       first : (list_any (same_tid tid) said.committed ≡ true) ⊎ (is_commit_of tid rec ≡ true) → (list_any (same_tid tid) said.committed ≡ true) ⊎ (list_any (is_commit_of tid) (rec ∷ log) ≡ true)
       first (inl before) = inl before
-      first (inr its) = inr (first_so _ _ its)
+      first (inr its) = inr (or_left _ _ its)
 
       by : (list_any (same_tid tid) (found_record said rec).committed ≡ true) ⊎ (list_any (is_commit_of tid) log ≡ true) → (list_any (same_tid tid) said.committed ≡ true) ⊎ (list_any (is_commit_of tid) (rec ∷ log) ≡ true)
       by (inl found) = first (record_commits rec said found)
-      by (inr later) = inr (last_so (is_commit_of tid rec) _ later)
+      by (inr later) = inr (or_right (is_commit_of tid rec) _ later)
 
   pub commits_are_records : (log : List Record) → list_any (same_tid tid) (recovery log).committed ≡ true → list_any (is_commit_of tid) log ≡ true
   commits_are_records log has = by (fold_commits log nothing_said has)
@@ -134,13 +111,9 @@ module _ (tid : Tid) where
       both : (p v ≡ true) × (list_all p votes ≡ true)
       both = and_both (p v) (list_all p votes) all
 
-      off : (b : Bool) → not b ≡ true → b ≡ false
-      off true is = absurd (cc (is))
-      off false is = refl
-
       by : (b : Bool) → is_doubt_of tid v ≡ b → (list_any (is_doubt_of tid) votes ≡ true → (vote : Prepared) × ((p vote ≡ true) × ((vote.tid ≡ tid) × (vote.committed ≡ false)))) → (b || list_any (is_doubt_of tid) votes) ≡ true
           → (vote : Prepared) × ((p vote ≡ true) × ((vote.tid ≡ tid) × (vote.committed ≡ false)))
-      by true is more so = let its : (is_of tid v ≡ true) × (not v.committed ≡ true) = and_both (is_of tid v) (not v.committed) is in (v, (both.0, (same_is v.tid tid its.0, off v.committed its.1)))
+      by true is more so = let its : (is_of tid v ≡ true) × (not v.committed ≡ true) = and_both (is_of tid v) (not v.committed) is in (v, (both.0, (same_is v.tid tid its.0, not-true v.committed its.1)))
       by false is more so = more so
 
   -- no vote is in doubt beside a Commit
@@ -153,15 +126,11 @@ module _ (tid : Tid) where
           let clear : (names_transaction vote.0.tid ≡ true) × ((not (list_any (is_untold_of vote.0.tid) said.untold) && not (list_any (same_tid vote.0.tid) said.committed)) ≡ true) =
           and_both (names_transaction vote.0.tid) _ (open_one vote.0.committed _ vote.1.1.1 vote.1.0) in
           let none : not (list_any (same_tid tid) said.committed) ≡ true = subst (λ (k : Tid). not (list_any (same_tid k) said.committed) ≡ true) vote.1.1.0 (and_both (not (list_any (is_untold_of vote.0.tid) said.untold)) _ clear.1).1 in
-          both_not (list_any (same_tid tid) said.committed) committed none
+          never_not (list_any (same_tid tid) said.committed) committed none
         where
           open_one : (a b : Bool) → a ≡ false → (a || b) ≡ true → b ≡ true
           open_one true b off is = absurd (cc (off))
           open_one false b off is = is
-
-          both_not : (a : Bool) → a ≡ true → not a ≡ true → ⊥
-          both_not true is off = cc (off)
-          both_not false is off = cc (is)
 
       by : (b : Bool) → has_doubt tid said ≡ b → b ≡ false
       by true has = absurd (never has)
@@ -182,8 +151,8 @@ module _ (tid : Tid) where
           → (list_any (names_it tid n) untold ≡ true → (list_any (is_untold_of tid) untold ≡ true) × (names_node (flat_map (λ (commit : Untold). commit.told) (filter (is_untold_of tid) untold)) (node_no n) ≡ true))
           → (b || list_any (names_it tid n) untold) ≡ true
           → ((a || list_any (is_untold_of tid) untold) ≡ true) × (names_node (flat_map (λ (commit : Untold). commit.told) (if a then c ∷ filter (is_untold_of tid) untold else filter (is_untold_of tid) untold)) (node_no n) ≡ true)
-      by true true its names more so = (refl, ahead ∙ first_so _ _ (and_both (same_tid tid c.tid) (has_node c.told (node_no n)) names).1)
-      by true false its names more so = (refl, ahead ∙ last_so (names_node c.told (node_no n)) _ (more so).1)
+      by true true its names more so = (refl, ahead ∙ or_left _ _ (and_both (same_tid tid c.tid) (has_node c.told (node_no n)) names).1)
+      by true false its names more so = (refl, ahead ∙ or_right (names_node c.told (node_no n)) _ (more so).1)
       by false true its names more so = absurd (let is : is_untold_of tid c ≡ true = back (and_both (same_tid tid c.tid) (has_node c.told (node_no n)) names).0 in cc (its, is))
       by false false its names more so = more so
 
@@ -191,14 +160,14 @@ module _ (tid : Tid) where
 
 module _ (o : Opening) (opens : IsOpening o) where
   steady_record : (n : ℕ) (rec : Record) → is_record o n rec ≡ true → is_steady_record (λ (tid : Tid). true) (node_no n) rec ≡ true
-  steady_record n (records.Prepare tid server covers changes) is = both_and (not (names_transaction tid) || true) (is_recoverable server.0) (last_so (not (names_transaction tid)) true refl) (and_both (is_recoverable server.0) _ (and_both (is_earlier o tid) _ is).1).0
-  steady_record n (records.Commit tid told) is = both_and (not (names_transaction tid) || true) _ (last_so (not (names_transaction tid)) true refl) (listed told (and_both (is_committed_at_home o tid) (is_list n tid told) (and_both (is_earlier o tid) _ is).1).1)
+  steady_record n (records.Prepare tid server covers changes) is = both_and (not (names_transaction tid) || true) (is_recoverable server.0) (or_right (not (names_transaction tid)) true refl) (and_both (is_recoverable server.0) _ (and_both (is_earlier o tid) _ is).1).0
+  steady_record n (records.Commit tid told) is = both_and (not (names_transaction tid) || true) _ (or_right (not (names_transaction tid)) true refl) (listed told (and_both (is_committed_at_home o tid) (is_list n tid told) (and_both (is_earlier o tid) _ is).1).1)
     where
       listed : (told : List NodeNo) → is_list n tid told ≡ true → Rattle.qs_world_refine.specs.Begun.is_list_at (node_no n) tid told ≡ true
       listed [] its = refl
       listed (first ∷ others) its = (and_both (tid.home.0 == n) _ its).0
-  steady_record n (records.Aborted tid) is = last_so (not (names_transaction tid)) true refl
-  steady_record n (records.End tid) is = last_so (not (names_transaction tid)) true refl
+  steady_record n (records.Aborted tid) is = or_right (not (names_transaction tid)) true refl
+  steady_record n (records.End tid) is = or_right (not (names_transaction tid)) true refl
 
   -- each can be taken up
   pub log_said : (n : ℕ) → n < o.size → IsSaidTidy (λ (tid : Tid). true) (node_no n) (recovery (o.logs n))

@@ -1,32 +1,12 @@
 -- As a world begins the agreement machine over its logs shows each transaction of an earlier incarnation of its home.
-use Rattle.std.proofs.Common.{◌≡◌, ℕ, ◌<◌, ◌≤◌, ◌==◌, ◌&&◌, nat_lt, nat_le, Bool, true, false, Some, refl, sym, ap, subst, arith, if◌then◌else◌}
-use Rattle.std.specs.List.{list_all, list_any}
-use Rattle.std.proofs.lemmas.Bool.{eqb-true}
-use Rattle.std.proofs.lemmas.Bool.Decides.{nat_tests}
-use Rattle.qs_base.specs.Order.{same_tid}
-use Rattle.qs_base.specs.declared.identifiers.NodeNo.{NodeNo}
-use Rattle.qs_base.specs.declared.identifiers.Tid.{Tid}
-use Rattle.qs_engage.specs.Nodes.{same_node, has_node}
-use Rattle.qs_engage.specs.declared.nodes.Nodes.{Nodes}
-use Rattle.qs_node_kept.specs.Keeping.{no_kept, kept_as}
-use Rattle.qs_restart.specs.Recovery.{Recovery, recovery, nothing_said, names_transaction, is_untold_of}
-use Rattle.qs_node_step.specs.Opening.{new_manager}
-use Rattle.qs_node_step.specs.State.{NodeValue}
+use Rattle.qs_world_refine.proofs.Words.{◌≡◌, ℕ, ◌<◌, ◌≤◌, ◌==◌, ◌&&◌, nat_lt, nat_le, Bool, true, false, Some, refl, sym, ap, subst, arith, if◌then◌else◌, list_all, list_any, eqb-true, nat_tests, same_tid, NodeNo, Tid, same_node, Nodes, no_kept, Recovery, recovery, nothing_said, names_transaction, is_untold_of, new_manager, NodeValue, Participant, IsOpening, is_setting, are_unended, Opening, start, each_is, Open, Committed, Aborted, ShowsAll, node_no, face_at, IsRisenFace, scene_of, sight, Sight}
+use Rattle.qs_world_refine.proofs.Words.{has_doubt, may_vote, is_list_of}
+use Rattle.qs_engage.specs.Nodes.{has_node}
+use Rattle.qs_node_kept.specs.Keeping.{kept_as}
 use Rattle.qs_tm.specs.Manager as tm
-use Rattle.qs_tm.specs.declared.participant.Participant.{Participant}
-use Rattle.qs_world.specs.Openings.{IsOpening, is_setting, are_unended}
-use Rattle.qs_world.specs.World.{Opening, World, start}
-use Rattle.qs_world.proofs.Below.{each_is}
+use Rattle.qs_world.specs.World.{World}
 use Rattle.qs_world_agree.specs.World as machine
-use Rattle.qs_world_agree.specs.World.{Open, Committed, Aborted}
-use Rattle.qs_world_refine.specs.EachMove.{ShowsAll}
 use Rattle.qs_world_refine.specs.Lefts.{IsLeft}
-use Rattle.qs_world_refine.specs.Links.{node_no}
-use Rattle.qs_world_refine.specs.NodeFaces.{face_at}
-use Rattle.qs_world_refine.specs.RiseLaws.{IsRisenFace}
-use Rattle.qs_world_refine.specs.Shows.{scene_of, sight}
-use Rattle.qs_world_refine.specs.Sights.{Sight}
-use Rattle.qs_world_refine.specs.Sound.{has_doubt, may_vote, is_list_of}
 use Rattle.qs_world_refine.proofs.LeftLogs.{untold_logged, doubt_alone, log_takes, doubt_told}
 use Rattle.qs_world_refine.proofs.Reopening.{over_logs, left_shown, reopens_lawful, reopens_placed}
 use Rattle.qs_world_refine.proofs.RisenFaces.{risen_face, lists_from}

@@ -1,25 +1,8 @@
 -- A borrower takes a loan, which no event tells of, and gives it back: Yield.
-use Rattle.std.proofs.Common.{◌≡◌, ℕ, ◌+◌, ◌==◌, ◌&&◌, Bool, true, false, List, [], ◌∷◌, length, Option, Some, None, refl, subst, ap, ◌∙◌, arith, if◌then◌else◌}
-use Rattle.std.specs.Prelude.{suc}
-use Rattle.std.specs.List.{filter}
-use Rattle.std.proofs.lemmas.Bool.Decides.{nat_tests}
-use Rattle.qs_base.specs.Order.{same_tid}
-use Rattle.qs_base.specs.declared.identifiers.ClientNo.{ClientNo}
-use Rattle.qs_base.specs.declared.identifiers.Tid.{Tid}
+use Rattle.qs_world_refine.proofs.Words.{◌≡◌, ℕ, ◌+◌, ◌==◌, ◌&&◌, Bool, true, false, List, [], ◌∷◌, length, Option, Some, None, refl, subst, ap, ◌∙◌, arith, if◌then◌else◌, suc, filter, nat_tests, same_tid, ClientNo, Tid, is_taken, is_untaken, take_first, last_taken, give_back, is_standing_loan, Lent, Participant, take, yield, is_void, enter, Work, with_doings, with_kept, Face, face, loans_at, SightGoes, sight_faced, sight_during, Sight, ShowsSight, same_Some}
 use Rattle.qs_book_journal.specs.declared.entry.Act.TheVariants as acts
-use Rattle.qs_node_kept.specs.Loans.{is_taken, is_untaken, take_first, last_taken, give_back, is_standing_loan}
-use Rattle.qs_node_kept.specs.declared.kept.Lent.{Lent}
 use Rattle.qs_ops.specs.declared.answer.Answer.TheVariants as answers
-use Rattle.qs_tm.specs.declared.participant.Participant.{Participant}
-use Rattle.qs_node_step.specs.Borrowing.{take, yield, is_void}
-use Rattle.qs_node_step.specs.Bringing.{enter}
-use Rattle.qs_node_step.specs.State.{Work, with_doings, with_kept}
-use Rattle.qs_world_refine.specs.Faces.{Face}
 use Rattle.qs_world_refine.specs.LoanLaws.{TakeGoes, GiveBackGoes}
-use Rattle.qs_world_refine.specs.NodeFaces.{face, loans_at}
-use Rattle.qs_world_refine.specs.Seen.{SightGoes, sight_faced}
-use Rattle.qs_world_refine.specs.Shows.{sight_during}
-use Rattle.qs_world_refine.specs.Sights.{Sight, ShowsSight}
 use Rattle.qs_world_refine.proofs.Alike.{SameFace, found_itself}
 use Rattle.qs_world_refine.proofs.Asking as asking
 use Rattle.qs_world_refine.proofs.During.{leaves_on, leaves_shown, local_shown, face_here, runs}
@@ -67,9 +50,6 @@ module _ (client : ClientNo) (tid : Tid) (inc : ℕ) (loan : Lent) where
   one_less [] last kept now = absurd (cc last)
   one_less (first ∷ loans) last kept now = by (last_taken client tid loans) refl (is_taken client tid first) refl last (λ same. one_less loans same kept now)
     where
-      some_same : (a b : Lent) → Some a ≡ Some b → a ≡ b
-      some_same a b e = cc e
-
       with_first : (c : Bool) → is_standing_loan tid inc first ≡ c → length (filter (is_standing_loan tid inc) loans) ≡ length (filter (is_standing_loan tid inc) (give_back client tid loans)) + 1
           → length (filter (is_standing_loan tid inc) (first ∷ loans)) ≡ length (filter (is_standing_loan tid inc) (first ∷ give_back client tid loans)) + 1
       with_first true is more = rw is (omega (arith, more))
@@ -89,7 +69,7 @@ module _ (client : ClientNo) (tid : Tid) (inc : ℕ) (loan : Lent) where
           kept_first : (b : Bool) → is_taken client tid first ≡ b → length (filter (is_standing_loan tid inc) (first ∷ loans)) ≡ length (filter (is_standing_loan tid inc) (if is_taken client tid first && false then record first { yielded = true } ∷ loans else first ∷ give_back client tid loans)) + 1
           kept_first true taken = rw taken (with_first (is_standing_loan tid inc first) refl (more same))
           kept_first false taken = rw taken (with_first (is_standing_loan tid inc first) refl (more same))
-      by None is true taken last more = rw (is, taken) (here first (some_same first loan (rw (is, taken) at last)) taken)
+      by None is true taken last more = rw (is, taken) (here first (same_Some first loan (rw (is, taken) at last)) taken)
       by None is false taken last more = absurd (let none : None ≡ Some loan = rw (is, taken) at last in cc none)
 
 pub give_back_goes : GiveBackGoes

@@ -1,3 +1,4 @@
+pub mod Words
 pub mod Aborting
 pub mod Acking
 pub mod Agreeing

@@ -1,31 +1,14 @@
 -- Whom a Commit in its log names a node that runs is to tell, and each log can be taken up whole: where a world begins, and after each move.
-use Rattle.std.proofs.Common.{◌≡◌, ℕ, ◌<◌, ◌==◌, ◌&&◌, Bool, true, false, List, [], ◌∷◌, ◌++◌, Option, Some, None, refl, sym, ap, subst, ◌∙◌, if◌then◌else◌, arith, not}
-use Rattle.std.proofs.lemmas.Bool.{eqb-true}
-use Rattle.std.proofs.lemmas.Bool.Decides.{nat_tests}
+use Rattle.qs_world_refine.proofs.Words.{◌≡◌, ℕ, ◌<◌, ◌==◌, ◌&&◌, Bool, true, false, List, [], ◌∷◌, ◌++◌, Option, Some, None, refl, sym, ap, subst, ◌∙◌, if◌then◌else◌, arith, not, eqb-true, not-true, nat_tests, CrashCause, is_crash, Record, recovery, no_kept, recovered_of, after_step, effects_of, Effects, Source, Cut, Stop, Rise, event_of, taken_by, step_with, cut_with, cut_log, log_after, stepped_host, stopped, stopped_host, reopened, risen_host, may_step, moved, are_unended, is_committed_at_home}
+use Rattle.qs_world_refine.proofs.Words.{is_earlier, is_list, is_record, is_whole_log, Host, start, each_is, list_all, list_all-append, NodeNo, Tid, AreListed, lists_others, begun, IsSteadyWorld, MachineGives, GivesAt}
 use Rattle.qs_session_channels.specs.Network.{with_at}
-use Rattle.qs_book_journal.specs.declared.entry.CrashCause.{CrashCause}
-use Rattle.qs_book_machine.specs.Clauses.{is_crash}
-use Rattle.qs_record.specs.declared.record.Record.{Record}
-use Rattle.qs_restart.specs.Recovery.{recovery}
-use Rattle.qs_node_kept.specs.Keeping.{no_kept}
-use Rattle.qs_node_step.specs.Opening.{recovered_of}
-use Rattle.qs_node_step.specs.Step.{after_step, effects_of}
-use Rattle.qs_node_step.specs.declared.event.Effects.{Effects}
 use Rattle.qs_node_step.specs.declared.event.Event.{Event}
-use Rattle.qs_world.specs.Moves.{Source, Step, Cut, Stop, Rise, Meet, event_of, taken_by, step_with, cut_with, cut_log, log_after, stepped_host, stopped, stopped_host, reopened, risen_host, may_step, moved}
-use Rattle.qs_world.specs.Openings.{are_unended, has_node, is_committed_at_home, is_earlier, is_list, is_record, is_whole_log}
-use Rattle.qs_world.specs.World.{Host, World, start}
-use Rattle.qs_world.proofs.Below.{each_is}
+use Rattle.qs_world.specs.Moves.{Step, Meet}
+use Rattle.qs_world.specs.Openings.{has_node}
+use Rattle.qs_world.specs.World.{World}
 use Rattle.qs_world_refine.specs.Listed.{IsListedWorld, StartListed, MoveListed}
-use Rattle.std.specs.List.{list_all}
-use Rattle.std.proofs.lemmas.List.Folds.{list_all-append}
-use Rattle.qs_base.specs.declared.identifiers.NodeNo.{NodeNo}
-use Rattle.qs_base.specs.declared.identifiers.Tid.{Tid}
 use Rattle.qs_record.specs.declared.record.Record.TheVariants as records
-use Rattle.qs_world_refine.specs.Lists.{AreListed, AreTaken}
-use Rattle.qs_world_refine.specs.SaidLaws.{lists_others}
-use Rattle.qs_world_refine.specs.SoundSteps.{begun}
-use Rattle.qs_world_refine.specs.Steadies.{IsSteadyWorld, MachineGives, GivesAt}
+use Rattle.qs_world_refine.specs.Lists.{AreTaken}
 use Rattle.qs_world_refine.proofs.MoveGoes.{StepMay, step_may}
 use Rattle.qs_world_refine.proofs.Moving.{up_taken}
 use Rattle.qs_world_refine.proofs.PastRecords.{EachPast, move_past, start_past}
@@ -213,12 +196,8 @@ move_listed world (Rise n stamp inc) may gives steady is = listed_with world (mo
     (λ low on. subst (λ (l : List Record). AreListed (reopened inc (recovered_of (world.hosts n).log) (world.hosts n).node) (recovery l)) (sym (all_logged low)) (opened_lists (world.hosts n).node.manager.alloc (record (world.hosts n).node.setting { inc = inc }) (world.hosts n).node.kept.saved (world.hosts n).log (steady.nodes n low).unended (is.logs n low)))
     (λ low. is.logs n low) (λ low. is.whole n low) (λ low. is.whole_logs n low) (λ low. is.others n low) (move_past world (Rise n stamp inc) may gives steady is.past) is
   where
-    off : (b : Bool) → not b ≡ true → b ≡ false
-    off true is = absurd (cc (is))
-    off false is = refl
-
     all_logged : n < world.size → (world.hosts n).log ++ (world.hosts n).waiting ≡ (world.hosts n).log
-    all_logged low = ap (λ (l : List Record). (world.hosts n).log ++ l) ((steady.sound n low).stopped (off (world.channels.up n) (and_both (not (world.channels.up n)) _ may).0)) ∙ append_nil (world.hosts n).log
+    all_logged low = ap (λ (l : List Record). (world.hosts n).log ++ l) ((steady.sound n low).stopped (not-true (world.channels.up n) (and_both (not (world.channels.up n)) _ may).0)) ∙ append_nil (world.hosts n).log
 
     still : (k : ℕ) → (k == n) ≡ false → (if k == n then true else world.channels.up k) ≡ true → world.channels.up k ≡ true
     still k apart on = rw apart at on

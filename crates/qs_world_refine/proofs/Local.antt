@@ -1,18 +1,8 @@
 -- Events that change the face of one place alone: Serve, Serve_told and Lend, and others like them.
-use Rattle.std.proofs.Common.{◌≡◌, ◌≢◌, ◌⊎◌, ℕ, ◌+◌, ◌<◌, ◌==◌, true, [], ◌∷◌, arith, refl, ◌∙◌, ap, if◌then◌else◌}
-use Rattle.std.proofs.lemmas.Bool.Decides.{nat_tests}
+use Rattle.qs_world_refine.proofs.Words.{◌≡◌, ◌≢◌, ◌⊎◌, ℕ, ◌+◌, ◌<◌, ◌==◌, true, [], ◌∷◌, arith, refl, ◌∙◌, ap, if◌then◌else◌, nat_tests, Tid, class_of, Open, Aborted, Votes, held, held_at, Serve, Serve_told, Leads, place, class_in, Face, ShowsFace, link, waiting_link, Sight, ShowsSight, Runs, served_one, lent_one, sight_faced}
 use Rattle.qs_base.specs.declared.identifiers.Class.TheVariants as classes
-use Rattle.qs_base.specs.declared.identifiers.Tid.{Tid}
-use Rattle.qs_ops.specs.Members.{class_of}
-use Rattle.qs_world_agree.specs.World.{World, Open, Aborted, OnePhase, Immediate, with_at, with_at2}
-use Rattle.qs_world_agree.specs.Guards.{Votes, held, held_at}
-use Rattle.qs_world_agree.specs.Step.{Step, Serve, Serve_told, Lend}
-use Rattle.qs_world_agree.specs.Carry.{Leads}
-use Rattle.qs_world_refine.specs.Places.{place, class_in}
-use Rattle.qs_world_refine.specs.Faces.{Face, ShowsFace}
-use Rattle.qs_world_refine.specs.Links.{link, waiting_link}
-use Rattle.qs_world_refine.specs.Sights.{Sight, ShowsSight}
-use Rattle.qs_world_refine.specs.Seen.{Runs, served_one, lent_one, sight_faced}
+use Rattle.qs_world_agree.specs.World.{World, OnePhase, Immediate, with_at, with_at2}
+use Rattle.qs_world_agree.specs.Step.{Step, Lend}
 use Rattle.qs_world_refine.proofs.EventFaces.{face_serve, face_serve_told, face_lend}
 use Rattle.qs_world_refine.proofs.Streams.{Stays, still, stays_on}
 use Rattle.qs_world_refine.proofs.Still.{SameStage, stage_still, stage_on, SameLogs, log_still, logs_on}

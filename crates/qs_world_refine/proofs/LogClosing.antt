@@ -1,15 +1,9 @@
 -- End and Aborted reach the disk: End and Abort_logged.
-use Rattle.std.proofs.Common.{◌≡◌, ◌≢◌, ℕ, ◌<◌, Bool, true, false, [], ◌∷◌, arith, refl, sym, ◌∙◌, ap}
-use Rattle.std.proofs.lemmas.Bool.Decides.{nat_tests}
+use Rattle.qs_world_refine.proofs.Words.{◌≡◌, ◌≢◌, ℕ, ◌<◌, Bool, true, false, [], ◌∷◌, arith, refl, sym, ◌∙◌, ap, nat_tests, Recovery, found_record, Committed, Aborted, End, Abort_logged, Face, ShowsFace, link, waiting_link, place, ShowsLog, is_in_doubt}
 use Rattle.qs_record.specs.declared.record.Record.TheVariants as records
-use Rattle.qs_restart.specs.Recovery.{Recovery, found_record}
-use Rattle.qs_world_agree.specs.World.{World, Committed, Aborted, with_at}
-use Rattle.qs_world_agree.specs.Step.{Step, End, Abort_logged}
+use Rattle.qs_world_agree.specs.World.{World, with_at}
+use Rattle.qs_world_agree.specs.Step.{Step}
 use Rattle.qs_world_refine.specs.ClosingLaws.{sight_recorded, EndLoggedGoes, AbortLoggedGoes}
-use Rattle.qs_world_refine.specs.Faces.{Face, ShowsFace}
-use Rattle.qs_world_refine.specs.Links.{link, waiting_link}
-use Rattle.qs_world_refine.specs.Places.{place}
-use Rattle.qs_world_refine.specs.Sights.{ShowsLog, is_in_doubt}
 use Rattle.qs_world_refine.proofs.CommittingAlone.{end_face, end_links, end_waiting}
 use Rattle.qs_world_refine.proofs.Facts.{invariant}
 use Rattle.qs_world_refine.proofs.LogEnds.{doubt_ended, untold_ended}

@@ -1,10 +1,6 @@
 -- A log in which a transaction's records are ended says nothing of it any more but that it is committed.
-use Rattle.std.proofs.Common.{◌≡◌, ℕ, ◌&&◌, not, Bool, true, false, List, [], ◌∷◌, refl, if◌then◌else◌}
-use Rattle.std.specs.List.{filter, list_any}
-use Rattle.qs_base.specs.Order.{same_tid}
-use Rattle.qs_base.specs.declared.identifiers.Tid.{Tid}
-use Rattle.qs_restart.specs.Recovery.{Prepared, Untold, is_of, is_vote_of, is_untold_of}
-use Rattle.qs_world_refine.specs.Sights.{server_no}
+use Rattle.qs_world_refine.proofs.Words.{◌≡◌, ℕ, ◌&&◌, not, Bool, true, false, List, [], ◌∷◌, refl, if◌then◌else◌, filter, list_any, same_tid, Tid, Prepared, Untold, is_vote_of, is_untold_of, server_no}
+use Rattle.qs_restart.specs.Recovery.{is_of}
 
 -- nothing is in doubt
 pub doubt_ended : (tid : Tid) (s : ℕ) (votes : List Prepared) → list_any (λ (v : Prepared). is_vote_of tid (server_no s) v && not v.committed) (filter (λ vote. not (is_of tid vote)) votes) ≡ false

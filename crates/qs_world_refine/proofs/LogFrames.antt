@@ -1,16 +1,7 @@
 -- A record of one transaction changes nothing of what a log says of another one.
-use Rattle.std.proofs.Common.{◌≡◌, ℕ, ◌==◌, ◌&&◌, ◌||◌, not, Bool, true, false, List, [], ◌∷◌, ◌++◌, map, refl, sym, ap, ◌∙◌, arith, if◌then◌else◌}
-use Rattle.std.specs.List.{filter, list_any, flat_map}
-use Rattle.std.proofs.lemmas.Bool.Decides.{nat_tests}
-use Rattle.qs_base.specs.Order.{same_tid}
-use Rattle.qs_base.specs.declared.identifiers.NodeNo.{NodeNo}
-use Rattle.qs_base.specs.declared.identifiers.ServerNo.{ServerNo}
-use Rattle.qs_base.specs.declared.identifiers.Tid.{Tid}
-use Rattle.qs_ops.specs.declared.operation.Op.{Op}
-use Rattle.qs_record.specs.declared.record.Record.{Record}
+use Rattle.qs_world_refine.proofs.Words.{◌≡◌, ℕ, ◌==◌, ◌&&◌, ◌||◌, not, Bool, true, false, List, [], ◌∷◌, ◌++◌, map, refl, sym, ap, ◌∙◌, arith, if◌then◌else◌, filter, list_any, flat_map, nat_tests, same_tid, NodeNo, ServerNo, Tid, Op, Record, Prepared, Untold, Recovery, found_record, is_vote_of, is_untold_of, mark_committed, ended, names_transaction, server_no}
 use Rattle.qs_record.specs.declared.record.Record.TheVariants as records
-use Rattle.qs_restart.specs.Recovery.{Prepared, Untold, Recovery, found_record, is_vote_of, is_of, is_untold_of, mark_committed, ended, names_transaction}
-use Rattle.qs_world_refine.specs.Sights.{server_no}
+use Rattle.qs_restart.specs.Recovery.{is_of}
 use Rattle.qs_world_refine.proofs.Alike.{SameFound}
 use Rattle.qs_world_refine.proofs.Voting.{put_there}
 

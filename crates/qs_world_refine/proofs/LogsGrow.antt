@@ -1,26 +1,12 @@
 -- Over a run each log only grows, by records that name transactions.
-use Rattle.std.proofs.Common.{◌≡◌, ◌⊎◌, ℕ, ◌<◌, ◌==◌, ◌++◌, inl, inr, Bool, true, false, List, [], ◌∷◌, Option, Some, None, refl, sym, ap, subst, ◌∙◌, if◌then◌else◌}
-use Rattle.std.specs.List.{list_all}
-use Rattle.std.proofs.lemmas.Bool.{eqb-true}
-use Rattle.std.proofs.lemmas.List.Folds.{list_all-append}
-use Rattle.qs_base.specs.declared.identifiers.Tid.{Tid}
+use Rattle.qs_world_refine.proofs.Words.{◌≡◌, ◌⊎◌, ℕ, ◌<◌, ◌==◌, ◌++◌, inl, inr, Bool, true, false, List, [], ◌∷◌, Option, Some, None, refl, sym, ap, subst, ◌∙◌, if◌then◌else◌, list_all, eqb-true, list_all-append, Tid, is_crash, Record, names_transaction, tid_of, recovered_of, after_step, effects_of, step_work, Effects, Move, Source, Cut, Stop, Rise, event_of, cut_log, cut_with, may_move, may_step, moved, risen_host, step_with, stepped_host, stopped, stopped_host, Host, Opening, start}
+use Rattle.qs_world_refine.proofs.Words.{IsShownWorld, begun, GivesAt, IsSteadyWorld, MachineGives, stage_of, Stage, IsTidy, is_tidy_record}
 use Rattle.qs_session_channels.specs.Network.{with_at}
-use Rattle.qs_book_machine.specs.Clauses.{is_crash}
-use Rattle.qs_record.specs.declared.record.Record.{Record}
-use Rattle.qs_restart.specs.Recovery.{names_transaction}
-use Rattle.qs_node_step.specs.Bringing.{tid_of}
-use Rattle.qs_node_step.specs.Opening.{recovered_of}
-use Rattle.qs_node_step.specs.Step.{after_step, effects_of, step_work}
-use Rattle.qs_node_step.specs.declared.event.Effects.{Effects}
 use Rattle.qs_node_step.specs.declared.event.Event.{Event}
-use Rattle.qs_world.specs.Moves.{Move, Source, Step, Cut, Stop, Rise, Meet, event_of, cut_log, cut_with, may_move, may_step, moved, risen_host, step_with, stepped_host, stopped, stopped_host}
+use Rattle.qs_world.specs.Moves.{Step, Meet}
 use Rattle.qs_world.specs.Runs.{Run}
-use Rattle.qs_world.specs.World.{Host, Opening, World, start}
+use Rattle.qs_world.specs.World.{World}
 use Rattle.qs_world_refine.specs.EveryRun.{EveryLogGrows, GrewFrom, is_named_record}
-use Rattle.qs_world_refine.specs.ShownWorlds.{IsShownWorld}
-use Rattle.qs_world_refine.specs.SoundSteps.{begun}
-use Rattle.qs_world_refine.specs.Steadies.{GivesAt, IsSteadyWorld, MachineGives, stage_of}
-use Rattle.qs_world_refine.specs.Tidy.{Stage, IsTidy, is_tidy_record}
 use Rattle.qs_world_refine.proofs.MoveGoes.{StepMay, step_may}
 use Rattle.qs_world_refine.proofs.PastRecords.{record_fits}
 use Rattle.qs_world_refine.proofs.SaysOn.{append_three}

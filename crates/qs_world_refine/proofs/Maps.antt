@@ -1,10 +1,5 @@
 -- What is found in a map after a change.
-use Rattle.std.proofs.Common.{◌≡◌, Bool, true, false, List, [], ◌∷◌, Option, Some, None, refl, sym, ap, subst}
-use Rattle.std.specs.Map.{lookup, set_value}
-use Rattle.std.specs.BTreeMap.{insert_entry, is_at}
-use Rattle.std.specs.declared.cmp.Ordering.{Ordering}
-use Rattle.std.specs.declared.cmp.Ordering.TheVariants.{Less, Equal, Greater}
-use Rattle.qs_tm.specs.Manager.{changed_value}
+use Rattle.qs_world_refine.proofs.Words.{◌≡◌, Bool, true, false, List, [], ◌∷◌, Option, Some, None, refl, sym, ap, subst, lookup, set_value, insert_entry, is_at, Ordering, Less, Equal, Greater, changed_value}
 
 module _ {K X : Type 0} (p : K → Bool) where
   pub lookup_set : (es : List (K × X)) (v w : X) → lookup p es ≡ Some v → lookup p (set_value p es w) ≡ Some w

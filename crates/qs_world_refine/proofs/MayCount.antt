@@ -1,22 +1,7 @@
 -- Where what waits may be served, the requests of each transaction that wait can be counted.
-use Rattle.std.proofs.Common.{◌≡◌, ℕ, ◌+◌, ◌≤◌, Bool, true, false, List, [], ◌∷◌, Some, None, refl, sym, ap, subst, arith, nat_le, if◌then◌else◌}
-use Rattle.std.specs.List.{list_all}
-use Rattle.std.specs.BTreeMap.{is_at}
-use Rattle.std.proofs.lemmas.Bool.Decides.{nat_tests}
-use Rattle.qs_base.specs.Order.{same_tid}
-use Rattle.qs_base.specs.declared.identifiers.ServerNo.{ServerNo}
-use Rattle.qs_base.specs.declared.identifiers.Tid.{Tid}
-use Rattle.qs_engage.specs.Engage.{last_number}
-use Rattle.qs_ipc.specs.Ipc.{IpcValue, queue_at, server_cmp}
-use Rattle.qs_ipc.specs.Queue.{QueueValue, count_of}
-use Rattle.qs_ipc.specs.declared.delivery.Delivery.{Delivery}
+use Rattle.qs_world_refine.proofs.Words.{◌≡◌, ℕ, ◌+◌, ◌≤◌, Bool, true, false, List, [], ◌∷◌, Some, None, refl, sym, ap, subst, arith, nat_le, if◌then◌else◌, list_all, is_at, nat_tests, same_tid, ServerNo, Tid, last_number, IpcValue, queue_at, server_cmp, QueueValue, count_of, Delivery, member_of, Participant, NodeValue, work_on, Queues, CanCount, server_no}
 use Rattle.qs_tm.specs.Manager as tm
-use Rattle.qs_tm.specs.Participant.{member_of}
-use Rattle.qs_tm.specs.declared.participant.Participant.{Participant}
-use Rattle.qs_node_step.specs.State.{NodeValue, work_on}
-use Rattle.qs_world.specs.Moves.{Queues, is_counted, are_counted, may_serve}
-use Rattle.qs_world_refine.specs.ServeWhole.{CanCount}
-use Rattle.qs_world_refine.specs.Sights.{server_no}
+use Rattle.qs_world.specs.Moves.{is_counted, are_counted, may_serve}
 use Rattle.qs_world_refine.proofs.SoundKnown.{same_is}
 use Rattle.qs_world_refine.proofs.SoundParts.{and_both}
 

@@ -1,23 +1,15 @@
 -- A node gets to know a first incarnation of another one, and what waited is put for it: Meet.
-use Rattle.std.proofs.Common.{◌≡◌, ◌≢◌, ℕ, ◌+◌, ◌<◌, ◌≤◌, ◌==◌, ◌&&◌, Bool, true, false, List, [], ◌∷◌, arith, refl, sym, ◌∙◌, ap, if◌then◌else◌}
-use Rattle.std.proofs.lemmas.Bool.{eqb-true}
-use Rattle.std.proofs.lemmas.Bool.Decides.{nat_tests}
+use Rattle.qs_world_refine.proofs.Words.{◌≡◌, ◌≢◌, ℕ, ◌+◌, ◌<◌, ◌≤◌, ◌==◌, ◌&&◌, Bool, true, false, List, [], ◌∷◌, arith, refl, sym, ◌∙◌, ap, if◌then◌else◌, eqb-true, nat_tests, IsLawful, Tid, Face, ShowsFace, ShowsOpen, Said, Requested, Closed, Outcome_told, Taken_in, Inquired, Link, link, waiting_link, IsLink, met_at, place, known_place, Runs, Sight, ShowsSight}
 use Rattle.qs_world_agree.specs.World.{World, with_at2}
-use Rattle.qs_world_agree.specs.Carry.{IsLawful}
 use Rattle.qs_world_agree.specs.Step.{Step, Meet}
-use Rattle.qs_base.specs.declared.identifiers.Tid.{Tid}
-use Rattle.qs_world_refine.specs.Faces.{Face, ShowsFace, ShowsOpen}
-use Rattle.qs_world_refine.specs.Links.{Said, Requested, Closed, Outcome_told, Taken_in, Inquired, Link, link, waiting_link, IsLink}
-use Rattle.qs_world_refine.specs.MeetingLaws.{MeetGoes, met_at}
-use Rattle.qs_world_refine.specs.Places.{place, known_place}
-use Rattle.qs_world_refine.specs.Seen.{Runs}
-use Rattle.qs_world_refine.specs.Sights.{Sight, ShowsSight}
+use Rattle.qs_world_refine.specs.MeetingLaws.{MeetGoes}
 use Rattle.qs_world_refine.proofs.Around.{links_around, known_is, place_some}
 use Rattle.qs_world_refine.proofs.Facts.{invariant}
 use Rattle.qs_world_refine.proofs.FreshRuns.{fresh}
 use Rattle.qs_world_refine.proofs.Same.{same_place}
 use Rattle.qs_world_refine.proofs.Still.{log_still}
 use Rattle.qs_world_refine.proofs.Streams.{Stays, still, within}
+use Rattle.qs_base_lemmas.proofs.Tests.{le_zero}
 
 abbrev after_meet : ℕ → ℕ → World → World
 after_meet p q old = met_at old p q
@@ -138,15 +130,12 @@ meet tid x w n m first lawful shown at m_in other unknown some begun apart = rec
         less : (a : ℕ) → a ≡ 0 → a < place m first
         less a e = omega (arith, e, some)
 
-    zero_is : (a b : ℕ) → a ≤ b → b ≡ 0 → a ≡ 0
-    zero_is a b c d = omega (arith, c, d)
-
     untouched : Untouched p q w
     untouched = record {
-      received = zero_is (w.received q p) (w.posted p q) ((invariant w lawful).counts.received_posted q p) ((invariant w lawful).counts.posted_known p q below);
+      received = le_zero (w.received q p) (w.posted p q) ((invariant w lawful).counts.received_posted q p) ((invariant w lawful).counts.posted_known p q below);
       closers = (fresh w lawful p q).none below;
-      taken = zero_is (w.closers_taken q p) (w.closers p q) (fresh w lawful p q).taken ((fresh w lawful p q).none below);
-      inquiry_taken = zero_is (w.inquiry_taken q p) (w.inquiry_put p q) (fresh w lawful p q).inquiry_taken ((fresh w lawful p q).inquiry_none below);
+      taken = le_zero (w.closers_taken q p) (w.closers p q) (fresh w lawful p q).taken ((fresh w lawful p q).none below);
+      inquiry_taken = le_zero (w.inquiry_taken q p) (w.inquiry_put p q) (fresh w lawful p q).inquiry_taken ((fresh w lawful p q).inquiry_none below);
       last = here.last_new q below;
     }
 

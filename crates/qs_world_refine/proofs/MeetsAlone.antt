@@ -1,15 +1,15 @@
 -- A first meeting is one event of the machine: what its guard tests stands, and nothing else happens.
-use Rattle.std.proofs.Common.{◌≡◌, ◌≢◌, ℕ, ◌<◌, ◌≤◌, ◌==◌, ◌&&◌, not, Bool, true, false, refl, arith, nat_lt, nat_le}
-use Rattle.std.proofs.lemmas.Bool.{eqb-true}
-use Rattle.std.proofs.lemmas.Bool.Decides.{nat_tests}
-use Rattle.qs_world.specs.Moves.{Meet, has_begun as has_risen, is_later, may_move}
-use Rattle.qs_world.specs.World.{World, known_of}
+use Rattle.qs_world_refine.proofs.Words.{◌≡◌, ℕ, ◌<◌, ◌≤◌, ◌==◌, ◌&&◌, not, true, false, nat_lt, nat_le, eqb-true, not-true, eqb-false, is_later, may_move, known_of}
+use Rattle.std.proofs.lemmas.Bool.{ltb-true, leb-true}
+use Rattle.qs_world.specs.Moves.{Meet, has_begun as has_risen}
+use Rattle.qs_world.specs.World.{World}
 use Rattle.qs_world_refine.specs.MeetLaws.{MeetGoesAlone}
 use Rattle.qs_world_refine.proofs.EachMoveGoes.{meet_goes_on, meet_next_is}
 use Rattle.qs_world_refine.proofs.MoveGoes.{later_in}
 use Rattle.qs_world_refine.proofs.ShownMoves.{steady, home_in_run, messages_fit}
 use Rattle.qs_world_refine.proofs.SoundParts.{and_both}
 use Rattle.qs_world_refine.proofs.SteadyFrom.{begun_low}
+use Rattle.qs_base_lemmas.proofs.Tests.{ltb_some}
 
 -- what may be: two other nodes of the run, of which the first runs and knows nothing of the second
 pub record Meets (world : World) (n m first : ℕ) : Type 0 where
@@ -25,26 +25,13 @@ pub meets_may : (world : World) (n stamp m first : ℕ) → may_move world (Meet
 meets_may world n stamp m first may = record {
   n_in = later_in world n stamp order.0;
   on = runs.0;
-  apart = off (m == n) others.0;
-  m_in = low m world.size others.1;
+  apart = not-true (m == n) others.0;
+  m_in = ltb-true m world.size others.1;
   unknown = eqb-true (known_of world n m) 0 known.0;
-  some = least first risen.0;
-  begun = at_most first (world.channels.inc m) (and_both (nat_le first (world.channels.inc m)) _ risen.1).0;
+  some = ltb_some first risen.0;
+  begun = leb-true first (world.channels.inc m) (and_both (nat_le first (world.channels.inc m)) _ risen.1).0;
 }
   where
-    off : (b : Bool) → not b ≡ true → b ≡ false
-    off true is = absurd (cc is)
-    off false is = refl
-
-    low : (a b : ℕ) → nat_lt a b ≡ true → a < b
-    low a b is = grind (arith, nat_tests, is)
-
-    least : (a : ℕ) → nat_lt 0 a ≡ true → 1 ≤ a
-    least a is = grind (arith, nat_tests, is)
-
-    at_most : (a b : ℕ) → nat_le a b ≡ true → a ≤ b
-    at_most a b is = grind (arith, nat_tests, is)
-
     runs : (world.channels.up n ≡ true) × ((is_later world n stamp && ((not (m == n) && nat_lt m world.size) && ((known_of world n m == 0) && (nat_lt 0 first && has_risen world stamp m first)))) ≡ true)
     runs = and_both (world.channels.up n) _ may
 
@@ -65,12 +52,9 @@ meets_may world n stamp m first may = record {
 
 pub meet_goes_alone : MeetGoesAlone
 meet_goes_alone tid world n stamp m first w may is begun all = record {
-  goes = meet_goes_on tid world w (steady world is) (messages_fit world is) (home_in_run world is tid begun) (begun_low world tid begun) all n stamp m first its.n_in its.on its.m_in (other m n its.apart) its.unknown its.some its.begun;
-  alone = meet_next_is tid world w (steady world is) (messages_fit world is) (home_in_run world is tid begun) (begun_low world tid begun) all n stamp m first its.n_in its.on its.m_in (other m n its.apart) its.unknown its.some its.begun;
+  goes = meet_goes_on tid world w (steady world is) (messages_fit world is) (home_in_run world is tid begun) (begun_low world tid begun) all n stamp m first its.n_in its.on its.m_in (eqb-false m n its.apart) its.unknown its.some its.begun;
+  alone = meet_next_is tid world w (steady world is) (messages_fit world is) (home_in_run world is tid begun) (begun_low world tid begun) all n stamp m first its.n_in its.on its.m_in (eqb-false m n its.apart) its.unknown its.some its.begun;
 }
   where
     its : Meets world n m first
     its = meets_may world n stamp m first may
-
-    other : (a b : ℕ) → (a == b) ≡ false → a ≢ b
-    other a b off same = grind (arith, nat_tests, off, same)

@@ -1,24 +1,8 @@
 -- A message comes, whatever it is, and what stood of a transaction stands.
-use Rattle.std.proofs.Common.{◌≡◌, ◌≢◌, ℕ, ◌==◌, Bool, true, false, List, refl, sym, subst, ◌∙◌, arith}
-use Rattle.std.proofs.lemmas.Bool.{eqb-true}
-use Rattle.std.proofs.lemmas.Bool.Decides.{nat_tests}
-use Rattle.qs_base.specs.Order.{same_tid}
-use Rattle.qs_base.specs.declared.identifiers.NodeNo.{NodeNo}
-use Rattle.qs_base.specs.declared.identifiers.Tid.{Tid}
-use Rattle.qs_packet.specs.declared.message.Message.{Message}
+use Rattle.qs_world_refine.proofs.Words.{◌≡◌, ◌≢◌, ℕ, ◌==◌, Bool, true, false, List, refl, sym, subst, ◌∙◌, eqb-true, same_tid, NodeNo, Tid, Message, Work, message_came, node_no, IsForeign, KeepsPast, Scene, handed, FitsMessage, Stands, GoesOn, IsNext, TakesTold, eqb-self}
 use Rattle.qs_packet.specs.declared.message.Message.TheVariants as messages
-use Rattle.qs_node_step.specs.State.{Work}
-use Rattle.qs_node_step.specs.Step.{message_came}
 use Rattle.qs_world_agree.specs.World.{World}
 use Rattle.qs_world_refine.specs.CameWhole.{MayCome, MessageStands}
-use Rattle.qs_world_refine.specs.Links.{node_no}
-use Rattle.qs_world_refine.specs.Messages.{IsForeign}
-use Rattle.qs_world_refine.specs.OutcomeWhole.{KeepsPast}
-use Rattle.qs_world_refine.specs.Shows.{Scene, handed}
-use Rattle.qs_world_refine.specs.SoundSteps.{FitsMessage}
-use Rattle.qs_world_refine.specs.Stands.{Stands, GoesOn}
-use Rattle.qs_world_refine.specs.Steps.{IsNext}
-use Rattle.qs_world_refine.specs.ToldWhole.{TakesTold}
 use Rattle.qs_world_refine.proofs.CloserStands.{covered_stands, voted_yes_stands}
 use Rattle.qs_world_refine.proofs.InquireStands.{inquire_stands}
 use Rattle.qs_world_refine.proofs.MessageStands.{answered_stands, ask_vote_stands, foreign_stands, refusal_stands}
@@ -43,10 +27,7 @@ module _ (t : Tid) (scene : Scene) (n m i : ℕ) (rest : List Message) (work : W
   told_own further takes next fits = by (n == t.home.0) refl
     where
       apart : (a b : ℕ) → (a == b) ≡ false → b ≢ a
-      apart a b off same = absurd (cc (sym (itself a) ∙ subst (λ (k : ℕ). (a == k) ≡ false) same off))
-        where
-          itself : (k : ℕ) → (k == k) ≡ true
-          itself k = grind (arith, nat_tests)
+      apart a b off same = absurd (cc (sym (eqb-self a) ∙ subst (λ (k : ℕ). (a == k) ≡ false) same off))
 
       at_home : n ≡ t.home.0 → GoesOn t (handed scene m i n rest) n (message_came (node_no m) (messages.Told t further) work) w
       at_home e = subst (λ (k : ℕ). IsNext scene k m i (messages.Told t further) rest → Stands t scene k work w → GoesOn t (handed scene m i k rest) k (message_came (node_no m) (messages.Told t further) work) w) (sym e)

@@ -1,40 +1,19 @@
 -- What comes to a node about a transaction may come: what holds of all nodes and channels, and what shows the transaction, give all that its coming asks.
-use Rattle.std.proofs.Common.{◌≡◌, ◌≢◌, ℕ, ◌+◌, ◌≤◌, ◌==◌, ◌||◌, not, Bool, true, false, List, [], ◌∷◌, length, Option, Some, None, refl, sym, ap, subst, ◌∙◌, arith, if◌then◌else◌}
-use Rattle.std.specs.Prelude.{unwrap_or}
-use Rattle.std.specs.List.{list_any, list_all, filter}
-use Rattle.std.specs.Map.{lookup}
-use Rattle.std.specs.BTreeMap.{is_at}
-use Rattle.std.proofs.lemmas.Bool.Decides.{nat_tests}
+use Rattle.qs_world_refine.proofs.Words.{◌≡◌, ◌≢◌, ℕ, ◌+◌, ◌≤◌, ◌==◌, ◌||◌, not, Bool, true, false, List, [], ◌∷◌, length, Option, Some, None, refl, sym, ap, subst, ◌∙◌, arith, if◌then◌else◌, unwrap_or, list_any, list_all, filter, lookup, is_at, nat_tests, ServerNo, Tid, IpcValue, queue_at, server_cmp, waits_in, QueueValue, no_queue, count_of, Delivery, is_standing_loan, Lent, is_abort, is_undecided, Participant, is_lent, Work, part_of, Open, Committed, Aborted, Face, ShowsFace, node_no, face}
+use Rattle.qs_world_refine.proofs.Words.{face_at, outcome_seen, AgreesWith, Scene, server_no, may_be_served, Stands, are_queues_apart, none_is}
 use Rattle.qs_base.specs.declared.identifiers.Outcome.{Outcome}
 use Rattle.qs_base.specs.declared.identifiers.Outcome.TheVariants as outcomes
-use Rattle.qs_base.specs.declared.identifiers.ServerNo.{ServerNo}
-use Rattle.qs_base.specs.declared.identifiers.Tid.{Tid}
 use Rattle.qs_ipc.specs.Ipc as ipc
-use Rattle.qs_ipc.specs.Ipc.{IpcValue, queue_at, server_cmp, waits_in}
-use Rattle.qs_ipc.specs.Queue.{QueueValue, no_queue, count_of, is_of}
-use Rattle.qs_ipc.specs.declared.delivery.Delivery.{Delivery}
-use Rattle.qs_node_kept.specs.Loans.{is_standing_loan}
-use Rattle.qs_node_kept.specs.declared.kept.Lent.{Lent}
+use Rattle.qs_ipc.specs.Queue.{is_of}
 use Rattle.qs_tm.specs.Manager as tm
-use Rattle.qs_tm.specs.Outcomes.{is_abort}
-use Rattle.qs_tm.specs.Participant.{is_undecided}
-use Rattle.qs_tm.specs.declared.participant.Participant.{Participant}
-use Rattle.qs_node_step.specs.Settling.{is_lent}
-use Rattle.qs_node_step.specs.State.{Work, part_of}
-use Rattle.qs_world_agree.specs.World.{World, Open, Committed, Aborted}
-use Rattle.qs_world_refine.specs.Faces.{Face, ShowsFace}
-use Rattle.qs_world_refine.specs.Links.{node_no}
-use Rattle.qs_world_refine.specs.NodeFaces.{face, face_at, waiting_at, outcome_seen}
-use Rattle.qs_world_refine.specs.OutcomeWhole.{AgreesWith}
-use Rattle.qs_world_refine.specs.Shows.{Scene}
-use Rattle.qs_world_refine.specs.Sights.{server_no}
-use Rattle.qs_world_refine.specs.Sound.{may_be_served}
+use Rattle.qs_world_agree.specs.World.{World}
+use Rattle.qs_world_refine.specs.NodeFaces.{waiting_at}
 use Rattle.qs_world_refine.specs.SoundSteps.{AnswersFor}
-use Rattle.qs_world_refine.specs.Stands.{Stands}
-use Rattle.qs_world_refine.specs.Steady.{is_other_server, are_queues_apart}
+use Rattle.qs_world_refine.specs.Steady.{is_other_server}
 use Rattle.qs_world_refine.proofs.Heads.{Learnt, shown_here, aborted_cell, face_is}
 use Rattle.qs_world_refine.proofs.SoundKnown.{nothing_waits, nothing_lent}
 use Rattle.qs_world_refine.proofs.SoundParts.{and_both}
+use Rattle.qs_base_lemmas.proofs.Tests.{next_not_zero}
 
 -- ---- nothing waits where no queue has a request of it
 
@@ -43,10 +22,7 @@ any_none t [] none = refl
 any_none t (d ∷ rest) none = by (is_of t d) none (any_none t rest)
   where
     by : (b : Bool) → (if b then count_of t rest + 1 else count_of t rest) ≡ 0 → (count_of t rest ≡ 0 → list_any (is_of t) rest ≡ false) → (b || list_any (is_of t) rest) ≡ false
-    by true some more = absurd (positive (count_of t rest) some)
-      where
-        positive : (k : ℕ) → k + 1 ≡ 0 → ⊥
-        positive k is = omega (arith, is)
+    by true some more = absurd (next_not_zero (count_of t rest) some)
     by false none more = more none
 
 -- each queue is the one that is found
@@ -97,11 +73,8 @@ loans_none : (t : Tid) (inc : ℕ) (loans : List Lent) → length (filter (is_st
 loans_none t inc [] none = refl
 loans_none t inc (loan ∷ rest) none = by (is_standing_loan t inc loan) none (loans_none t inc rest)
   where
-    positive : (k : ℕ) → k + 1 ≡ 0 → ⊥
-    positive k is = omega (arith, is)
-
     by : (b : Bool) → length (if b then loan ∷ filter (is_standing_loan t inc) rest else filter (is_standing_loan t inc) rest) ≡ 0 → (length (filter (is_standing_loan t inc) rest) ≡ 0 → list_any (is_standing_loan t inc) rest ≡ false) → (b || list_any (is_standing_loan t inc) rest) ≡ false
-    by true some more = absurd (positive (length (filter (is_standing_loan t inc) rest)) (omega (arith, some)))
+    by true some more = absurd (next_not_zero (length (filter (is_standing_loan t inc) rest)) (omega (arith, some)))
     by false none more = more none
 
 module _ (t : Tid) (scene : Scene) (n : ℕ) (work : Work) (w : World) (is : Stands t scene n work w) (learnt : Learnt t work w) where
@@ -169,10 +142,6 @@ module _ (t : Tid) (scene : Scene) (n : ℕ) (work : Work) (w : World) (is : Sta
 
       face_same : face_at work.node t ≡ face work.node t part
       face_same = face_is t scene n work w is part known
-
-      none_is : (o : Option Outcome) → Rattle.std.specs.Prelude.is_none o ≡ true → o ≡ None
-      none_is None so = refl
-      none_is (Some outcome) so = absurd (cc (so))
 
       open_face : (face_at work.node t).outcome ≢ Committed
       open_face committed = let its : (face_at work.node t).outcome ≡ Open = ap (λ (f : Face). f.outcome) face_same ∙ ap (λ (o : Option Outcome). outcome_seen o (part.engage.home || part.involved)) (none_is part.outcome undecided) in

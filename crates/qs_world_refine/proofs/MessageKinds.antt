@@ -1,34 +1,14 @@
 -- A message that comes leaves each server of its kind.
-use Rattle.std.proofs.Common.{ℕ, ◌&&◌, not, Bool, true, false, List, [], Option, Some, None, if◌then◌else◌}
-use Rattle.std.specs.List.{list_any}
-use Rattle.qs_base.specs.declared.identifiers.Member.{Member}
-use Rattle.qs_base.specs.declared.identifiers.NodeNo.{NodeNo}
+use Rattle.qs_world_refine.proofs.Words.{ℕ, ◌&&◌, not, Bool, true, false, List, [], Option, Some, None, if◌then◌else◌, list_any, Member, NodeNo, Tid, uncovered, is_node, listed, same_node, Engaged, is_for, Delivery, Cause, Op, Message, is_undecided, Participant, is_none, inquiry_came, answer_unknown, answer_known, was_committed, ask_came, asked_by, become_asked, count, closer_came, block, refusal_came, pass_unknown, send, give_notices, label_at, put_label, learn_label, cover_from, engage}
+use Rattle.qs_world_refine.proofs.Words.{is_dropped, take_in, request_came, Work, here, part_of, with_manager, with_queues, message_came, names_at, record_learnt, learn, learn_unknown, take_outcome, tell_came, end_told, take_names, keep_abort_told, is_other_node, told_unknown, told_known, told_at_home, told_came}
 use Rattle.qs_base.specs.declared.identifiers.Outcome.{Outcome}
 use Rattle.qs_base.specs.declared.identifiers.Outcome.TheVariants as outcomes
-use Rattle.qs_base.specs.declared.identifiers.Tid.{Tid}
-use Rattle.qs_engage.specs.Engage.{uncovered, is_node}
-use Rattle.qs_engage.specs.Nodes.{listed, same_node}
-use Rattle.qs_engage.specs.declared.engage.Engaged.{Engaged}
 use Rattle.qs_engage.specs.declared.engage.Engaged.TheVariants as engagements
 use Rattle.qs_ipc.specs.Ipc as ipc
-use Rattle.qs_ipc.specs.Queue.{is_for}
-use Rattle.qs_ipc.specs.declared.delivery.Delivery.{Delivery}
-use Rattle.qs_ops.specs.declared.answer.Cause.{Cause}
-use Rattle.qs_ops.specs.declared.operation.Op.{Op}
-use Rattle.qs_packet.specs.declared.message.Message.{Message}
 use Rattle.qs_packet.specs.declared.message.Message.TheVariants as messages
 use Rattle.qs_tm.specs.Manager as tm
-use Rattle.qs_tm.specs.Participant.{is_undecided}
-use Rattle.qs_tm.specs.declared.participant.Participant.{Participant}
-use Rattle.std.specs.Prelude.{is_none}
-use Rattle.qs_node_step.specs.Answering.{inquiry_came, inquiry_at_home, answer_unknown, answer_known, was_committed}
-use Rattle.qs_node_step.specs.Asking.{ask_came, asked_by, become_asked, count, closer_came, block, refusal_came, pass_unknown}
-use Rattle.qs_node_step.specs.Bringing.{send}
-use Rattle.qs_node_step.specs.Deciding.{give_notices}
-use Rattle.qs_node_step.specs.Serving.{label_at, put_label, learn_label, met, cover_from, engage, is_dropped, take_in, request_came}
-use Rattle.qs_node_step.specs.State.{Work, here, part_of, with_manager, with_queues}
-use Rattle.qs_node_step.specs.Step.{message_came}
-use Rattle.qs_node_step.specs.Telling.{names_at, record_learnt, learn, learn_unknown, take_outcome, tell_came, end_told, take_names, keep_abort_told, is_other_node, told_unknown, told_known, told_at_home, told_came}
+use Rattle.qs_node_step.specs.Answering.{inquiry_at_home}
+use Rattle.qs_node_step.specs.Serving.{met}
 use Rattle.qs_world_refine.proofs.KindsKept.{KeepsKinds, send_kinds, sends_kinds, log_kinds, notices_kinds}
 use Rattle.qs_world_refine.proofs.ServeFrames.{reply_kinds}
 

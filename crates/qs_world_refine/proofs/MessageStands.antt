@@ -1,38 +1,12 @@
 -- A message that comes leaves standing what stood of a transaction, where it is about another one, or says nothing to the machine.
-use Rattle.std.proofs.Common.{◌≡◌, ℕ, ◌<◌, ◌==◌, ◌&&◌, not, nat_lt, Bool, true, false, List, [], Option, Some, None, refl, sym, subst, ap, ◌∙◌, arith, if◌then◌else◌}
-use Rattle.std.specs.Prelude.{is_none}
-use Rattle.std.specs.BTreeMap.{is_at}
-use Rattle.std.proofs.lemmas.Bool.Decides.{nat_tests}
-use Rattle.qs_base.specs.Order.{tid_cmp}
-use Rattle.qs_base.specs.declared.identifiers.Member.{Member}
-use Rattle.qs_base.specs.declared.identifiers.NodeNo.{NodeNo}
+use Rattle.qs_world_refine.proofs.Words.{◌≡◌, ℕ, ◌&&◌, not, nat_lt, Bool, true, false, List, [], Option, Some, None, refl, sym, subst, ap, ◌∙◌, if◌then◌else◌, is_none, is_at, tid_cmp, Member, NodeNo, Tid, uncovered, is_node, listed, same_node, Cause, Reply, Message, is_undecided, Outstanding, Participant, ask_came, asked_by, become_asked, block, refusal_came, pass_unknown, send, reply_came, take_reply, Work, here, part_of, with_manager, message_came, node_no, said, Scene, handed, StaysSound}
+use Rattle.qs_world_refine.proofs.Words.{FitsMessage, Stands, GoesOn, IsAt, IsNext, Goes, ne_eqb}
 use Rattle.qs_base.specs.declared.identifiers.Outcome.{Outcome}
-use Rattle.qs_base.specs.declared.identifiers.Tid.{Tid}
-use Rattle.qs_engage.specs.Engage.{uncovered, is_node}
-use Rattle.qs_engage.specs.Nodes.{listed, same_node}
-use Rattle.qs_ops.specs.declared.answer.Cause.{Cause}
-use Rattle.qs_ops.specs.declared.reply.Reply.{Reply}
-use Rattle.qs_packet.specs.declared.message.Message.{Message}
 use Rattle.qs_packet.specs.declared.message.Message.TheVariants as messages
 use Rattle.qs_tm.specs.Manager as tm
 use Rattle.qs_tm.specs.Participant as participant
-use Rattle.qs_tm.specs.Participant.{is_undecided}
-use Rattle.qs_tm.specs.declared.participant.Outstanding.{Outstanding}
-use Rattle.qs_tm.specs.declared.participant.Participant.{Participant}
-use Rattle.qs_node_step.specs.Asking.{ask_came, asked_by, become_asked, block, refusal_came, pass_unknown}
-use Rattle.qs_node_step.specs.Bringing.{send}
-use Rattle.qs_node_step.specs.Requests.{reply_came, take_reply}
-use Rattle.qs_node_step.specs.State.{Work, here, part_of, with_manager}
-use Rattle.qs_node_step.specs.Step.{message_came}
 use Rattle.qs_world_agree.specs.World.{World}
-use Rattle.qs_world_refine.specs.Links.{node_no}
 use Rattle.qs_world_refine.specs.MessageWhole.{ForeignStands, AnsweredStands, AskVoteStands, RefusalStands}
-use Rattle.qs_world_refine.specs.Messages.{said}
-use Rattle.qs_world_refine.specs.Shows.{Scene, handed}
-use Rattle.qs_world_refine.specs.SoundLaws.{StaysSound}
-use Rattle.qs_world_refine.specs.SoundSteps.{FitsMessage}
-use Rattle.qs_world_refine.specs.Stands.{Stands, GoesOn}
-use Rattle.qs_world_refine.specs.Steps.{IsAt, IsNext, Goes}
 use Rattle.qs_world_refine.proofs.DecidedStands.{KeepOutcomes, outcome_itself, decided_stands}
 use Rattle.qs_world_refine.proofs.During.{Leaves, leaves_itself, send_leaves}
 use Rattle.qs_world_refine.proofs.Handing.{handed_quiet}
@@ -50,6 +24,7 @@ use Rattle.qs_world_refine.proofs.SettleRules.{beside, beside_apart, stands_on, 
 use Rattle.qs_world_refine.proofs.SettleStands.{stands_left, at_same}
 use Rattle.qs_world_refine.proofs.SoundHappen.{message_sound}
 use Rattle.qs_world_refine.proofs.SoundRules.{ask_came_sound, refusal_came_sound, reply_came_sound}
+use Rattle.std.proofs.lemmas.Bool.{lt-ltb}
 
 -- ---- it is handed up, and says nothing of the transaction
 
@@ -77,16 +52,10 @@ pub fits_sound : (t : Tid) (scene : Scene) (n m i : ℕ) (message : Message) (re
 fits_sound t scene n m i message rest work w next is fits = message_sound (node_no m) message work in_run other fits
   where
     in_run : nat_lt m work.node.setting.nodes ≡ true
-    in_run = rw is.at.nodes (below m scene.size next.from.in_run)
-      where
-        below : (a b : ℕ) → a < b → nat_lt a b ≡ true
-        below a b less = grind (arith, nat_tests, less)
+    in_run = rw is.at.nodes (lt-ltb m scene.size next.from.in_run)
 
     other : same_node (node_no m) work.node.setting.node ≡ false
-    other = rw is.at.node (differs m n next.from.other)
-      where
-        differs : (a b : ℕ) → (a ≡ b → ⊥) → (a == b) ≡ false
-        differs a b off = grind (arith, nat_tests, off)
+    other = rw is.at.node (ne_eqb m n next.from.other)
 
 -- ---- about another transaction
 

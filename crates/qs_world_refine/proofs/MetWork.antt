@@ -1,19 +1,7 @@
 -- A request makes a transaction known elsewhere than at its home, and its face stays.
-use Rattle.std.proofs.Common.{◌≡◌, ℕ, Bool, false, List, Option, Some, None, unwrap_or, refl, sym, ap, ◌∙◌, arith, if◌then◌else◌}
-use Rattle.std.specs.Prelude.{is_some}
-use Rattle.std.specs.declared.cmp.Ordering.TheVariants.{Equal}
-use Rattle.std.proofs.lemmas.Bool.Decides.{nat_tests}
-use Rattle.qs_base.specs.Order.{tid_cmp}
-use Rattle.qs_base.specs.declared.identifiers.NodeNo.{NodeNo}
-use Rattle.qs_base.specs.declared.identifiers.Tid.{Tid}
-use Rattle.qs_engage.specs.Nodes.{same_node}
+use Rattle.qs_world_refine.proofs.Words.{◌≡◌, ℕ, Bool, false, List, Option, Some, None, unwrap_or, refl, sym, ap, ◌∙◌, arith, if◌then◌else◌, is_some, Equal, nat_tests, tid_cmp, NodeNo, Tid, same_node, new_participant, Manager, Participant, learn_label, Work, here, part_of, with_manager, face, face_at, part_at, unknown}
 use Rattle.qs_tm.specs.Manager as tm
-use Rattle.qs_tm.specs.Participant.{new_participant}
-use Rattle.qs_tm.specs.declared.manager.Manager.{Manager}
-use Rattle.qs_tm.specs.declared.participant.Participant.{Participant}
-use Rattle.qs_node_step.specs.Serving.{learn_label, met}
-use Rattle.qs_node_step.specs.State.{Work, here, part_of, with_manager}
-use Rattle.qs_world_refine.specs.NodeFaces.{face, face_at, part_at, unknown}
+use Rattle.qs_node_step.specs.Serving.{met}
 use Rattle.qs_world_refine.proofs.During.{Leaves}
 use Rattle.qs_world_refine.proofs.Keeping.{Keeps}
 use Rattle.qs_world_refine.proofs.Maps.{lookup_put}

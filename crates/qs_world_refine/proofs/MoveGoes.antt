@@ -1,23 +1,12 @@
 -- What shows the world before a move shows it after.
-use Rattle.std.proofs.Common.{◌≡◌, ◌≢◌, ℕ, ◌<◌, ◌≤◌, ◌==◌, ◌&&◌, not, nat_lt, nat_le, Bool, true, false, [], Option, Some, None, is_some, refl, sym, ap, ◌∙◌, arith, if◌then◌else◌}
-use Rattle.std.proofs.lemmas.Bool.{eqb-true}
-use Rattle.std.proofs.lemmas.Bool.Decides.{nat_tests}
-use Rattle.qs_base.specs.declared.identifiers.Tid.{Tid}
-use Rattle.qs_book_machine.specs.Clauses.{is_crash}
-use Rattle.qs_restart.specs.Recovery.{recovery}
-use Rattle.qs_node_step.specs.Opening.{recovered_of}
+use Rattle.qs_world_refine.proofs.Words.{◌≡◌, ◌≢◌, ℕ, ◌<◌, ◌≤◌, ◌==◌, ◌&&◌, not, nat_lt, nat_le, Bool, true, false, [], Option, Some, None, is_some, refl, sym, ap, ◌∙◌, arith, if◌then◌else◌, eqb-true, not-true, nat_tests, Tid, is_crash, recovery, recovered_of, Source, Cut, Stop, Rise, event_of, step_with, cut_with, risen_host, risen, reopened, is_later, is_in_order, may_step, known_of, met_at, IsSeated, AllClose, ShowsWorld, WorldGoes, face_at, began_here, place, IsRisenFace, sight_risen_as}
+use Rattle.qs_world_refine.proofs.Words.{SightGoes, scene_of, Shows, may_take_up, kept_before, not_never}
 use Rattle.qs_node_step.specs.declared.event.Event.{Event}
-use Rattle.qs_world.specs.Moves.{Source, Step, Cut, Stop, Rise, Meet, event_of, step_with, cut_with, risen_host, risen, met, reopened, is_later, is_in_order, may_serve, may_step, has_begun}
-use Rattle.qs_world.specs.World.{World, known_of}
+use Rattle.qs_world.specs.Moves.{Step, Meet, met, may_serve, has_begun}
+use Rattle.qs_world.specs.World.{World}
 use Rattle.qs_world_agree.specs.World as machine
-use Rattle.qs_world_refine.specs.MeetingLaws.{met_at, sight_met}
-use Rattle.qs_world_refine.specs.MoveLaws.{IsSeated, AllClose, ShowsWorld, WorldGoes, MoveGoes}
-use Rattle.qs_world_refine.specs.NodeFaces.{face_at, began_here}
-use Rattle.qs_world_refine.specs.Places.{place}
-use Rattle.qs_world_refine.specs.RiseLaws.{IsRisenFace, sight_risen_as}
-use Rattle.qs_world_refine.specs.Seen.{SightGoes}
-use Rattle.qs_world_refine.specs.Shows.{scene_of, Shows}
-use Rattle.qs_world_refine.specs.Sound.{may_take_up, kept_before}
+use Rattle.qs_world_refine.specs.MeetingLaws.{sight_met}
+use Rattle.qs_world_refine.specs.MoveLaws.{MoveGoes}
 use Rattle.qs_world_refine.proofs.Facts.{invariant, lawful_on}
 use Rattle.qs_world_refine.proofs.FreshRuns.{fresh}
 use Rattle.qs_world_refine.proofs.Meeting.{meet, meet_next}
@@ -159,18 +148,14 @@ move_goes tid world (Cut n stamp free source is_kept cause) w may seated home_in
 move_goes tid world (Stop n stamp cause) w may seated home_in goes sw =
     let runs = and_both (world.channels.up n) _ may in
     stops tid world w seated home_in sw n stamp cause (world.hosts n).log [] (in_run world n stamp (and_both (is_in_order world n stamp) _ runs.1).0) runs.0 refl tt
-move_goes tid world (Rise n stamp inc) w may seated home_in goes sw = rises tid world w seated home_in sw n stamp inc (in_run world n stamp order.0) (off (world.channels.up n) both.0) (grind (arith, nat_tests, order.1)) goes.0 goes.1
+move_goes tid world (Rise n stamp inc) w may seated home_in goes sw = rises tid world w seated home_in sw n stamp inc (in_run world n stamp order.0) (not-true (world.channels.up n) both.0) (grind (arith, nat_tests, order.1)) goes.0 goes.1
   where
-    off : (b : Bool) → not b ≡ true → b ≡ false
-    off true is = absurd (cc (is))
-    off false is = refl
-
     both : (not (world.channels.up n) ≡ true) × ((is_in_order world n stamp && nat_lt (world.channels.inc n) inc) ≡ true)
     both = and_both (not (world.channels.up n)) (is_in_order world n stamp && nat_lt (world.channels.inc n) inc) may
 
     order : (is_in_order world n stamp ≡ true) × (nat_lt (world.channels.inc n) inc ≡ true)
     order = and_both (is_in_order world n stamp) (nat_lt (world.channels.inc n) inc) both.1
-move_goes tid world (Meet n stamp m first) w may seated home_in goes sw = meets tid world w seated home_in sw n stamp m first (later_in world n stamp order.0) runs.0 (grind (arith, nat_tests, others.1)) (λ is. not_same (m == n) others.0 (grind (arith, nat_tests, is)))
+move_goes tid world (Meet n stamp m first) w may seated home_in goes sw = meets tid world w seated home_in sw n stamp m first (later_in world n stamp order.0) runs.0 (grind (arith, nat_tests, others.1)) (λ is. not_never (m == n) others.0 (grind (arith, nat_tests, is)))
     (eqb-true (known_of world n m) 0 known.0) (grind (arith, nat_tests, begun.0)) (grind (arith, nat_tests, (and_both (nat_le first (world.channels.inc m)) _ begun.1).0))
   where
     runs : (world.channels.up n ≡ true) × ((is_later world n stamp && ((not (m == n) && nat_lt m world.size) && ((known_of world n m == 0) && (nat_lt 0 first && has_begun world stamp m first)))) ≡ true)
@@ -190,7 +175,3 @@ move_goes tid world (Meet n stamp m first) w may seated home_in goes sw = meets 
 
     begun : (nat_lt 0 first ≡ true) × (has_begun world stamp m first ≡ true)
     begun = and_both (nat_lt 0 first) (has_begun world stamp m first) known.1
-
-    not_same : (b : Bool) → not b ≡ true → b ≡ true → ⊥
-    not_same true is so = absurd (cc (is))
-    not_same false is so = absurd (cc (so))

@@ -1,29 +1,13 @@
 -- What is seen of a transaction after a move, from what was seen before it.
-use Rattle.std.proofs.Common.{◌≡◌, ◌≢◌, ℕ, ◌==◌, ◌&&◌, not, Bool, true, false, List, [], ◌∷◌, ◌++◌, drop, fold, length, map, Option, Some, None, refl, sym, ap, ◌∙◌, if◌then◌else◌}
-use Rattle.std.proofs.lemmas.Bool.{eqb-true}
-use Rattle.qs_base.specs.declared.identifiers.Tid.{Tid}
-use Rattle.qs_session_channels.specs.Channels.{Channels}
+use Rattle.qs_world_refine.proofs.Words.{◌≡◌, ◌≢◌, ℕ, ◌==◌, ◌&&◌, not, Bool, true, false, List, [], ◌∷◌, ◌++◌, drop, fold, length, map, Option, Some, None, refl, sym, ap, ◌∙◌, if◌then◌else◌, eqb-true, Tid, Channels, CrashCause, Message, Record, recovery, found_record, Work, accept, Source, Commanded, Handed, Queues, Clock, Noticed, hand_next, taken_by, log_after, stepped_host, stopped_host, risen_host, reopened, stopped, risen, next_parcel, Host, Parcel, IsCut, Said, all_said, sight_logged}
+use Rattle.qs_world_refine.proofs.Words.{taken_scene, face_at, known_place, message_of, scene_of, sight, Sight, ShowsSight}
 use Rattle.qs_session_channels.specs.Laws.{IsOrdered}
 use Rattle.qs_session_channels.specs.Network.{with_at}
-use Rattle.qs_book_journal.specs.declared.entry.CrashCause.{CrashCause}
-use Rattle.qs_packet.specs.declared.message.Message.{Message}
-use Rattle.qs_record.specs.declared.record.Record.{Record}
-use Rattle.qs_restart.specs.Recovery.{recovery, found_record}
-use Rattle.qs_node_step.specs.State.{Work}
-use Rattle.qs_node_step.specs.Step.{accept}
 use Rattle.qs_world.specs.Moves as moves
-use Rattle.qs_world.specs.Moves.{Source, Commanded, Handed, Queues, Clock, Noticed, hand_next, taken_by, log_after, stepped_host, stopped_host, risen_host, reopened, stopped, risen, met}
-use Rattle.qs_world.specs.Posting.{next_parcel}
-use Rattle.qs_world.specs.World.{Host, Parcel, World}
+use Rattle.qs_world.specs.Moves.{met}
+use Rattle.qs_world.specs.World.{World}
 use Rattle.qs_world_agree.specs.World as machine
-use Rattle.qs_world_refine.specs.EventLaws.{IsCut}
-use Rattle.qs_world_refine.specs.Links.{Said}
-use Rattle.qs_world_refine.specs.Messages.{all_said}
-use Rattle.qs_world_refine.specs.MoveLaws.{sight_logged, taken_scene}
-use Rattle.qs_world_refine.specs.NodeFaces.{face_at}
-use Rattle.qs_world_refine.specs.Places.{known_place}
-use Rattle.qs_world_refine.specs.Shows.{message_of, scene_of, sent_to, sight}
-use Rattle.qs_world_refine.specs.Sights.{Sight, ShowsSight}
+use Rattle.qs_world_refine.specs.Shows.{sent_to}
 use Rattle.qs_world_refine.specs.StepLaws.{stepped}
 use Rattle.qs_world_refine.proofs.Alike.{SameFace, SameFound, SameSight, same_itself, found_itself}
 use Rattle.qs_world_refine.proofs.Channelled.{four_at, two_at}

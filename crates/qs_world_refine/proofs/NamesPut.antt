@@ -1,21 +1,8 @@
 -- A Told on abort is put, with names of those whom its place has named.
-use Rattle.std.proofs.Common.{◌≡◌, ◌≢◌, inr, ℕ, ◌==◌, Bool, true, List, refl, sym, subst, ◌∙◌, arith, if◌then◌else◌}
-use Rattle.std.proofs.lemmas.Bool.Decides.{nat_tests}
-use Rattle.qs_base.specs.declared.identifiers.NodeNo.{NodeNo}
-use Rattle.qs_base.specs.declared.identifiers.Tid.{Tid}
+use Rattle.qs_world_refine.proofs.Words.{◌≡◌, ◌≢◌, inr, ℕ, ◌==◌, Bool, true, List, refl, sym, subst, ◌∙◌, arith, if◌then◌else◌, nat_tests, NodeNo, Tid, is_other, send, Work, Aborted, IsLawful, Face, Taken_in, link, IsEmpty, node_no, names_node, face_at, place, NamedGoes, drew, sight_faced, Scene, sight_during, ShowsWork, Sight, IsAt, IsKnown, Goes}
 use Rattle.qs_packet.specs.declared.message.Message.TheVariants as messages
-use Rattle.qs_node_step.specs.Bringing.{is_other, send}
-use Rattle.qs_node_step.specs.State.{Work}
-use Rattle.qs_world_agree.specs.World.{World, Aborted}
-use Rattle.qs_world_agree.specs.Carry.{IsLawful}
-use Rattle.qs_world_refine.specs.Faces.{Face}
-use Rattle.qs_world_refine.specs.Links.{Taken_in, link, is_aborted, IsEmpty, node_no, names_node}
-use Rattle.qs_world_refine.specs.NodeFaces.{face_at}
-use Rattle.qs_world_refine.specs.Places.{place}
-use Rattle.qs_world_refine.specs.Seen.{NamedGoes, drew, sight_faced}
-use Rattle.qs_world_refine.specs.Shows.{Scene, sight_during, ShowsWork}
-use Rattle.qs_world_refine.specs.Sights.{Sight}
-use Rattle.qs_world_refine.specs.Steps.{IsAt, IsKnown, Goes}
+use Rattle.qs_world_agree.specs.World.{World}
+use Rattle.qs_world_refine.specs.Links.{is_aborted}
 use Rattle.qs_world_refine.proofs.Alike.{same_itself}
 use Rattle.qs_world_refine.proofs.During.{quiet_itself, face_here, runs}
 use Rattle.qs_world_refine.proofs.Facts.{lawful_on}

@@ -1,19 +1,7 @@
 -- Which nodes a set has that is made of a list, or that goes on; and what a log's Commits name after a record.
-use Rattle.std.proofs.Common.{◌≡◌, ℕ, ◌<◌, ◌==◌, ◌&&◌, ◌||◌, not, nat_lt, Bool, true, false, List, [], ◌∷◌, ◌++◌, length, fold, refl, sym, ap, ◌∙◌, arith, if◌then◌else◌}
-use Rattle.std.specs.List.{list_any, filter, flat_map}
-use Rattle.std.proofs.lemmas.Bool.Decides.{nat_tests}
-use Rattle.std.proofs.lemmas.List.{get_or_past, get_or-set_other}
-use Rattle.std.proofs.lemmas.List.Sums.{fold-append}
-use Rattle.qs_base.specs.Order.{same_tid}
-use Rattle.qs_base.specs.declared.identifiers.NodeNo.{NodeNo}
-use Rattle.qs_base.specs.declared.identifiers.Tid.{Tid}
-use Rattle.qs_engage.specs.Nodes.{all_nodes, has_node, put_node, no_nodes, joined, listed, union}
-use Rattle.qs_engage.specs.declared.nodes.Nodes.{Nodes}
-use Rattle.qs_record.specs.declared.record.Record.{Record}
+use Rattle.qs_world_refine.proofs.Words.{◌≡◌, ℕ, ◌<◌, ◌==◌, ◌&&◌, ◌||◌, not, nat_lt, Bool, true, false, List, [], ◌∷◌, ◌++◌, length, fold, refl, sym, ap, ◌∙◌, arith, if◌then◌else◌, list_any, filter, flat_map, nat_tests, get_or_past, get_or-set_other, fold-append, same_tid, NodeNo, Tid, put_node, no_nodes, joined, listed, union, Nodes, Record, Recovery, Untold, found_record, is_untold_of, names_node, node_no, later_list, last_list, or_right, and_from, and_last, and_first}
+use Rattle.qs_engage.specs.Nodes.{all_nodes, has_node}
 use Rattle.qs_record.specs.declared.record.Record.TheVariants as records
-use Rattle.qs_restart.specs.Recovery.{Recovery, Untold, found_record, is_untold_of}
-use Rattle.qs_world_refine.specs.Links.{names_node, node_no}
-use Rattle.qs_world_refine.specs.Lists.{later_list, last_list}
 use Rattle.qs_world_refine.proofs.Arrays.{node_put}
 use Rattle.qs_world_refine.proofs.LogFrames.{record_tid}
 use Rattle.qs_world_refine.proofs.NodeSets.{all_named, none_past, joined_has, joined_length, list_has}
@@ -30,11 +18,7 @@ joined_below list m has = by (nat_lt m 16) refl
         let none : has_node (joined no_nodes list) (node_no m) ≡ false = get_or_past (joined no_nodes list).has m false (rw (joined_length list no_nodes) (grind (arith, nat_tests, past))) in cc (none, has))
 
 pub joined_named : (list : List NodeNo) (m : ℕ) → m < 16 → names_node list (node_no m) ≡ true → has_node (joined no_nodes list) (node_no m) ≡ true
-joined_named list m below names = joined_has list no_nodes m (λ is. below) ∙ last (has_node no_nodes (node_no m)) (names_node list (node_no m)) names
-  where
-    last : (a b : Bool) → b ≡ true → (a || b) ≡ true
-    last true b is = refl
-    last false b is = is
+joined_named list m below names = joined_has list no_nodes m (λ is. below) ∙ or_right (has_node no_nodes (node_no m)) (names_node list (node_no m)) names
 
 pub listed_within : (nodes : Nodes) (m : ℕ) → names_node (listed nodes) (node_no m) ≡ true → (m < 16) × (has_node nodes (node_no m) ≡ true)
 listed_within nodes m names = by (nat_lt m 16) refl
@@ -42,25 +26,14 @@ listed_within nodes m names = by (nat_lt m 16) refl
     its : (names_node all_nodes (node_no m) && has_node nodes (node_no m)) ≡ true
     its = sym (list_has nodes m all_nodes []) ∙ names
 
-    second : (a b : Bool) → (a && b) ≡ true → b ≡ true
-    second true b is = is
-    second false b is = absurd (cc (is))
-
-    first : (a b : Bool) → (a && b) ≡ true → a ≡ true
-    first true b is = refl
-    first false b is = absurd (cc (is))
-
     by : (b : Bool) → nat_lt m 16 ≡ b → (m < 16) × (has_node nodes (node_no m) ≡ true)
-    by true below = (grind (arith, nat_tests, below), second (names_node all_nodes (node_no m)) (has_node nodes (node_no m)) its)
+    by true below = (grind (arith, nat_tests, below), and_last (names_node all_nodes (node_no m)) (has_node nodes (node_no m)) its)
     by false past = absurd (
         let off : names_node all_nodes (node_no m) ≡ false = none_past m (grind (arith, nat_tests, past)) in
-        let on : names_node all_nodes (node_no m) ≡ true = first (names_node all_nodes (node_no m)) (has_node nodes (node_no m)) its in cc (on, off))
+        let on : names_node all_nodes (node_no m) ≡ true = and_first (names_node all_nodes (node_no m)) (has_node nodes (node_no m)) its in cc (on, off))
 
 pub listed_names : (nodes : Nodes) (m : ℕ) → m < 16 → has_node nodes (node_no m) ≡ true → names_node (listed nodes) (node_no m) ≡ true
-listed_names nodes m below has = list_has nodes m all_nodes [] ∙ both (names_node all_nodes (node_no m)) (has_node nodes (node_no m)) (all_named m below) has
-  where
-    both : (a b : Bool) → a ≡ true → b ≡ true → (a && b) ≡ true
-    both a b x y = rw (x, y) refl
+listed_names nodes m below has = list_has nodes m all_nodes [] ∙ and_from (names_node all_nodes (node_no m)) (has_node nodes (node_no m)) (all_named m below) has
 
 -- a set that goes on
 pub put_grows : (nodes : Nodes) (node : NodeNo) (m : ℕ) → has_node nodes (node_no m) ≡ true → has_node (put_node nodes node) (node_no m) ≡ true

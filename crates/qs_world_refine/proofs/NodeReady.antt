@@ -1,56 +1,17 @@
 -- A node that may answer is ready in the machine's sense: nothing waits, no loan stands, all is voted for and all is covered.
-use Rattle.std.proofs.Common.{◌≡◌, ◌⊎◌, inl, inr, ℕ, ◌+◌, ◌-◌, ◌<◌, ◌≤◌, ◌==◌, ◌&&◌, ◌||◌, not, nat_lt, Bool, true, false, List, [], ◌∷◌, length, Option, Some, None, refl, sym, ap, arith, if◌then◌else◌}
-use Rattle.std.specs.Prelude.{slice_index_or, zero, suc}
-use Rattle.std.specs.List.{filter, list_all, list_any}
-use Rattle.std.specs.BTreeMap.{is_at}
-use Rattle.std.proofs.lemmas.Bool.Decides.{nat_tests}
-use Rattle.std.proofs.lemmas.List.{get_or_past}
-use Rattle.qs_base.specs.declared.identifiers.Class.{Class}
+use Rattle.qs_world_refine.proofs.Words.{◌≡◌, ◌⊎◌, inl, inr, ℕ, ◌+◌, ◌-◌, ◌<◌, ◌≤◌, ◌==◌, ◌&&◌, ◌||◌, not, nat_lt, Bool, true, false, List, [], ◌∷◌, length, Option, Some, None, refl, sym, ap, arith, if◌then◌else◌, slice_index_or, zero, suc, filter, list_all, list_any, is_at, nat_tests, get_or_past, Class, ServerNo, Tid, peer_of, is_covered, no_peer, PeerPart, IpcValue, queue_at, server_cmp, waits_in, count_of, Delivery, class_of, is_two_phase, no_member, member_of, Cast, MemberPart, Participant}
+use Rattle.qs_world_refine.proofs.Words.{Lent, is_busy, is_lent, is_standing_loan, NodeValue, Open, Votes, node_no, face, uncast_of, class_in, FaceReady, server_no, IsWhole, and_last, and_first, and_parts, or_parts, not-true}
 use Rattle.qs_base.specs.declared.identifiers.Class.TheVariants as classes
-use Rattle.qs_base.specs.declared.identifiers.ServerNo.{ServerNo}
-use Rattle.qs_base.specs.declared.identifiers.Tid.{Tid}
-use Rattle.qs_engage.specs.Engage.{peer_of, is_covered, is_passive, no_peer}
-use Rattle.qs_engage.specs.declared.engage.PeerPart.{PeerPart}
+use Rattle.qs_engage.specs.Engage.{is_passive}
 use Rattle.qs_ipc.specs.Ipc as ipc
-use Rattle.qs_ipc.specs.Ipc.{IpcValue, queue_at, server_cmp, waits_in}
-use Rattle.qs_ipc.specs.Queue.{count_of, is_of, waits_at}
-use Rattle.qs_ipc.specs.declared.delivery.Delivery.{Delivery}
-use Rattle.qs_ops.specs.Members.{class_of, is_two_phase}
-use Rattle.qs_tm.specs.Members.{no_member, all_servers, is_covering, is_against}
+use Rattle.qs_ipc.specs.Queue.{is_of, waits_at}
+use Rattle.qs_tm.specs.Members.{all_servers, is_covering, is_against}
 use Rattle.qs_tm.specs.Participant as participant
-use Rattle.qs_tm.specs.Participant.{member_of, all_agree, agrees_at}
-use Rattle.qs_tm.specs.declared.members.Cast.{Cast}
-use Rattle.qs_tm.specs.declared.members.MemberPart.{MemberPart}
-use Rattle.qs_tm.specs.declared.participant.Participant.{Participant}
-use Rattle.qs_node_kept.specs.declared.kept.Lent.{Lent}
-use Rattle.qs_node_step.specs.Settling.{is_busy, is_lent}
-use Rattle.qs_node_kept.specs.Loans.{is_standing_loan}
-use Rattle.qs_node_step.specs.State.{NodeValue}
+use Rattle.qs_tm.specs.Participant.{all_agree, agrees_at}
 use Rattle.qs_world_agree.specs.World as machine
-use Rattle.qs_world_agree.specs.World.{World, Open}
-use Rattle.qs_world_agree.specs.Guards.{Votes}
-use Rattle.qs_world_refine.specs.Links.{node_no}
-use Rattle.qs_world_refine.specs.NodeFaces.{face, uncast_of}
-use Rattle.qs_world_refine.specs.Places.{class_in}
-use Rattle.qs_world_refine.specs.Seen.{FaceReady}
-use Rattle.qs_world_refine.specs.Sights.{server_no}
-use Rattle.qs_world_refine.specs.Steps.{IsWhole}
+use Rattle.qs_world_agree.specs.World.{World}
 
 -- ---- tests of two parts
-
-both : (a b : Bool) → (a && b) ≡ true → (a ≡ true) × (b ≡ true)
-both true true is = (refl, refl)
-both true false is = absurd (cc is)
-both false b is = absurd (cc is)
-
-neither : (a b : Bool) → (a || b) ≡ false → (a ≡ false) × (b ≡ false)
-neither true b is = absurd (cc is)
-neither false true is = absurd (cc is)
-neither false false is = (refl, refl)
-
-off_not : (a : Bool) → not a ≡ true → a ≡ false
-off_not true is = absurd (cc is)
-off_not false is = refl
 
 -- ---- nothing waits
 
@@ -64,10 +25,10 @@ none_counted tid (d ∷ rest) none = by (is_of tid d) none (none_counted tid res
 
 pub none_waits : (tid : Tid) (queues : IpcValue) (s : ServerNo) → ipc.waits tid queues ≡ false → count_of tid (queue_at queues s).waiting ≡ 0
 none_waits tid [] s none = refl
-none_waits tid (e ∷ es) s none = by (is_at (server_cmp s) e.0) refl (none_waits tid es s (neither (waits_at tid e.1) (ipc.waits tid es) none).1)
+none_waits tid (e ∷ es) s none = by (is_at (server_cmp s) e.0) refl (none_waits tid es s (or_parts (waits_at tid e.1) (ipc.waits tid es) none).1)
   where
     by : (b : Bool) → is_at (server_cmp s) e.0 ≡ b → count_of tid (queue_at es s).waiting ≡ 0 → count_of tid (queue_at (e ∷ es) s).waiting ≡ 0
-    by true is more = rw is (none_counted tid e.1.waiting (neither (waits_at tid e.1) (ipc.waits tid es) none).0)
+    by true is more = rw is (none_counted tid e.1.waiting (or_parts (waits_at tid e.1) (ipc.waits tid es) none).0)
     by false is more = rw is more
 
 -- ---- no loan stands
@@ -84,8 +45,8 @@ none_lent test (l ∷ loans) none = by (test l) none (none_lent test loans)
 
 covered_at : (peers : List PeerPart) (m : ℕ) → list_all is_covered peers ≡ true → is_covered (slice_index_or peers m no_peer) ≡ true
 covered_at [] m all = refl
-covered_at (p ∷ peers) zero all = (both (is_covered p) (list_all is_covered peers) all).0
-covered_at (p ∷ peers) (suc m) all = covered_at peers m (both (is_covered p) (list_all is_covered peers) all).1
+covered_at (p ∷ peers) zero all = (and_parts (is_covered p) (list_all is_covered peers) all).0
+covered_at (p ∷ peers) (suc m) all = covered_at peers m (and_parts (is_covered p) (list_all is_covered peers) all).1
 
 -- ---- all is voted for
 
@@ -94,38 +55,32 @@ agreed_at : (part : Participant) (s : ℕ) → s < 7 → all_agree part ≡ true
 unfolding all_servers
 agreed_at part s below all = pick s below
   where
-    rest : (a b : Bool) → (a && b) ≡ true → b ≡ true
-    rest a b is = (both a b is).1
-
-    here : (a b : Bool) → (a && b) ≡ true → a ≡ true
-    here a b is = (both a b is).0
-
     from_1 : list_all (agrees_at part) (server_no 1 ∷ server_no 2 ∷ server_no 3 ∷ server_no 4 ∷ server_no 5 ∷ server_no 6 ∷ []) ≡ true
-    from_1 = rest (agrees_at part (server_no 0)) _ all
+    from_1 = and_last (agrees_at part (server_no 0)) _ all
 
     from_2 : list_all (agrees_at part) (server_no 2 ∷ server_no 3 ∷ server_no 4 ∷ server_no 5 ∷ server_no 6 ∷ []) ≡ true
-    from_2 = rest (agrees_at part (server_no 1)) _ from_1
+    from_2 = and_last (agrees_at part (server_no 1)) _ from_1
 
     from_3 : list_all (agrees_at part) (server_no 3 ∷ server_no 4 ∷ server_no 5 ∷ server_no 6 ∷ []) ≡ true
-    from_3 = rest (agrees_at part (server_no 2)) _ from_2
+    from_3 = and_last (agrees_at part (server_no 2)) _ from_2
 
     from_4 : list_all (agrees_at part) (server_no 4 ∷ server_no 5 ∷ server_no 6 ∷ []) ≡ true
-    from_4 = rest (agrees_at part (server_no 3)) _ from_3
+    from_4 = and_last (agrees_at part (server_no 3)) _ from_3
 
     from_5 : list_all (agrees_at part) (server_no 5 ∷ server_no 6 ∷ []) ≡ true
-    from_5 = rest (agrees_at part (server_no 4)) _ from_4
+    from_5 = and_last (agrees_at part (server_no 4)) _ from_4
 
     from_6 : list_all (agrees_at part) (server_no 6 ∷ []) ≡ true
-    from_6 = rest (agrees_at part (server_no 5)) _ from_5
+    from_6 = and_last (agrees_at part (server_no 5)) _ from_5
 
     pick : (s : ℕ) → s < 7 → agrees_at part (server_no s) ≡ true
-    pick zero below = here (agrees_at part (server_no 0)) _ all
-    pick (suc zero) below = here (agrees_at part (server_no 1)) _ from_1
-    pick (suc (suc zero)) below = here (agrees_at part (server_no 2)) _ from_2
-    pick (suc (suc (suc zero))) below = here (agrees_at part (server_no 3)) _ from_3
-    pick (suc (suc (suc (suc zero)))) below = here (agrees_at part (server_no 4)) _ from_4
-    pick (suc (suc (suc (suc (suc zero))))) below = here (agrees_at part (server_no 5)) _ from_5
-    pick (suc (suc (suc (suc (suc (suc zero)))))) below = here (agrees_at part (server_no 6)) _ from_6
+    pick zero below = and_first (agrees_at part (server_no 0)) _ all
+    pick (suc zero) below = and_first (agrees_at part (server_no 1)) _ from_1
+    pick (suc (suc zero)) below = and_first (agrees_at part (server_no 2)) _ from_2
+    pick (suc (suc (suc zero))) below = and_first (agrees_at part (server_no 3)) _ from_3
+    pick (suc (suc (suc (suc zero)))) below = and_first (agrees_at part (server_no 4)) _ from_4
+    pick (suc (suc (suc (suc (suc zero))))) below = and_first (agrees_at part (server_no 5)) _ from_5
+    pick (suc (suc (suc (suc (suc (suc zero)))))) below = and_first (agrees_at part (server_no 6)) _ from_6
     pick (suc (suc (suc (suc (suc (suc (suc s))))))) below = absurd (omega (arith, below))
 
 -- a vote that covers all leaves nothing
@@ -146,7 +101,7 @@ agreeing_none : (part : Participant) (s : ℕ) → agrees_at part (server_no s) 
 agreeing_none part s agreed votes = covering_none (member_of part (server_no s)) (by (is_two_phase (class_of s)) votes agreed)
   where
     by : (b : Bool) → b ≡ true → (not b || (is_covering (member_of part (server_no s)) && not (is_against (member_of part (server_no s))))) ≡ true → is_covering (member_of part (server_no s)) ≡ true
-    by true is agreed = (both (is_covering (member_of part (server_no s))) (not (is_against (member_of part (server_no s)))) agreed).0
+    by true is agreed = (and_parts (is_covering (member_of part (server_no s))) (not (is_against (member_of part (server_no s)))) agreed).0
     by false is agreed = absurd (cc is)
 
 -- ---- the face
@@ -157,27 +112,27 @@ face_ready tid q node part w whole classes_are undecided on ready = record {
   on = on;
   asked = asked.0;
   undecided = rw undecided refl;
-  free = off_not part.blocked asked.1;
-  loans = none_lent (is_standing_loan tid node.setting.inc) node.kept.now.loans (neither (is_lent tid node) (participant.awaits_note part) busy.1).0;
+  free = not-true part.blocked asked.1;
+  loans = none_lent (is_standing_loan tid node.setting.inc) node.kept.now.loans (or_parts (is_lent tid node) (participant.awaits_note part) busy.1).0;
   waits = λ s. none_waits tid node.queues (server_no s) busy.0;
   voted = voted;
   covered = λ m. less (peer_of part.engage (node_no m)) (covered_at part.engage.peers m passive);
 }
   where
     parts : ((part.asked && not part.blocked) ≡ true) × (((not (is_busy tid node part) && is_passive part.engage) && all_agree part) ≡ true)
-    parts = both (part.asked && not part.blocked) ((not (is_busy tid node part) && is_passive part.engage) && all_agree part) ready
+    parts = and_parts (part.asked && not part.blocked) ((not (is_busy tid node part) && is_passive part.engage) && all_agree part) ready
 
     asked : (part.asked ≡ true) × (not part.blocked ≡ true)
-    asked = both part.asked (not part.blocked) parts.0
+    asked = and_parts part.asked (not part.blocked) parts.0
 
     quiet : ((not (is_busy tid node part) && is_passive part.engage) ≡ true) × (all_agree part ≡ true)
-    quiet = both (not (is_busy tid node part) && is_passive part.engage) (all_agree part) parts.1
+    quiet = and_parts (not (is_busy tid node part) && is_passive part.engage) (all_agree part) parts.1
 
     passive : is_passive part.engage ≡ true
-    passive = (both (not (is_busy tid node part)) (is_passive part.engage) quiet.0).1
+    passive = (and_parts (not (is_busy tid node part)) (is_passive part.engage) quiet.0).1
 
     busy : (ipc.waits tid node.queues ≡ false) × ((is_lent tid node || participant.awaits_note part) ≡ false)
-    busy = neither (ipc.waits tid node.queues) (is_lent tid node || participant.awaits_note part) (off_not (is_busy tid node part) (both (not (is_busy tid node part)) (is_passive part.engage) quiet.0).0)
+    busy = or_parts (ipc.waits tid node.queues) (is_lent tid node || participant.awaits_note part) (not-true (is_busy tid node part) (and_parts (not (is_busy tid node part)) (is_passive part.engage) quiet.0).0)
 
     less : (p : PeerPart) → is_covered p ≡ true → p.sent ≤ p.covered
     less p is = grind (arith, nat_tests, is)

@@ -1,14 +1,6 @@
 -- Which nodes are in a set that is built from a list or from a test, and which a set lists.
-use Rattle.std.proofs.Common.{◌≡◌, ℕ, ◌<◌, ◌≤◌, ◌==◌, ◌&&◌, ◌||◌, not, Bool, true, false, List, [], ◌∷◌, ◌++◌, length, fold, arith, refl, sym, subst, ap, ◌∙◌, if◌then◌else◌}
-use Rattle.std.specs.Prelude.{nat_lt}
-use Rattle.std.specs.List.{list_any}
-use Rattle.std.proofs.lemmas.Bool.{eqb-true}
-use Rattle.std.proofs.lemmas.Bool.Decides.{nat_tests}
-use Rattle.std.proofs.lemmas.List.{length-set, get_or_past, get_or-set_other}
-use Rattle.qs_base.specs.declared.identifiers.NodeNo.{NodeNo}
-use Rattle.qs_engage.specs.Nodes.{all_nodes, has_node, put_node, is_no_node, put_where, joined, with_listed, listed}
-use Rattle.qs_engage.specs.declared.nodes.Nodes.{Nodes}
-use Rattle.qs_world_refine.specs.Links.{node_no, names_node}
+use Rattle.qs_world_refine.proofs.Words.{◌≡◌, ℕ, ◌<◌, ◌≤◌, ◌==◌, ◌&&◌, ◌||◌, Bool, true, false, List, [], ◌∷◌, ◌++◌, length, fold, arith, refl, sym, subst, ap, ◌∙◌, if◌then◌else◌, nat_lt, list_any, eqb-true, not-true, nat_tests, length-set, get_or_past, get_or-set_other, NodeNo, put_node, is_no_node, put_where, joined, with_listed, listed, Nodes, node_no, names_node, false-or, or-true, or-false}
+use Rattle.qs_engage.specs.Nodes.{all_nodes, has_node}
 use Rattle.qs_world_refine.proofs.Arrays.{node_put}
 
 -- ---- a list of nodes is put into a set
@@ -21,11 +13,7 @@ joined_length [] nodes = refl
 joined_length (node ∷ more) nodes = joined_length more (put_node nodes node) ∙ put_length nodes node
 
 pub joined_has : (more : List NodeNo) (nodes : Nodes) (k : ℕ) → (names_node more (node_no k) ≡ true → k < length nodes.has) → has_node (joined nodes more) (node_no k) ≡ (has_node nodes (node_no k) || names_node more (node_no k))
-joined_has [] nodes k within = by (has_node nodes (node_no k))
-  where
-    by : (b : Bool) → b ≡ (b || false)
-    by true = refl
-    by false = refl
+joined_has [] nodes k within = false-or (has_node nodes (node_no k))
 joined_has (node ∷ more) nodes k within = by (k == node.0) refl within (λ named. joined_has more (put_node nodes node) k (λ is. subst (λ (n : ℕ). k < n) (sym (put_length nodes node)) (named is)))
   where
     put_here : k ≡ node.0 → k < length nodes.has → has_node (put_node nodes node) (node_no k) ≡ true
@@ -44,16 +32,12 @@ joined_has (node ∷ more) nodes k within = by (k == node.0) refl within (λ nam
         unchanged true below = node_put node.0 k nodes (grind (arith, nat_tests, below)) ∙ picked (k == node.0) other
         unchanged false past = get_or-set_other nodes.has node.0 k true false (λ same. grind (arith, nat_tests, other, same))
 
-    or_true : (a : Bool) → (a || true) ≡ true
-    or_true true = refl
-    or_true false = refl
-
     by : (b : Bool) → (k == node.0) ≡ b → ((b || names_node more (node_no k)) ≡ true → k < length nodes.has)
         → ((names_node more (node_no k) ≡ true → k < length nodes.has) → has_node (joined (put_node nodes node) more) (node_no k) ≡ (has_node (put_node nodes node) (node_no k) || names_node more (node_no k)))
         → has_node (joined (put_node nodes node) more) (node_no k) ≡ (has_node nodes (node_no k) || (b || names_node more (node_no k)))
     by true is within rest =
         rest (λ named. within refl)
-        ∙ (ap (λ (b : Bool). b || names_node more (node_no k)) (put_here (eqb-true k node.0 is) (within refl)) ∙ sym (or_true (has_node nodes (node_no k))))
+        ∙ (ap (λ (b : Bool). b || names_node more (node_no k)) (put_here (eqb-true k node.0 is) (within refl)) ∙ sym (or-true (has_node nodes (node_no k))))
     by false is within rest = rest within ∙ ap (λ (b : Bool). b || names_node more (node_no k)) (put_there is)
 
 -- ---- all nodes that a run may have
@@ -80,11 +64,7 @@ where_length test (node ∷ list) nodes = by (test node) (where_length test list
 -- ---- what a set lists
 
 named_last : (k : ℕ) (node : NodeNo) (xs : List NodeNo) → names_node (xs ++ node ∷ []) (node_no k) ≡ (names_node xs (node_no k) || (k == node.0))
-named_last k node [] = last (k == node.0)
-  where
-    last : (b : Bool) → (b || false) ≡ b
-    last true = refl
-    last false = refl
+named_last k node [] = or-false (k == node.0)
 named_last k node (x ∷ xs) = with_first (k == x.0) (named_last k node xs)
   where
     with_first : (a : Bool) → names_node (xs ++ node ∷ []) (node_no k) ≡ (names_node xs (node_no k) || (k == node.0)) → (a || names_node (xs ++ node ∷ []) (node_no k)) ≡ ((a || names_node xs (node_no k)) || (k == node.0))
@@ -92,11 +72,7 @@ named_last k node (x ∷ xs) = with_first (k == x.0) (named_last k node xs)
     with_first false more = more
 
 pub list_has : (nodes : Nodes) (k : ℕ) (list so_far : List NodeNo) → names_node (fold (with_listed nodes) so_far list) (node_no k) ≡ (names_node so_far (node_no k) || (names_node list (node_no k) && has_node nodes (node_no k)))
-list_has nodes k [] so_far = by (names_node so_far (node_no k))
-  where
-    by : (b : Bool) → b ≡ (b || false)
-    by true = refl
-    by false = refl
+list_has nodes k [] so_far = false-or (names_node so_far (node_no k))
 list_has nodes k (node ∷ list) so_far = by (has_node nodes node) refl (list_has nodes k list (so_far ++ node ∷ [])) (list_has nodes k list so_far)
   where
     kept : (a b c d : Bool) → (b ≡ true → d ≡ true) → ((a || b) || (c && d)) ≡ (a || ((b || c) && d))
@@ -148,10 +124,6 @@ none_of nodes k (node ∷ list) clear named = here (has_node nodes node) (k == n
 pub none_listed : (nodes : Nodes) (k : ℕ) → length nodes.has ≡ 16 → is_no_node nodes ≡ true → has_node nodes (node_no k) ≡ false
 none_listed nodes k whole none = by (nat_lt k 16) refl
   where
-    off : (b : Bool) → not b ≡ true → b ≡ false
-    off true is = absurd (cc is)
-    off false is = refl
-
     by : (b : Bool) → nat_lt k 16 ≡ b → has_node nodes (node_no k) ≡ false
-    by true below = none_of nodes k all_nodes (off (list_any (has_node nodes) all_nodes) none) (all_named k (grind (arith, nat_tests, below)))
+    by true below = none_of nodes k all_nodes (not-true (list_any (has_node nodes) all_nodes) none) (all_named k (grind (arith, nat_tests, below)))
     by false past = get_or_past nodes.has k false (rw whole (grind (arith, nat_tests, past)))

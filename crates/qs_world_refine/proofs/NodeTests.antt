@@ -1,17 +1,7 @@
 -- Which nodes are in a set of those that pass a test, and in the sets that are built so.
-use Rattle.std.proofs.Common.{◌≡◌, ℕ, ◌<◌, ◌≤◌, ◌==◌, ◌&&◌, ◌||◌, not, Bool, true, false, List, [], ◌∷◌, length, fold, arith, refl, sym, ap, ◌∙◌, if◌then◌else◌}
-use Rattle.std.specs.Prelude.{nat_lt, slice_index_or}
-use Rattle.std.proofs.lemmas.Bool.{eqb-true}
-use Rattle.std.proofs.lemmas.Bool.Decides.{nat_tests}
-use Rattle.std.proofs.lemmas.List.{set_past, get_or_past}
-use Rattle.qs_base.specs.declared.identifiers.NodeNo.{NodeNo}
-use Rattle.qs_engage.specs.Engage.{no_peer, peer_of, has_sent, sent_to}
-use Rattle.qs_engage.specs.Nodes.{all_nodes, no_nodes, has_node, put_node, put_where, nodes_where, without, has_all}
-use Rattle.qs_engage.specs.declared.nodes.Nodes.{Nodes}
-use Rattle.qs_tm.specs.Outcomes.{drawn_in}
-use Rattle.qs_tm.specs.declared.participant.Participant.{Participant}
-use Rattle.qs_world_refine.specs.Links.{node_no, names_node}
-use Rattle.qs_world_refine.specs.Steps.{IsWhole}
+use Rattle.qs_world_refine.proofs.Words.{◌≡◌, ℕ, ◌<◌, ◌≤◌, ◌==◌, ◌&&◌, ◌||◌, not, Bool, true, false, List, [], ◌∷◌, length, fold, arith, refl, sym, ap, ◌∙◌, if◌then◌else◌, nat_lt, slice_index_or, eqb-true, nat_tests, set_past, get_or_past, NodeNo, no_peer, peer_of, no_nodes, put_node, put_where, without, has_all, Nodes, drawn_in, Participant, node_no, names_node, IsWhole, false-or}
+use Rattle.qs_engage.specs.Engage.{has_sent, sent_to}
+use Rattle.qs_engage.specs.Nodes.{all_nodes, has_node, nodes_where}
 use Rattle.qs_world_refine.proofs.Arrays.{node_put}
 use Rattle.qs_world_refine.proofs.NodeSets.{put_length, where_length, all_named, none_listed}
 use Rattle.qs_world_refine.proofs.StartWorlds.{nobody}
@@ -36,11 +26,7 @@ put_is nodes node k whole below = by (nat_lt node.0 (length nodes.has)) refl
 module _ (test : NodeNo → Bool) (k : ℕ) (below : k < 16) where
   -- a fold puts just those of its list that pass
   where_fold : (list : List NodeNo) (nodes : Nodes) → length nodes.has ≡ 16 → has_node (fold (put_where test) nodes list) (node_no k) ≡ (has_node nodes (node_no k) || (names_node list (node_no k) && test (node_no k)))
-  where_fold [] nodes whole = none (has_node nodes (node_no k))
-    where
-      none : (b : Bool) → b ≡ (b || false)
-      none true = refl
-      none false = refl
+  where_fold [] nodes whole = false-or (has_node nodes (node_no k))
   where_fold (node ∷ list) nodes whole = by (test node) refl (where_fold list (put_node nodes node) (put_length nodes node ∙ whole)) (where_fold list nodes whole)
     where
       same : (k == node.0) ≡ true → test (node_no k) ≡ test node

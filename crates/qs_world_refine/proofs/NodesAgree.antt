@@ -1,24 +1,10 @@
 -- Nodes agree, and their logs stand together, as the agreement machine that shows each transaction does.
-use Rattle.std.proofs.Common.{◌≡◌, ℕ, ◌<◌, ◌||◌, ◌==◌, not, nat_lt, Bool, true, false, None, Some, refl, sym, ap, subst, ◌∙◌, arith}
-use Rattle.std.specs.List.{list_any}
-use Rattle.std.proofs.lemmas.Bool.Decides.{nat_tests}
-use Rattle.qs_base.specs.Order.{same_tid}
+use Rattle.qs_world_refine.proofs.Words.{◌≡◌, ℕ, ◌<◌, nat_lt, Bool, true, false, None, Some, refl, sym, ap, subst, ◌∙◌, arith, list_any, nat_tests, same_tid, Tid, recovery, names_transaction, is_untold_of, Participant, Open, Committed, Aborted, may_be_known, ShowsAll, names_node, node_no, outcome_of, part_at, place, IsShown, IsShownWorld, list_of, stage_of, implied, eqb-self}
 use Rattle.qs_base.specs.declared.identifiers.Outcome.TheVariants as outcomes
-use Rattle.qs_base.specs.declared.identifiers.Tid.{Tid}
-use Rattle.qs_restart.specs.Recovery.{recovery, names_transaction, is_untold_of}
 use Rattle.qs_tm.specs.Manager as tm
-use Rattle.qs_tm.specs.declared.participant.Participant.{Participant}
 use Rattle.qs_world.specs.World.{World}
 use Rattle.qs_world_agree.specs.World as machine
-use Rattle.qs_world_agree.specs.World.{Open, Committed, Aborted}
-use Rattle.qs_world_refine.specs.Begun.{has_begun, may_be_known}
-use Rattle.qs_world_refine.specs.EachMove.{ShowsAll}
-use Rattle.qs_world_refine.specs.Links.{names_node, node_no}
-use Rattle.qs_world_refine.specs.NodeFaces.{outcome_of, part_at}
-use Rattle.qs_world_refine.specs.Places.{place}
-use Rattle.qs_world_refine.specs.ShownWorlds.{IsShown, IsShownWorld}
-use Rattle.qs_world_refine.specs.Sights.{list_of}
-use Rattle.qs_world_refine.specs.Steadies.{stage_of}
+use Rattle.qs_world_refine.specs.Begun.{has_begun}
 use Rattle.qs_world_refine.specs.WorldLaws.{Knows, LearnersStand, NodesAgree, LogsStand}
 use Rattle.qs_world_refine.proofs.Doubts.{some_of}
 use Rattle.qs_world_refine.proofs.Facts.{invariant}
@@ -28,11 +14,7 @@ use Rattle.qs_world_refine.proofs.SteadyGives.{past_of, unbegun_unknown}
 
 -- what may be known of a home of the run has begun
 pub begun_of : (tid : Tid) (world : World) → tid.home.0 < world.size → may_be_known world tid ≡ true → has_begun world tid ≡ true
-begun_of tid world home_in is = by (nat_lt tid.home.0 world.size) (has_begun world tid) (grind (arith, nat_tests, home_in)) (and_both (names_transaction tid) _ is).1
-  where
-    by : (a b : Bool) → a ≡ true → (not a || b) ≡ true → b ≡ true
-    by true b in_run its = its
-    by false b in_run its = absurd (cc (in_run))
+begun_of tid world home_in is = implied (nat_lt tid.home.0 world.size) (has_begun world tid) (grind (arith, nat_tests, home_in)) (and_both (names_transaction tid) _ is).1
 
 -- ---- a node that knows an outcome
 
@@ -91,13 +73,10 @@ learners_stand tid world n is home_in other committed learns =
     let face = sees.faces n learns.in_run learns.runs in
     let open_now : outcome_of (part_at (world.hosts n).node tid) ≡ Open = ap (λ (p : Participant). outcome_of p) (part_known tid (world.hosts n).node learns.part learns.known) ∙ undecided learns.part learns.undecided in
     let told = (shown.shows.seen.lawful.answered cell).in_doubt (place n (world.channels.inc n)) (λ same. other (sym at ∙ (same ∙ home_node)))
-    (sees.stage.up n (world.channels.inc n) learns.in_run ∙ rw (learns.runs) (nat_is (world.channels.inc n)))
+    (sees.stage.up n (world.channels.inc n) learns.in_run ∙ rw (learns.runs) (eqb-self (world.channels.inc n)))
     ((face.running open_now).involved ∙ (ap (λ (p : Participant). p.involved) (part_known tid (world.hosts n).node learns.part learns.known) ∙ learns.involved))
     (face.outcome ∙ open_now) in
     (sym (logs.unended refl) ∙ told.1, sym (logs.named refl told.1 n) ∙ subst (λ (k : ℕ). w.commit_list k ≡ true) at told.0)
   where
-    nat_is : (k : ℕ) → (k == k) ≡ true
-    nat_is k = grind (arith, nat_tests)
-
     undecided : (part : Participant) → part.outcome ≡ None → outcome_of part ≡ Open
     undecided part none = rw none refl

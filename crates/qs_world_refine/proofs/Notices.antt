@@ -1,25 +1,11 @@
 -- The servers of a node learn how a transaction ends, and what the machine sees of the node stays.
-use Rattle.std.proofs.Common.{◌≡◌, ℕ, ◌==◌, nat_lt, Bool, true, false, List, [], ◌∷◌, fold, length, refl, sym, ap, ◌∙◌, arith, if◌then◌else◌}
-use Rattle.std.specs.Prelude.{slice_index_or}
-use Rattle.std.proofs.lemmas.Bool.{eqb-true}
-use Rattle.std.proofs.lemmas.Bool.Decides.{nat_tests}
-use Rattle.std.proofs.lemmas.List.{set_past}
+use Rattle.qs_world_refine.proofs.Words.{◌≡◌, ℕ, ◌==◌, nat_lt, Bool, true, false, List, [], ◌∷◌, fold, length, refl, sym, ap, ◌∙◌, arith, if◌then◌else◌, slice_index_or, eqb-true, nat_tests, set_past, ServerNo, Tid, after_notice, no_member, member_of, MemberPart, Participant, notify, end_member, end_members, due_endings, learn_member, learners_at, give_notices, NodeValue, Work, change_server, face, uncast_of, server_no}
 use Rattle.qs_base.specs.declared.identifiers.Outcome.{Outcome}
 use Rattle.qs_base.specs.declared.identifiers.Outcome.TheVariants as outcomes
-use Rattle.qs_base.specs.declared.identifiers.ServerNo.{ServerNo}
-use Rattle.qs_base.specs.declared.identifiers.Tid.{Tid}
-use Rattle.qs_ops.specs.Server.{after_notice}
 use Rattle.qs_ops.specs.declared.vote.Notice.{Notice}
 use Rattle.qs_ops.specs.declared.vote.Notice.TheVariants as notices
-use Rattle.qs_tm.specs.Members.{no_member}
 use Rattle.qs_tm.specs.Outcomes as outcome_rules
-use Rattle.qs_tm.specs.Participant.{member_of}
-use Rattle.qs_tm.specs.declared.members.MemberPart.{MemberPart}
-use Rattle.qs_tm.specs.declared.participant.Participant.{Participant}
-use Rattle.qs_node_step.specs.Deciding.{notify, notice_of, end_member, end_members, due_endings, learn_member, learners_at, give_notices}
-use Rattle.qs_node_step.specs.State.{NodeValue, Work, change_server}
-use Rattle.qs_world_refine.specs.NodeFaces.{face, uncast_of}
-use Rattle.qs_world_refine.specs.Sights.{server_no}
+use Rattle.qs_node_step.specs.Deciding.{notice_of}
 use Rattle.qs_world_refine.proofs.Alike.{SameFace}
 use Rattle.qs_world_refine.proofs.Arrays.{member_put}
 use Rattle.qs_world_refine.proofs.Frames.{out_leaves}

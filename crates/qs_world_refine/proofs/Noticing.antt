@@ -1,15 +1,7 @@
 -- A node learns that another one restarted: Notice.
-use Rattle.std.proofs.Common.{◌≡◌, ◌≢◌, ℕ, ◌+◌, ◌*◌, ◌<◌, ◌≤◌, ◌==◌, ◌&&◌, Bool, true, false, [], ◌∷◌, arith, refl, sym, ◌∙◌, ap, if◌then◌else◌}
-use Rattle.std.proofs.lemmas.Bool.{eqb-true}
-use Rattle.std.proofs.lemmas.Bool.Decides.{nat_tests}
-use Rattle.qs_base.specs.declared.identifiers.Tid.{Tid}
-use Rattle.qs_world_agree.specs.World.{World, Open, with_at, with_at2}
+use Rattle.qs_world_refine.proofs.Words.{◌≡◌, ◌≢◌, ℕ, ◌+◌, ◌*◌, ◌<◌, ◌≤◌, ◌==◌, ◌&&◌, Bool, true, false, [], ◌∷◌, arith, refl, sym, ◌∙◌, ap, if◌then◌else◌, eqb-true, nat_tests, Tid, Open, Leads, place, known_place, Face, ShowsFace, link, IsLink, IsEmpty, waiting_link, Sight, ShowsSight}
+use Rattle.qs_world_agree.specs.World.{World, with_at, with_at2}
 use Rattle.qs_world_agree.specs.Step.{Step, Notice}
-use Rattle.qs_world_agree.specs.Carry.{Leads}
-use Rattle.qs_world_refine.specs.Places.{place, known_place}
-use Rattle.qs_world_refine.specs.Faces.{Face, ShowsFace}
-use Rattle.qs_world_refine.specs.Links.{link, IsLink, IsEmpty, waiting_link}
-use Rattle.qs_world_refine.specs.Sights.{Sight, ShowsSight}
 use Rattle.qs_world_refine.specs.Seen.{sight_noticed}
 use Rattle.qs_world_refine.proofs.Same.{same_place}
 use Rattle.qs_world_refine.proofs.EventFaces.{Knows, face_notice}

@@ -1,16 +1,10 @@
 -- What is open in a world goes to nodes of the run after each move.
-use Rattle.std.proofs.Common.{◌≡◌, ℕ, ◌<◌, ◌==◌, Bool, true, false, Option, Some, None, refl, subst, if◌then◌else◌}
-use Rattle.std.proofs.lemmas.Bool.{eqb-true}
+use Rattle.qs_world_refine.proofs.Words.{◌≡◌, ℕ, ◌<◌, ◌==◌, Bool, true, false, Option, Some, None, refl, subst, if◌then◌else◌, eqb-true, recovered_of, after_step, effects_of, Cut, Stop, Rise, event_of, step_with, cut_with, stepped_host, stopped_host, risen_host, cut_log, Host, BeginsNewAt, MayStep, commands_in_run}
 use Rattle.qs_session_channels.specs.Network.{with_at}
-use Rattle.qs_node_step.specs.Opening.{recovered_of}
-use Rattle.qs_node_step.specs.Step.{after_step, effects_of}
 use Rattle.qs_node_step.specs.declared.event.Event.{Event}
-use Rattle.qs_world.specs.Moves.{Step, Cut, Stop, Rise, Meet, event_of, step_with, cut_with, stepped_host, stopped_host, risen_host, cut_log}
-use Rattle.qs_world.specs.World.{Host, World}
+use Rattle.qs_world.specs.Moves.{Step, Meet}
+use Rattle.qs_world.specs.World.{World}
 use Rattle.qs_world_refine.specs.OpenLaws.{AreOpenInRun, MayComeAt, StartOpen, MoveMay, MoveOpen}
-use Rattle.qs_world_refine.specs.SaidLaws.{BeginsNewAt}
-use Rattle.qs_world_refine.specs.SoundMoves.{MayStep}
-use Rattle.qs_world_refine.specs.SoundSteps.{commands_in_run}
 use Rattle.qs_world_refine.proofs.MoveGoes.{step_may}
 use Rattle.qs_world_refine.proofs.SaidSteps.{step_open}
 

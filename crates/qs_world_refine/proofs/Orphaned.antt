@@ -1,32 +1,18 @@
 -- A node that answers to a place of a node that restarted, or whose home did, may inquire once it knows of the restart.
-use Rattle.std.proofs.Common.{◌≡◌, ◌≢◌, ◌⊎◌, inl, inr, ℕ, ◌<◌, ◌≤◌, ◌==◌, ◌&&◌, ◌||◌, not, Bool, true, false, Option, Some, None, is_some, refl, sym, ap, subst, ◌∙◌, arith, if◌then◌else◌}
-use Rattle.std.specs.Prelude.{nat_lt}
-use Rattle.std.proofs.lemmas.Bool.{eqb-true}
-use Rattle.std.proofs.lemmas.Bool.Decides.{nat_tests}
-use Rattle.qs_base.specs.declared.identifiers.NodeNo.{NodeNo}
+use Rattle.qs_world_refine.proofs.Words.{◌≡◌, ◌≢◌, ◌⊎◌, inl, inr, ℕ, ◌<◌, ◌≤◌, ◌==◌, ◌&&◌, ◌||◌, not, Bool, true, false, Option, Some, None, is_some, refl, sym, ap, subst, ◌∙◌, arith, if◌then◌else◌, nat_lt, eqb-true, or_cases, nat_tests, NodeNo, Tid, peer_of, is_node, same_node, Participant, is_orphaned_by, Work, part_of, Open, IsLawful, Face, ShowsFace, MayInquire, node_no, began_here, face, face_at, outcome_seen, place, known_place, Scene, ShowsWork, IsAt, and_first, and_last}
+use Rattle.std.proofs.lemmas.Bool.{and_left}
 use Rattle.qs_base.specs.declared.identifiers.Outcome.{Outcome}
-use Rattle.qs_base.specs.declared.identifiers.Tid.{Tid}
-use Rattle.qs_engage.specs.Engage.{peer_of, is_node}
-use Rattle.qs_engage.specs.Nodes.{same_node}
 use Rattle.qs_tm.specs.Participant.{answered_to}
-use Rattle.qs_tm.specs.declared.participant.Participant.{Participant}
-use Rattle.qs_node_step.specs.Restarts.{awaits_word, is_orphaned_by}
-use Rattle.qs_node_step.specs.State.{Work, part_of}
-use Rattle.qs_world_agree.specs.World.{World, Open}
-use Rattle.qs_world_agree.specs.Carry.{IsLawful}
-use Rattle.qs_world_refine.specs.Faces.{Face, ShowsFace}
-use Rattle.qs_world_refine.specs.InquireLaws.{MayInquire}
-use Rattle.qs_world_refine.specs.Links.{node_no}
-use Rattle.qs_world_refine.specs.NodeFaces.{began_here, face, face_at, outcome_seen, superior_no}
-use Rattle.qs_world_refine.specs.Places.{place, known_place}
-use Rattle.qs_world_refine.specs.Shows.{Scene, ShowsWork}
-use Rattle.qs_world_refine.specs.Steps.{IsAt}
+use Rattle.qs_node_step.specs.Restarts.{awaits_word}
+use Rattle.qs_world_agree.specs.World.{World}
+use Rattle.qs_world_refine.specs.NodeFaces.{superior_no}
 use Rattle.qs_world_refine.proofs.During.{face_here}
 use Rattle.qs_world_refine.proofs.FreshRuns.{fresh}
 use Rattle.qs_world_refine.proofs.Reading.{part_known}
 use Rattle.qs_world_refine.proofs.Same.{same_place}
 use Rattle.qs_world_refine.proofs.SoundParts.{and_both}
 use Rattle.qs_world_refine.proofs.TookLast.{took_last}
+use Rattle.qs_base_lemmas.proofs.Tests.{some_not_zero}
 
 -- the one that it answers to is the last one that it answered to; and the numbers of the other node's requests begin anew
 pub record IsOrphan (m : ℕ) (part : Participant) : Type 0 where
@@ -45,10 +31,7 @@ module _ (t : Tid) (scene : Scene) (n m new : ℕ) (work : Work) (v : World) (pa
   here = subst (λ (f : Face). ShowsFace f q v) (face_here t scene n work ∙ face_is) (shown.faces n at.in_run at.up)
 
   later : began_here work.node t ≡ false
-  later = off (same_node t.home work.node.setting.node) (t.inc == work.node.setting.inc) (ap (λ (k : NodeNo). same_node t.home k) at.node ∙ away)
-    where
-      off : (a b : Bool) → a ≡ false → (a && b) ≡ false
-      off a b is = rw is refl
+  later = and_left (same_node t.home work.node.setting.node) (t.inc == work.node.setting.inc) (ap (λ (k : NodeNo). same_node t.home k) at.node ∙ away)
 
   not_home : q ≢ v.home
   not_home same = apart (same_place n t.home.0 (scene.inc n) t.inc (below n at.in_run) (below t.home.0 home_in) (same ∙ shown.stage.home)).0
@@ -86,19 +69,11 @@ module _ (t : Tid) (scene : Scene) (n m new : ℕ) (work : Work) (v : World) (pa
     home_left : (same_node t.home (node_no m) && nat_lt t.inc new) ≡ true → v.home < v.peer q (v.node v.home)
     home_left so = less v.home (v.peer q (v.node v.home)) (shown.stage.home ∙ ap (λ (k : ℕ). place k t.inc) at_m) (ap (v.peer q) (ap v.node shown.stage.home ∙ (shown.stage.nodes t.home.0 t.inc home_in ∙ at_m)) ∙ peer_is)
       where
-        first : (a b : Bool) → (a && b) ≡ true → a ≡ true
-        first true b is = refl
-        first false b is = absurd (cc (is))
-
-        second : (a b : Bool) → (a && b) ≡ true → b ≡ true
-        second true b is = is
-        second false b is = absurd (cc (is))
-
         at_m : t.home.0 ≡ m
-        at_m = eqb-true t.home.0 m (first (t.home.0 == m) (nat_lt t.inc new) so)
+        at_m = eqb-true t.home.0 m (and_first (t.home.0 == m) (nat_lt t.inc new) so)
 
         less : (a b : ℕ) → a ≡ place m t.inc → b ≡ place m new → a < b
-        less a b x y = let low = second (t.home.0 == m) (nat_lt t.inc new) so in grind (arith, nat_tests, x, y, low)
+        less a b x y = let low = and_last (t.home.0 == m) (nat_lt t.inc new) so in grind (arith, nat_tests, x, y, low)
 
     superior_left : s.0 ≡ m → v.engager q < v.peer q (v.superior q)
     superior_left same = less (v.engager q) (v.peer q (v.superior q)) ((fresh v lawful q q).known engaged not_home).1 other
@@ -107,10 +82,7 @@ module _ (t : Tid) (scene : Scene) (n m new : ℕ) (work : Work) (v : World) (pa
         of_last = subst (λ (k : ℕ). v.last q (v.peer q k) ≡ (peer_of part.engage (node_no k)).last) (ap superior_no answers) (here.last on later) ∙ (ap (λ (k : ℕ). (peer_of part.engage (node_no k)).last) same ∙ orphan.anew)
 
         other : v.engager q ≢ v.peer q (v.superior q)
-        other is = none (v.last q (v.engager q)) (took_last v lawful q engaged not_home) (ap (v.last q) (is ∙ ap (v.peer q) superior) ∙ of_last)
-          where
-            none : (k : ℕ) → 1 ≤ k → k ≡ 0 → ⊥
-            none k a b = omega (arith, a, b)
+        other is = some_not_zero (v.last q (v.engager q)) (took_last v lawful q engaged not_home) (ap (v.last q) (is ∙ ap (v.peer q) superior) ∙ of_last)
 
         less : (a b : ℕ) → a ≤ b → a ≢ b → a < b
         less a b x y = omega (arith, x, y)
@@ -118,20 +90,16 @@ module _ (t : Tid) (scene : Scene) (n m new : ℕ) (work : Work) (v : World) (pa
     answered : (is_node (node_no m) part.engage.superior || is_node (node_no m) part.engage.last_superior) ≡ true → s.0 ≡ m
     answered so = by part.engage.last_superior refl (subst (λ (o : Option NodeNo). (is_node (node_no m) o || is_node (node_no m) part.engage.last_superior) ≡ true) answers so)
       where
-        which : (a b : Bool) → (a || b) ≡ true → (a ≡ true) ⊎ (b ≡ true)
-        which true b is = inl refl
-        which false b is = inr is
-
         same : (k : ℕ) → (k == m) ≡ true → k ≡ m
         same k is = eqb-true k m is
 
         by : (o : Option NodeNo) → part.engage.last_superior ≡ o → ((s.0 == m) || is_node (node_no m) o) ≡ true → s.0 ≡ m
-        by None none is = first (which (s.0 == m) false is)
+        by None none is = first (or_cases (s.0 == m) false is)
           where
             first : ((s.0 == m) ≡ true) ⊎ (false ≡ true) → s.0 ≡ m
             first (inl so) = same s.0 so
             first (inr so) = absurd (cc (so))
-        by (Some other) was is = one (which (s.0 == m) (other.0 == m) is)
+        by (Some other) was is = one (or_cases (s.0 == m) (other.0 == m) is)
           where
             one : ((s.0 == m) ≡ true) ⊎ ((other.0 == m) ≡ true) → s.0 ≡ m
             one (inl so) = same s.0 so
@@ -145,12 +113,8 @@ module _ (t : Tid) (scene : Scene) (n m new : ℕ) (work : Work) (v : World) (pa
         by false is so = inr (inl (engaged, superior_left (answered so)))
 
   pub orphan_inquires : MayInquire v q
-  orphan_inquires = by (which part.involved (is_some part.engage.superior) tests.0)
+  orphan_inquires = by (or_cases part.involved (is_some part.engage.superior) tests.0)
     where
-      which : (a b : Bool) → (a || b) ≡ true → (a ≡ true) ⊎ (b ≡ true)
-      which true b is = inl refl
-      which false b is = inr is
-
       at_superior : (o : Option NodeNo) → part.engage.superior ≡ o → is_some o ≡ true → MayInquire v q
       at_superior None none is = absurd (cc (is))
       at_superior (Some s) answers is = engaged_inquires s answers

@@ -1,28 +1,13 @@
 -- What a message makes of its transaction leaves every other one.
-use Rattle.std.proofs.Common.{◌≡◌, nat_lt, Bool, true, false, List, [], ◌∷◌, fold, Option, Some, None, refl, ap, arith, if◌then◌else◌}
-use Rattle.std.specs.Map.{lookup, remove_entry}
-use Rattle.std.specs.BTreeMap.{is_at}
-use Rattle.std.proofs.lemmas.Bool.Decides.{nat_tests}
-use Rattle.qs_base.proofs.TidOrder.{tid_exact}
-use Rattle.qs_base.specs.Order.{tid_cmp}
+use Rattle.qs_world_refine.proofs.Words.{◌≡◌, nat_lt, Bool, true, false, List, [], ◌∷◌, fold, Option, Some, None, refl, ap, arith, if◌then◌else◌, lookup, remove_entry, is_at, nat_tests, tid_exact, tid_cmp, ServerNo, Tid, IpcValue, queue_at, server_cmp, count_of, Record, Manager, Participant, log_if, tid_of, notify, end_member, end_members, due_endings, learn_member, learners_at, give_notices, Work, with_manager, with_queues, server_no}
 use Rattle.qs_base.specs.declared.identifiers.Outcome.{Outcome}
 use Rattle.qs_base.specs.declared.identifiers.Outcome.TheVariants as outcomes
-use Rattle.qs_base.specs.declared.identifiers.ServerNo.{ServerNo}
-use Rattle.qs_base.specs.declared.identifiers.Tid.{Tid}
 use Rattle.qs_ipc.specs.Ipc as ipc
-use Rattle.qs_ipc.specs.Ipc.{IpcValue, queue_at, forgotten_below, server_cmp}
-use Rattle.qs_ipc.specs.Queue.{count_of}
+use Rattle.qs_ipc.specs.Ipc.{forgotten_below}
 use Rattle.qs_ops.specs.declared.vote.Notice.{Notice}
-use Rattle.qs_record.specs.declared.record.Record.{Record}
 use Rattle.qs_tm.specs.Manager as tm
 use Rattle.qs_tm.specs.Outcomes as outcome_rules
 use Rattle.qs_tm.specs.Participant as participant
-use Rattle.qs_tm.specs.declared.manager.Manager.{Manager}
-use Rattle.qs_tm.specs.declared.participant.Participant.{Participant}
-use Rattle.qs_node_step.specs.Bringing.{log_if, tid_of}
-use Rattle.qs_node_step.specs.Deciding.{notify, end_member, end_members, due_endings, learn_member, learners_at, give_notices}
-use Rattle.qs_node_step.specs.State.{Work, with_manager, with_queues}
-use Rattle.qs_world_refine.specs.Sights.{server_no}
 use Rattle.qs_world_refine.proofs.During.{Leaves, leaves_itself, leaves_on}
 use Rattle.qs_world_refine.proofs.Frames.{out_leaves, part_apart, log_leaves, keys_apart}
 use Rattle.qs_world_refine.proofs.LogFrames.{Apart}

@@ -1,46 +1,19 @@
 -- What each message that comes makes of its transaction leaves every other one.
-use Rattle.std.proofs.Common.{◌≡◌, ℕ, ◌&&◌, not, Bool, true, false, List, [], Option, Some, None, refl, sym, ◌∙◌, if◌then◌else◌}
-use Rattle.std.specs.List.{list_any}
-use Rattle.std.specs.Map.{lookup}
-use Rattle.std.specs.BTreeMap.{is_at}
-use Rattle.qs_base.specs.declared.identifiers.Member.{Member}
-use Rattle.qs_base.specs.declared.identifiers.NodeNo.{NodeNo}
+use Rattle.qs_world_refine.proofs.Words.{◌≡◌, ℕ, ◌&&◌, not, Bool, true, false, List, [], Option, Some, None, refl, sym, ◌∙◌, if◌then◌else◌, list_any, lookup, is_at, Member, NodeNo, ServerNo, Tid, uncovered, is_node, listed, same_node, Engaged, is_for, Delivery, answer_of, Cause, Op, Reply, Message, Record, is_undecided, is_by_files, Outstanding, Participant, inquiry_came, answer_unknown, answer_known, was_committed, ask_came, asked_by, become_asked, block, refusal_came, pass_unknown, send, answer}
+use Rattle.qs_world_refine.proofs.Words.{log, tid_of, give_notices, reply_came, take_reply, answer_issuer, waits_as, client_of, request_came, learn_label, engage, cover_from, take_in, is_dropped, Work, here, part_of, with_manager, with_queues, client_cmp, message_came, tell_came, take_outcome, learn, learn_unknown, record_learnt, end_record, names_at, told_came, told_at_home, told_unknown, told_known, take_names, take_told, end_told, forget, drop_counts, keep_abort_told, is_other_node, IsForeign}
+use Rattle.qs_world_refine.proofs.Words.{same_Some}
 use Rattle.qs_base.specs.declared.identifiers.Outcome.{Outcome}
 use Rattle.qs_base.specs.declared.identifiers.Outcome.TheVariants as outcomes
-use Rattle.qs_base.specs.declared.identifiers.ServerNo.{ServerNo}
-use Rattle.qs_base.specs.declared.identifiers.Tid.{Tid}
-use Rattle.qs_engage.specs.Engage.{uncovered, is_node}
-use Rattle.qs_engage.specs.Nodes.{listed, same_node}
-use Rattle.qs_engage.specs.declared.engage.Engaged.{Engaged}
 use Rattle.qs_engage.specs.declared.engage.Engaged.TheVariants as engagements
-use Rattle.qs_ipc.specs.Queue.{is_for}
 use Rattle.qs_ipc.specs.Ipc as ipc
-use Rattle.qs_ipc.specs.declared.delivery.Delivery.{Delivery}
-use Rattle.qs_ops.specs.Operations.{answer_of}
-use Rattle.qs_ops.specs.declared.answer.Cause.{Cause}
-use Rattle.qs_ops.specs.declared.operation.Op.{Op}
-use Rattle.qs_ops.specs.declared.reply.Reply.{Reply}
 use Rattle.qs_packet.specs.declared.message.Message.TheVariants as messages
-use Rattle.qs_packet.specs.declared.message.Message.{Message}
-use Rattle.qs_record.specs.declared.record.Record.{Record}
 use Rattle.qs_record.specs.declared.record.Record.TheVariants as records
 use Rattle.qs_tm.specs.Manager as tm
 use Rattle.qs_tm.specs.Outcomes as outcome_rules
 use Rattle.qs_tm.specs.Participant as participant
-use Rattle.qs_tm.specs.Participant.{is_undecided, is_by_files}
-use Rattle.qs_tm.specs.declared.participant.Outstanding.{Outstanding}
-use Rattle.qs_tm.specs.declared.participant.Participant.{Participant}
-use Rattle.qs_node_step.specs.Answering.{inquiry_came, inquiry_at_home, answer_unknown, answer_known, was_committed}
-use Rattle.qs_node_step.specs.Asking.{ask_came, asked_by, become_asked, block, refusal_came, pass_unknown}
-use Rattle.qs_node_step.specs.Bringing.{send, answer, log, tid_of}
-use Rattle.qs_node_step.specs.Deciding.{give_notices}
-use Rattle.qs_node_step.specs.Requests.{enqueue, reply_came, take_reply, answer_issuer, waiting_at, waits_as}
-use Rattle.qs_node_servers.specs.Servers.{client_of}
-use Rattle.qs_node_step.specs.Serving.{request_came, learn_label, met, engage, cover_from, take_in, is_dropped}
-use Rattle.qs_node_step.specs.State.{Work, here, part_of, with_manager, with_queues, client_cmp}
-use Rattle.qs_node_step.specs.Step.{message_came}
-use Rattle.qs_node_step.specs.Telling.{tell_came, take_outcome, learn, learn_unknown, record_learnt, end_record, names_at, told_came, told_at_home, told_unknown, told_known, take_names, take_told, end_told, forget, drop_counts, keep_abort_told, is_other_node}
-use Rattle.qs_world_refine.specs.Messages.{IsForeign}
+use Rattle.qs_node_step.specs.Answering.{inquiry_at_home}
+use Rattle.qs_node_step.specs.Requests.{enqueue, waiting_at}
+use Rattle.qs_node_step.specs.Serving.{met}
 use Rattle.qs_world_refine.proofs.CloserCame.{closer_leaves}
 use Rattle.qs_world_refine.proofs.During.{Leaves, leaves_itself, leaves_on, send_leaves}
 use Rattle.qs_world_refine.proofs.Frames.{out_leaves, part_leaves, part_apart, log_leaves, sends_leave}
@@ -151,14 +124,8 @@ module _ (t tid : Tid) (apart : Apart t tid) where
   learnt_apart outcome part r is = by part.log.prepared outcome is
     where
       by : (b : Bool) (outcome : Outcome) → (if b then Some (end_record tid outcome) else None) ≡ Some r → Apart t (tid_of r)
-      by true outcomes.Commit is = rw (sym (some_same (records.Commit tid []) r is)) apart
-        where
-          some_same : (a b : Record) → Some a ≡ Some b → a ≡ b
-          some_same a b e = cc e
-      by true outcomes.Abort is = rw (sym (some_same (records.Aborted tid) r is)) apart
-        where
-          some_same : (a b : Record) → Some a ≡ Some b → a ≡ b
-          some_same a b e = cc e
+      by true outcomes.Commit is = rw (sym (same_Some (records.Commit tid []) r is)) apart
+      by true outcomes.Abort is = rw (sym (same_Some (records.Aborted tid) r is)) apart
       by false outcome is = absurd (cc is)
 
   learn_part_leaves : (outcome : Outcome) (part : Participant) (work : Work) → Leaves t work (learn tid outcome part work)

@@ -1,6 +1,6 @@
 -- The laws of decisions and of how they are told and taken in, each from its file.
+use Rattle.qs_world_refine.proofs.Words.{place}
 use Rattle.qs_world_refine.specs.OutcomeLaws.{CommitAloneGoes}
-use Rattle.qs_world_refine.specs.Places.{place}
 use Rattle.qs_world_refine.proofs.CommittingAlone as alone
 use Rattle.qs_world_refine.proofs.EventGoes.{undecided_cell}
 use Rattle.qs_world_refine.proofs.Facts.{invariant}

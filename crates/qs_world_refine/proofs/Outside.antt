@@ -1,19 +1,9 @@
 -- No message between nodes of the run is about a transaction whose home is not in it.
-use Rattle.std.proofs.Common.{◌≡◌, ℕ, ◌==◌, ◌&&◌, not, nat_lt, Bool, true, false, List, [], ◌∷◌, ◌++◌, refl, sym, subst, arith}
-use Rattle.std.specs.List.{list_all}
-use Rattle.std.proofs.lemmas.Bool.Decides.{nat_tests}
-use Rattle.qs_base.specs.Order.{same_tid}
-use Rattle.qs_base.specs.declared.identifiers.Tid.{Tid}
-use Rattle.qs_engage.specs.Nodes.{same_node}
-use Rattle.qs_packet.specs.declared.message.Message.{Message}
+use Rattle.qs_world_refine.proofs.Words.{◌≡◌, ℕ, ◌==◌, ◌&&◌, not, nat_lt, Bool, true, false, List, [], ◌∷◌, ◌++◌, refl, sym, subst, arith, list_all, nat_tests, same_tid, Tid, same_node, Message, names_transaction, Parcel, may_be_known, fits, node_no, IsForeign, is_steady_parcel, are_two}
 use Rattle.qs_packet.specs.declared.message.Message.TheVariants as messages
-use Rattle.qs_restart.specs.Recovery.{names_transaction}
-use Rattle.qs_world.specs.World.{Parcel, World}
-use Rattle.qs_world_refine.specs.Begun.{has_begun, may_be_known, fits}
+use Rattle.qs_world.specs.World.{World}
+use Rattle.qs_world_refine.specs.Begun.{has_begun}
 use Rattle.qs_world_refine.specs.LeftLaws.{OutsideForeign}
-use Rattle.qs_world_refine.specs.Links.{node_no}
-use Rattle.qs_world_refine.specs.Messages.{IsForeign}
-use Rattle.qs_world_refine.specs.Steadies.{is_steady_parcel, are_two}
 use Rattle.qs_world_refine.proofs.SoundKnown.{same_is}
 use Rattle.qs_world_refine.proofs.SoundParts.{and_both}
 

@@ -1,17 +1,9 @@
 -- A server replies to each operation of its own, and a client to a loan.
-use Rattle.std.proofs.Common.{◌≡◌, ◌≢◌, ◌⊎◌, inl, inr, ℕ, ◌<◌, ◌≤◌, ◌==◌, true, false, Some, None, is_some, refl, sym, subst, ap, ◌∙◌, arith}
-use Rattle.std.proofs.lemmas.Bool.{eqb-true}
-use Rattle.std.proofs.lemmas.Bool.Decides.{nat_tests}
-use Rattle.qs_base.specs.declared.identifiers.ClientNo.{ClientNo}
-use Rattle.qs_base.specs.declared.identifiers.Tid.{Tid}
-use Rattle.qs_ipc.specs.Queue.{is_for}
-use Rattle.qs_ops.specs.Server.{ServerValue, number_of, reply_in, reply_of}
+use Rattle.qs_world_refine.proofs.Words.{◌≡◌, ◌≢◌, ◌⊎◌, inl, inr, ℕ, ◌<◌, ◌≤◌, ◌==◌, true, Some, None, is_some, refl, sym, subst, ap, ◌∙◌, arith, eqb-true, eqb-false, nat_tests, ClientNo, Tid, is_for, ServerValue, number_of, Op, Note, ServerKind, lent_to}
+use Rattle.qs_ops.specs.Server.{reply_in, reply_of}
 use Rattle.qs_ops.specs.Table.{reply_to}
-use Rattle.qs_ops.specs.declared.operation.Op.{Op}
-use Rattle.qs_ops.specs.declared.operation.Op.TheVariants.{Put, Append, Del, Get, Listing, Note, Notes, Bind, Find, Timer, Left, Window, Title, Keep, Fetch, Extra, Lend}
-use Rattle.qs_ops.specs.declared.server.ServerKind.{ServerKind}
+use Rattle.qs_ops.specs.declared.operation.Op.TheVariants.{Put, Append, Del, Get, Listing, Notes, Bind, Find, Timer, Left, Window, Title, Keep, Fetch, Extra, Lend}
 use Rattle.qs_ops.specs.declared.server.ServerKind.TheVariants as kinds
-use Rattle.qs_node_step.specs.Serving.{lent_to}
 
 module _ (value : ServerValue) (tid : Tid) (op : Op) where
   -- a server with a table
@@ -61,19 +53,16 @@ module _ (s : ℕ) (tid : Tid) where
     replies = λ value is. ap is_some (by_table value tid op value.kind which (is ∙ sym (eqb-true which s its)) a b) ∙ some value;
   }
 
-  differs : (a b : ℕ) → (a == b) ≡ false → a ≢ b
-  differs a b off is = grind (arith, nat_tests, off, is)
-
   pub own_replies : (op : Op) → is_for (record { 0 = s }) op ≡ true → OfServer s tid op ⊎ OfClient s op
-  own_replies (Put name text) its = inl (tabled 0 (Put name text) its (omega arith) (differs 0 3 refl) (differs 0 6 refl) refl (λ value. refl))
-  own_replies (Append name text) its = inl (tabled 0 (Append name text) its (omega arith) (differs 0 3 refl) (differs 0 6 refl) refl (λ value. refl))
-  own_replies (Del name) its = inl (tabled 0 (Del name) its (omega arith) (differs 0 3 refl) (differs 0 6 refl) refl (λ value. refl))
-  own_replies (Get name) its = inl (tabled 0 (Get name) its (omega arith) (differs 0 3 refl) (differs 0 6 refl) refl (λ value. refl))
-  own_replies Listing its = inl (tabled 0 Listing its (omega arith) (differs 0 3 refl) (differs 0 6 refl) refl (λ value. refl))
-  own_replies (Note text) its = inl (tabled 1 (Note text) its (omega arith) (differs 1 3 refl) (differs 1 6 refl) refl (λ value. refl))
-  own_replies Notes its = inl (tabled 1 Notes its (omega arith) (differs 1 3 refl) (differs 1 6 refl) refl (λ value. refl))
-  own_replies (Bind name text) its = inl (tabled 2 (Bind name text) its (omega arith) (differs 2 3 refl) (differs 2 6 refl) refl (λ value. refl))
-  own_replies (Find name) its = inl (tabled 2 (Find name) its (omega arith) (differs 2 3 refl) (differs 2 6 refl) refl (λ value. refl))
+  own_replies (Put name text) its = inl (tabled 0 (Put name text) its (omega arith) (eqb-false 0 3 refl) (eqb-false 0 6 refl) refl (λ value. refl))
+  own_replies (Append name text) its = inl (tabled 0 (Append name text) its (omega arith) (eqb-false 0 3 refl) (eqb-false 0 6 refl) refl (λ value. refl))
+  own_replies (Del name) its = inl (tabled 0 (Del name) its (omega arith) (eqb-false 0 3 refl) (eqb-false 0 6 refl) refl (λ value. refl))
+  own_replies (Get name) its = inl (tabled 0 (Get name) its (omega arith) (eqb-false 0 3 refl) (eqb-false 0 6 refl) refl (λ value. refl))
+  own_replies Listing its = inl (tabled 0 Listing its (omega arith) (eqb-false 0 3 refl) (eqb-false 0 6 refl) refl (λ value. refl))
+  own_replies (Note text) its = inl (tabled 1 (Note text) its (omega arith) (eqb-false 1 3 refl) (eqb-false 1 6 refl) refl (λ value. refl))
+  own_replies Notes its = inl (tabled 1 Notes its (omega arith) (eqb-false 1 3 refl) (eqb-false 1 6 refl) refl (λ value. refl))
+  own_replies (Bind name text) its = inl (tabled 2 (Bind name text) its (omega arith) (eqb-false 2 3 refl) (eqb-false 2 6 refl) refl (λ value. refl))
+  own_replies (Find name) its = inl (tabled 2 (Find name) its (omega arith) (eqb-false 2 3 refl) (eqb-false 2 6 refl) refl (λ value. refl))
   own_replies (Timer name ticks) its = inl (record {
     below = subst (λ (k : ℕ). k < 7) (eqb-true 3 s its) (omega arith);
     no_loan = refl;
@@ -84,10 +73,10 @@ module _ (s : ℕ) (tid : Tid) where
     no_loan = refl;
     replies = λ value is. rw (is_timers value.kind (is ∙ sym (eqb-true 3 s its))) refl;
   })
-  own_replies (Window name text) its = inl (tabled 4 (Window name text) its (omega arith) (differs 4 3 refl) (differs 4 6 refl) refl (λ value. refl))
-  own_replies (Title name) its = inl (tabled 4 (Title name) its (omega arith) (differs 4 3 refl) (differs 4 6 refl) refl (λ value. refl))
-  own_replies (Keep name text) its = inl (tabled 5 (Keep name text) its (omega arith) (differs 5 3 refl) (differs 5 6 refl) refl (λ value. refl))
-  own_replies (Fetch name) its = inl (tabled 5 (Fetch name) its (omega arith) (differs 5 3 refl) (differs 5 6 refl) refl (λ value. refl))
+  own_replies (Window name text) its = inl (tabled 4 (Window name text) its (omega arith) (eqb-false 4 3 refl) (eqb-false 4 6 refl) refl (λ value. refl))
+  own_replies (Title name) its = inl (tabled 4 (Title name) its (omega arith) (eqb-false 4 3 refl) (eqb-false 4 6 refl) refl (λ value. refl))
+  own_replies (Keep name text) its = inl (tabled 5 (Keep name text) its (omega arith) (eqb-false 5 3 refl) (eqb-false 5 6 refl) refl (λ value. refl))
+  own_replies (Fetch name) its = inl (tabled 5 (Fetch name) its (omega arith) (eqb-false 5 3 refl) (eqb-false 5 6 refl) refl (λ value. refl))
   own_replies (Extra code text) its = inl (record {
     below = subst (λ (k : ℕ). k < 7) (eqb-true 6 s its) (omega arith);
     no_loan = refl;

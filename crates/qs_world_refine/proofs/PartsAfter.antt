@@ -1,15 +1,6 @@
 -- What is known of a transaction after a change of one, told from what was known before.
-use Rattle.std.proofs.Common.{◌≡◌, inl, inr, Bool, true, false, List, Option, Some, None, is_some, refl, sym, ap, subst, ◌∙◌, arith}
-use Rattle.std.proofs.lemmas.Bool.Decides.{nat_tests}
-use Rattle.std.specs.Prelude.{◌⊎◌}
-use Rattle.std.specs.BTreeMap.{is_at}
-use Rattle.std.specs.Map.{lookup}
-use Rattle.qs_base.specs.Order.{same_tid, tid_cmp}
-use Rattle.qs_base.specs.declared.identifiers.Tid.{Tid}
+use Rattle.qs_world_refine.proofs.Words.{◌≡◌, inl, inr, Bool, true, false, List, Option, Some, None, is_some, refl, sym, ap, subst, ◌∙◌, arith, nat_tests, ◌⊎◌, is_at, lookup, same_tid, tid_cmp, Tid, Manager, Participant, in_order}
 use Rattle.qs_tm.specs.Manager as tm
-use Rattle.qs_tm.specs.declared.manager.Manager.{Manager}
-use Rattle.qs_tm.specs.declared.participant.Participant.{Participant}
-use Rattle.qs_world_refine.specs.Sound.{in_order}
 use Rattle.qs_world_refine.proofs.Forgetting.{forgotten}
 use Rattle.qs_world_refine.proofs.Frames.{part_apart}
 use Rattle.qs_world_refine.proofs.Maps.{lookup_changed, changed_none, lookup_put}

@@ -1,22 +1,9 @@
 -- Files that owe a note issue it to a server of another node, and the pass goes on.
-use Rattle.std.proofs.Common.{◌≡◌, ℕ, ◌+◌, ◌==◌, Bool, true, false, length, Some, refl, ap, ◌∙◌, if◌then◌else◌}
-use Rattle.std.specs.BTreeMap.{is_at}
-use Rattle.std.proofs.lemmas.List.{length-set}
-use Rattle.qs_base.specs.Order.{tid_cmp}
-use Rattle.qs_base.specs.declared.identifiers.NodeNo.{NodeNo}
-use Rattle.qs_base.specs.declared.identifiers.Tid.{Tid}
+use Rattle.qs_world_refine.proofs.Words.{◌≡◌, ℕ, ◌+◌, ◌==◌, Bool, true, false, length, Some, refl, ap, ◌∙◌, if◌then◌else◌, is_at, length-set, tid_cmp, NodeNo, Tid, peer_of, last_number, Op, Outstanding, Participant, send, enter_issue, issue_away, is_asked, ask_on, label_of, NodeValue, Work, part_of, with_manager, Scene}
 use Rattle.qs_engage.specs.Engage as engage
-use Rattle.qs_engage.specs.Engage.{peer_of, last_number}
-use Rattle.qs_ops.specs.declared.operation.Op.{Op}
 use Rattle.qs_packet.specs.declared.message.Message.TheVariants as messages
 use Rattle.qs_tm.specs.Manager as tm
 use Rattle.qs_tm.specs.Participant as participant
-use Rattle.qs_tm.specs.declared.participant.Outstanding.{Outstanding}
-use Rattle.qs_tm.specs.declared.participant.Participant.{Participant}
-use Rattle.qs_node_step.specs.Bringing.{send}
-use Rattle.qs_node_step.specs.Requests.{enter_issue, issue_away, is_asked, ask_on, label_of}
-use Rattle.qs_node_step.specs.State.{NodeValue, Work, part_of, with_manager}
-use Rattle.qs_world_refine.specs.Shows.{Scene}
 use Rattle.qs_world_refine.proofs.IssueAway.{issued_part}
 use Rattle.qs_world_refine.proofs.Maps.{lookup_changed}
 use Rattle.qs_world_refine.proofs.PassVotes.{Passing}

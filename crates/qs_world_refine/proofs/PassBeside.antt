@@ -1,34 +1,14 @@
 -- A node whose files issued a note to a server of its own goes on to vote as it would have without the note.
-use Rattle.std.proofs.Common.{◌≡◌, inl, ℕ, ◌+◌, ◌-◌, Bool, true, false, List, [], ◌∷◌, ◌++◌, Option, Some, None, refl, sym, subst, ap, ◌∙◌, if◌then◌else◌}
-use Rattle.std.specs.BTreeMap.{is_at}
-use Rattle.qs_base.specs.Order.{tid_cmp, same_tid}
-use Rattle.qs_base.specs.declared.identifiers.Tid.{Tid}
+use Rattle.qs_world_refine.proofs.Words.{◌≡◌, inl, ℕ, ◌+◌, ◌-◌, Bool, true, false, List, [], ◌∷◌, ◌++◌, Option, Some, None, refl, sym, subst, ap, ◌∙◌, if◌then◌else◌, is_at, tid_cmp, same_tid, Tid, is_for, Delivery, vote_of, after_vote, changes_in, Op, Vote, Record, ServersValue, server_at, with_server, member_of, Outstanding, Participant, member_here, issue_here, enter_issue, with_local, Work, here, part_of, with_queues, vote_with, enter_vote, served_count, vote_frame, Setting, face, SightGoes}
+use Rattle.qs_world_refine.proofs.Words.{sight_faced, Scene, sight_during, ShowsWork, Sight, server_no, IsAt, Goes}
 use Rattle.qs_ipc.specs.Ipc as ipc
-use Rattle.qs_ipc.specs.Queue.{is_for}
-use Rattle.qs_ipc.specs.declared.delivery.Delivery.{Delivery}
-use Rattle.qs_ops.specs.Server.{vote_of, after_vote, changes_in}
-use Rattle.qs_ops.specs.declared.operation.Op.{Op}
-use Rattle.qs_ops.specs.declared.vote.Vote.{Vote}
 use Rattle.qs_ops.specs.declared.vote.Vote.TheVariants as votes
-use Rattle.qs_record.specs.declared.record.Record.{Record}
 use Rattle.qs_record.specs.declared.record.Record.TheVariants as records
-use Rattle.qs_node_servers.specs.Servers.{ServersValue, server_at, with_server}
 use Rattle.qs_tm.specs.Outcomes as outcome_rules
 use Rattle.qs_tm.specs.Participant as participant
-use Rattle.qs_tm.specs.Participant.{member_of}
-use Rattle.qs_tm.specs.declared.participant.Outstanding.{Outstanding}
-use Rattle.qs_tm.specs.declared.participant.Participant.{Participant}
-use Rattle.qs_node_step.specs.Bringing.{member_here, record_need, kept_for}
-use Rattle.qs_node_step.specs.Requests.{issue_here, enter_issue, with_local}
-use Rattle.qs_node_step.specs.State.{Work, here, part_of, with_queues}
-use Rattle.qs_node_step.specs.Voting.{vote_with, enter_vote, log_prepare, served_count, vote_frame}
-use Rattle.qs_node_step.specs.declared.setting.Setting.{Setting}
+use Rattle.qs_node_step.specs.Bringing.{record_need, kept_for}
+use Rattle.qs_node_step.specs.Voting.{log_prepare}
 use Rattle.qs_world_agree.specs.World.{World, with_at}
-use Rattle.qs_world_refine.specs.NodeFaces.{face}
-use Rattle.qs_world_refine.specs.Seen.{SightGoes, sight_faced}
-use Rattle.qs_world_refine.specs.Shows.{Scene, sight_during, ShowsWork}
-use Rattle.qs_world_refine.specs.Sights.{Sight, server_no}
-use Rattle.qs_world_refine.specs.Steps.{IsAt, Goes}
 use Rattle.qs_world_refine.proofs.Alike.{SameFace, found_itself}
 use Rattle.qs_world_refine.proofs.Asking as event
 use Rattle.qs_world_refine.proofs.During.{Quiet, forced_log, local_shown, face_here, runs}

@@ -1,38 +1,15 @@
 -- A vote pass changes neither what is decided nor whom the node answers to, and logs nothing but the transaction's own Prepares; nor do an answer to the superior and refusals.
-use Rattle.std.proofs.Common.{◌≡◌, ℕ, ◌+◌, ◌==◌, Bool, true, false, List, [], ◌∷◌, ◌++◌, Option, Some, None, fold, refl, sym, ◌∙◌, if◌then◌else◌}
-use Rattle.std.specs.BTreeMap.{is_at}
-use Rattle.qs_base.specs.Order.{tid_cmp}
-use Rattle.qs_base.specs.declared.identifiers.NodeNo.{NodeNo}
-use Rattle.qs_base.specs.declared.identifiers.ServerNo.{ServerNo}
-use Rattle.qs_base.specs.declared.identifiers.Tid.{Tid}
+use Rattle.qs_world_refine.proofs.Words.{◌≡◌, ℕ, ◌+◌, ◌==◌, Bool, true, false, List, [], ◌∷◌, ◌++◌, Option, Some, None, fold, refl, sym, ◌∙◌, if◌then◌else◌, is_at, tid_cmp, NodeNo, ServerNo, Tid, peer_of, last_number, same_node, is_for, vote_of, changes_in, Op, Note, Vote, Message, Record, server_at, audit_no, files_no, Outstanding, Participant, is_other, send, member_here, end_member, end_members, due_endings, enter_issue, with_local, issue_as, issue_here, issue_away, next_number, is_asked}
+use Rattle.qs_world_refine.proofs.Words.{ask_on, label_of, is_pass_due, pass_rule, Work, here, part_of, with_manager, with_queues, owes_note, issue_note, note_text, change_count, served_count, enter_vote, vote_with, vote_next, vote_frame, due_votes, vote_pass}
 use Rattle.qs_engage.specs.Engage as engage
-use Rattle.qs_engage.specs.Engage.{peer_of, last_number}
-use Rattle.qs_engage.specs.Nodes.{same_node}
 use Rattle.qs_engage.specs.declared.engage.Engage.{Engage}
 use Rattle.qs_ipc.specs.Ipc as ipc
-use Rattle.qs_ipc.specs.Queue.{is_for}
-use Rattle.qs_ops.specs.Server.{vote_of, changes_in}
-use Rattle.qs_ops.specs.declared.operation.Op.{Op}
-use Rattle.qs_ops.specs.declared.operation.Op.TheVariants.{Note}
-use Rattle.qs_ops.specs.declared.vote.Vote.{Vote}
 use Rattle.qs_ops.specs.declared.vote.Vote.TheVariants as votes
-use Rattle.qs_packet.specs.declared.message.Message.{Message}
 use Rattle.qs_packet.specs.declared.message.Message.TheVariants as messages
-use Rattle.qs_record.specs.declared.record.Record.{Record}
 use Rattle.qs_record.specs.declared.record.Record.TheVariants as records
-use Rattle.qs_node_servers.specs.Servers.{server_at, audit_no}
 use Rattle.qs_tm.specs.Manager as tm
-use Rattle.qs_tm.specs.Members.{files_no}
 use Rattle.qs_tm.specs.Outcomes as outcome_rules
 use Rattle.qs_tm.specs.Participant as participant
-use Rattle.qs_tm.specs.declared.participant.Outstanding.{Outstanding}
-use Rattle.qs_tm.specs.declared.participant.Participant.{Participant}
-use Rattle.qs_node_step.specs.Bringing.{is_other, send, member_here}
-use Rattle.qs_node_step.specs.Deciding.{end_member, end_members, due_endings}
-use Rattle.qs_node_step.specs.Requests.{enter_issue, with_local, issue_as, issue_here, issue_away, next_number, is_asked, ask_on, label_of}
-use Rattle.qs_node_step.specs.Settling.{is_pass_due, pass_rule}
-use Rattle.qs_node_step.specs.State.{Work, here, part_of, with_manager, with_queues}
-use Rattle.qs_node_step.specs.Voting.{owes_note, issue_note, note_text, change_count, served_count, enter_vote, vote_with, vote_next, vote_frame, due_votes, vote_pass}
 use Rattle.qs_world_refine.proofs.Maps.{lookup_changed}
 
 pub record Carried (tid : Tid) (work new : Work) (part : Participant) : Type 0 where

@@ -1,17 +1,7 @@
 -- Which servers vote in a pass: two-phase ones, in order, each of which served something since its last vote.
-use Rattle.std.proofs.Common.{◌≡◌, ℕ, ◌+◌, ◌-◌, ◌<◌, ◌≤◌, ◌==◌, ◌&&◌, not, nat_le, Bool, true, false, List, [], ◌∷◌, Option, Some, None, refl, arith, if◌then◌else◌}
-use Rattle.std.proofs.lemmas.Bool.Decides.{nat_tests}
-use Rattle.qs_base.specs.declared.identifiers.ServerNo.{ServerNo}
-use Rattle.qs_ops.specs.Members.{class_of, is_two_phase}
+use Rattle.qs_world_refine.proofs.Words.{◌≡◌, ℕ, ◌+◌, ◌-◌, ◌<◌, ◌≤◌, ◌==◌, not, nat_le, Bool, true, false, List, [], ◌∷◌, Option, Some, None, refl, arith, if◌then◌else◌, nat_tests, ServerNo, class_of, is_two_phase, member_of, servers_due, is_due_at, Cast, MemberPart, Participant, uncast_of, server_no, is_covered_vote, and_parts}
 use Rattle.qs_tm.specs.Members.{all_servers, is_covering}
-use Rattle.qs_tm.specs.Participant.{member_of, servers_due, is_due_at}
-use Rattle.qs_tm.specs.declared.members.Cast.{Cast}
-use Rattle.qs_tm.specs.declared.members.MemberPart.{MemberPart}
 use Rattle.qs_tm.specs.declared.participant.Due.TheVariants as dues
-use Rattle.qs_tm.specs.declared.participant.Participant.{Participant}
-use Rattle.qs_world_refine.specs.NodeFaces.{uncast_of}
-use Rattle.qs_world_refine.specs.Sights.{server_no}
-use Rattle.qs_world_refine.specs.Sound.{is_covered_vote}
 
 -- the vote of that server is due
 pub record IsDue (part : Participant) (s : ℕ) : Type 0 where
@@ -42,10 +32,6 @@ due_still part new k (s ∷ rest) same is =
 
 -- ---- those whose vote a pass finds due
 
-both : (a b : Bool) → (a && b) ≡ true → (a ≡ true) × (b ≡ true)
-both true b is = (refl, is)
-both false b is = absurd (cc is)
-
 some_left : (member : MemberPart) → not (is_covering member) ≡ true → is_covered_vote member ≡ true → 1 ≤ uncast_of member
 some_left member open_now covered = by member.vote open_now covered
   where
@@ -63,7 +49,7 @@ some_left member open_now covered = by member.vote open_now covered
 module _ (part : Participant) (covered : (s : ServerNo) → is_covered_vote (member_of part s) ≡ true) where
   one : (k : ℕ) → k < 7 → (list : List ServerNo) → AreDue part (k + 1) list → (b : Bool) → is_due_at dues.Vote part (server_no k) ≡ b → AreDue part k (if b then server_no k ∷ list else list)
   one k below list more true is =
-      let tests : (is_two_phase (class_of k) ≡ true) × (not (is_covering (member_of part (server_no k))) ≡ true) = both (is_two_phase (class_of k)) (not (is_covering (member_of part (server_no k)))) is in
+      let tests : (is_two_phase (class_of k) ≡ true) × (not (is_covering (member_of part (server_no k))) ≡ true) = and_parts (is_two_phase (class_of k)) (not (is_covering (member_of part (server_no k)))) is in
       (omega arith, (record { below = below; votes = tests.0; more = some_left (member_of part (server_no k)) tests.1 (covered (server_no k)) }, more))
   one k below list more false is = due_less part (k + 1) k list (omega arith) more
 

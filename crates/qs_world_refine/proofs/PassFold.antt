@@ -1,30 +1,10 @@
 -- The servers whose votes are due vote one after the other, and files issue their note in its place.
-use Rattle.std.proofs.Common.{◌≡◌, ℕ, ◌+◌, ◌≤◌, ◌==◌, ◌&&◌, not, nat_lt, Bool, true, false, List, [], ◌∷◌, Option, Some, None, is_some, fold, refl, sym, subst, ap, ◌∙◌, arith, if◌then◌else◌}
-use Rattle.std.proofs.lemmas.Bool.Decides.{nat_tests}
-use Rattle.qs_base.specs.declared.identifiers.NodeNo.{NodeNo}
-use Rattle.qs_base.specs.declared.identifiers.ServerNo.{ServerNo}
-use Rattle.qs_base.specs.declared.identifiers.Tid.{Tid}
-use Rattle.qs_engage.specs.Engage.{next_sent}
-use Rattle.qs_engage.specs.Nodes.{same_node}
-use Rattle.qs_ipc.specs.declared.delivery.Delivery.{Delivery}
-use Rattle.qs_ops.specs.Server.{vote_of}
-use Rattle.qs_ops.specs.declared.operation.Op.{Op}
-use Rattle.qs_ops.specs.declared.operation.Op.TheVariants.{Note}
-use Rattle.qs_ops.specs.declared.vote.Vote.{Vote}
-use Rattle.qs_node_servers.specs.Servers.{server_at, audit_no}
+use Rattle.qs_world_refine.proofs.Words.{◌≡◌, ℕ, ◌+◌, ◌≤◌, ◌==◌, ◌&&◌, not, nat_lt, Bool, true, false, List, [], ◌∷◌, Option, Some, None, is_some, fold, refl, sym, subst, ap, ◌∙◌, arith, if◌then◌else◌, nat_tests, NodeNo, ServerNo, Tid, next_sent, same_node, Delivery, vote_of, Op, Note, Vote, server_at, audit_no, files_no, Outstanding, Participant, next_number, issue_as, issue_here, issue_away, Work, here, owes_note, issue_note, vote_next, vote_with, vote_frame, note_text, change_count, is_audit}
+use Rattle.qs_world_refine.proofs.Words.{IsLawful, Scene, ShowsWork, Goes}
 use Rattle.qs_tm.specs.Manager as tm
-use Rattle.qs_tm.specs.Members.{files_no}
 use Rattle.qs_tm.specs.Participant.{has_noted}
-use Rattle.qs_tm.specs.declared.participant.Outstanding.{Outstanding}
-use Rattle.qs_tm.specs.declared.participant.Participant.{Participant}
-use Rattle.qs_node_step.specs.Requests.{next_number, next_local, issue_as, issue_here, issue_away}
-use Rattle.qs_node_step.specs.State.{Work, here}
-use Rattle.qs_node_step.specs.Voting.{owes_note, issue_note, vote_next, vote_with, vote_frame, note_text, change_count}
-use Rattle.qs_world.specs.Openings.{is_audit}
+use Rattle.qs_node_step.specs.Requests.{next_local}
 use Rattle.qs_world_agree.specs.World.{World}
-use Rattle.qs_world_agree.specs.Carry.{IsLawful}
-use Rattle.qs_world_refine.specs.Shows.{Scene, ShowsWork}
-use Rattle.qs_world_refine.specs.Steps.{Goes}
 use Rattle.qs_world_refine.proofs.Facts.{lawful_on}
 use Rattle.qs_world_refine.proofs.IssueAway.{issued_part}
 use Rattle.qs_world_refine.proofs.Keeping.{nothing_goes}

@@ -1,32 +1,14 @@
 -- A vote pass as a whole.
-use Rattle.std.proofs.Common.{◌≡◌, ℕ, ◌==◌, ◌&&◌, ◌||◌, not, nat_le, Bool, true, false, List, [], ◌∷◌, length, Some, None, is_some, fold, refl, sym, subst, ap, ◌∙◌, if◌then◌else◌}
-use Rattle.std.specs.BTreeMap.{is_at}
-use Rattle.std.proofs.lemmas.Bool.{eqb-true}
-use Rattle.std.proofs.lemmas.List.{length-set}
-use Rattle.qs_base.specs.Order.{tid_cmp}
-use Rattle.qs_base.specs.declared.identifiers.ServerNo.{ServerNo}
-use Rattle.qs_base.specs.declared.identifiers.Tid.{Tid}
-use Rattle.qs_engage.specs.Nodes.{same_node}
+use Rattle.qs_world_refine.proofs.Words.{◌≡◌, ℕ, ◌==◌, ◌&&◌, ◌||◌, not, nat_le, Bool, true, false, List, [], ◌∷◌, length, Some, None, is_some, fold, refl, sym, subst, ap, ◌∙◌, if◌then◌else◌, is_at, eqb-true, not-true, or_parts, length-set, tid_cmp, ServerNo, Tid, same_node, is_standing_loan, number_of, after_notice, member_of, needs_pass, is_undecided, servers_due, Participant, end_member, end_members, due_endings, is_lent, is_busy, is_pass_due, Work, doings_of, part_of, vote_next, due_votes}
+use Rattle.qs_world_refine.proofs.Words.{vote_pass, IsLawful, face, uncast_of, began_here, HasKinds, Scene, ShowsWork, server_no, is_sound, is_whole, same_flag, where_so, IsAt, IsWhole, Goes}
 use Rattle.qs_ipc.specs.Ipc as ipc
-use Rattle.qs_node_kept.specs.Loans.{is_standing_loan}
-use Rattle.qs_ops.specs.Server.{number_of, after_notice}
 use Rattle.qs_ops.specs.declared.vote.Notice.TheVariants as notices
 use Rattle.qs_tm.specs.Outcomes as outcome_rules
-use Rattle.qs_tm.specs.Participant.{member_of, awaits_note, needs_pass, is_undecided, servers_due}
+use Rattle.qs_tm.specs.Participant.{awaits_note}
 use Rattle.qs_tm.specs.declared.participant.Due.TheVariants as dues
-use Rattle.qs_tm.specs.declared.participant.Participant.{Participant}
-use Rattle.qs_node_step.specs.Deciding.{end_member, end_members, due_endings}
-use Rattle.qs_node_step.specs.Settling.{is_lent, is_busy, is_put_off, is_pass_due}
-use Rattle.qs_node_step.specs.State.{Work, doings_of, part_of}
-use Rattle.qs_node_step.specs.Voting.{vote_next, due_votes, vote_pass}
+use Rattle.qs_node_step.specs.Settling.{is_put_off}
 use Rattle.qs_world_agree.specs.World.{World}
-use Rattle.qs_world_agree.specs.Carry.{IsLawful}
-use Rattle.qs_world_refine.specs.NodeFaces.{face, uncast_of, began_here}
-use Rattle.qs_world_refine.specs.PassLaws.{HasKinds, PassRuleGoes}
-use Rattle.qs_world_refine.specs.Shows.{Scene, ShowsWork}
-use Rattle.qs_world_refine.specs.Sights.{server_no}
-use Rattle.qs_world_refine.specs.Sound.{is_sound, is_whole, same_flag, where_so}
-use Rattle.qs_world_refine.specs.Steps.{IsAt, IsWhole, Goes}
+use Rattle.qs_world_refine.specs.PassLaws.{PassRuleGoes}
 use Rattle.qs_world_refine.proofs.Keeping.{keeps_shown, nothing_goes}
 use Rattle.qs_world_refine.proofs.Known.{is_open, told_is}
 use Rattle.qs_world_refine.proofs.Maps.{lookup_changed}
@@ -73,15 +55,6 @@ module _ (tid : Tid) (scene : Scene) (n : ℕ) where
       record { part = more.part; passing = more.passing; left = λ r. more.left r ∙ uncast_settled server part r }
 
 -- ---- where a pass is due
-
-off_not : (a : Bool) → not a ≡ true → a ≡ false
-off_not true is = absurd (cc is)
-off_not false is = refl
-
-neither : (a b : Bool) → (a || b) ≡ false → (a ≡ false) × (b ≡ false)
-neither true b is = absurd (cc is)
-neither false true is = absurd (cc is)
-neither false false is = (refl, refl)
 
 pub whole_of : (part : Participant) → is_whole part ≡ true → IsWhole part
 whole_of part is =
@@ -135,7 +108,7 @@ module _ (tid : Tid) (work : Work) (part : Participant) (sound : is_sound work.n
       by false away = elsewhere (same_node tid.home work.node.setting.node) (tid.inc == work.node.setting.inc) (there (same_node tid.home work.node.setting.node) its.homed) answers
         where
           there : (b : Bool) → same_flag part.engage.home b ≡ true → b ≡ false
-          there b is = off_not b (rw away at is)
+          there b is = not-true b (rw away at is)
 
           answers : is_some part.engage.superior ≡ true
           answers = some part.engage.home (is_undecided part) (is_some part.engage.superior) away (is_open part undecided) busy
@@ -157,7 +130,7 @@ module _ (tid : Tid) (scene : Scene) (n : ℕ) (work : Work) (part : Participant
     undecided = undecided;
     asked = first.0;
     idle = λ r. none_waits tid work.node.queues (server_no r) free.0;
-    unlent = none_lent (is_standing_loan tid work.node.setting.inc) work.node.kept.now.loans (neither (is_lent tid work.node) (awaits_note part) free.1).0;
+    unlent = none_lent (is_standing_loan tid work.node.setting.inc) work.node.kept.now.loans (or_parts (is_lent tid work.node) (awaits_note part) free.1).0;
     on = engaged tid work part sound known undecided (voter_busy tid work part sound known undecided (and_both (needs_pass part) (not (is_put_off (doings_of tid work))) halves.1).0);
     kinds = kinds;
     audit = audit_fits work.node (seen work.node sound).fits;
@@ -170,7 +143,7 @@ module _ (tid : Tid) (scene : Scene) (n : ℕ) (work : Work) (part : Participant
       first = and_both part.asked (not (is_busy tid work.node part)) halves.0
 
       free : (ipc.waits tid work.node.queues ≡ false) × ((is_lent tid work.node || awaits_note part) ≡ false)
-      free = neither (ipc.waits tid work.node.queues) (is_lent tid work.node || awaits_note part) (off_not (is_busy tid work.node part) first.1)
+      free = or_parts (ipc.waits tid work.node.queues) (is_lent tid work.node || awaits_note part) (not-true (is_busy tid work.node part) first.1)
 
   passes : (w : World) → IsLawful w → ShowsWork tid scene n work w → is_pass_due tid part work ≡ true → Goes tid scene n (vote_pass tid work) w
   passes w lawful shown due = subst (λ (list : List ServerNo). Goes tid scene n (fold (vote_next tid) (end_members tid work) list) w) (sym list_is)

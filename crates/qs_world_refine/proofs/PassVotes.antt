@@ -1,39 +1,18 @@
 -- What holds as a vote pass goes on, and that one more vote leaves it so.
-use Rattle.std.proofs.Common.{◌≡◌, ◌⊎◌, inl, inr, ℕ, ◌+◌, ◌≤◌, ◌==◌, nat_lt, Bool, true, false, List, Option, Some, None, refl, subst, ap, ◌∙◌, arith, if◌then◌else◌}
-use Rattle.std.specs.BTreeMap.{is_at}
-use Rattle.std.proofs.lemmas.Bool.Decides.{nat_tests}
-use Rattle.std.proofs.lemmas.List.{length-set}
-use Rattle.qs_base.specs.Order.{tid_cmp}
-use Rattle.qs_base.specs.declared.identifiers.Class.{Class}
+use Rattle.qs_world_refine.proofs.Words.{◌≡◌, ◌⊎◌, inl, inr, ℕ, ◌+◌, ◌≤◌, ◌==◌, nat_lt, Bool, true, false, List, Option, Some, None, refl, subst, ap, ◌∙◌, arith, if◌then◌else◌, is_at, nat_tests, length-set, tid_cmp, Class, Tid, class_of, is_two_phase, ServerValue, number_of, vote_of, after_vote, changes_in, ServerKind, Vote, Record, server_at, ballot_of, member_of, Participant, member_here, Work, part_of, vote_with, enter_vote, served_count, is_audit, face, uncast_of, loans_at, HasKinds, MayVote, Scene}
+use Rattle.qs_world_refine.proofs.Words.{ShowsWork, server_no, IsAt, IsWhole, Goes}
 use Rattle.qs_base.specs.declared.identifiers.Class.TheVariants as classes
-use Rattle.qs_base.specs.declared.identifiers.Tid.{Tid}
-use Rattle.qs_ops.specs.Members.{class_of, is_two_phase}
-use Rattle.qs_ops.specs.Server.{ServerValue, number_of, vote_of, vote_in_room, vote_need, names_vote, after_vote, changes_vote, changes_in}
+use Rattle.qs_ops.specs.Server.{vote_in_room, vote_need, names_vote, changes_vote}
 use Rattle.qs_ops.specs.Table.{TableValue, view_bytes, has_changes, least_taken}
-use Rattle.qs_ops.specs.declared.server.ServerKind.{ServerKind}
 use Rattle.qs_ops.specs.declared.server.ServerKind.TheVariants as kinds
 use Rattle.qs_ops.specs.declared.vote.Reason.TheVariants as reasons
-use Rattle.qs_ops.specs.declared.vote.Vote.{Vote}
 use Rattle.qs_ops.specs.declared.vote.Vote.TheVariants as votes
-use Rattle.qs_record.specs.declared.record.Record.{Record}
 use Rattle.qs_record.specs.declared.record.Record.TheVariants as records
-use Rattle.qs_node_servers.specs.Servers.{server_at}
-use Rattle.qs_tm.specs.Members.{ballot_of}
 use Rattle.qs_tm.specs.Outcomes as outcome_rules
 use Rattle.qs_tm.specs.Participant as participant
-use Rattle.qs_tm.specs.Participant.{member_of}
-use Rattle.qs_tm.specs.declared.participant.Participant.{Participant}
-use Rattle.qs_node_step.specs.Bringing.{member_here}
-use Rattle.qs_node_step.specs.State.{Work, part_of}
-use Rattle.qs_node_step.specs.Voting.{vote_with, enter_vote, served_count}
-use Rattle.qs_world.specs.Openings.{is_audit}
 use Rattle.qs_world_agree.specs.World.{World}
-use Rattle.qs_world_refine.specs.NodeFaces.{face, uncast_of, waiting_at, loans_at}
-use Rattle.qs_world_refine.specs.PassLaws.{HasKinds}
-use Rattle.qs_world_refine.specs.Seen.{MayVote}
-use Rattle.qs_world_refine.specs.Shows.{Scene, ShowsWork}
-use Rattle.qs_world_refine.specs.Sights.{server_no}
-use Rattle.qs_world_refine.specs.Steps.{IsAt, IsWhole, Knows, Goes}
+use Rattle.qs_world_refine.specs.NodeFaces.{waiting_at}
+use Rattle.qs_world_refine.specs.Steps.{Knows}
 use Rattle.qs_world_refine.proofs.Arrays.{member_put}
 use Rattle.qs_world_refine.proofs.Known.{told_is}
 use Rattle.qs_world_refine.proofs.Maps.{lookup_changed}

@@ -1,38 +1,10 @@
 -- A node restarts in an incarnation behind that which was to begin a transaction: of this nothing is known, and the machine over its logs shows it.
-use Rattle.std.proofs.Common.{◌≡◌, ◌⊎◌, inl, inr, ℕ, ◌<◌, ◌≤◌, ◌==◌, ◌&&◌, ◌||◌, Bool, true, false, List, [], Option, Some, None, refl, sym, ap, subst, ◌∙◌, arith, if◌then◌else◌}
-use Rattle.std.specs.List.{find, list_all, list_any}
-use Rattle.std.proofs.lemmas.Bool.{eqb-true}
-use Rattle.std.proofs.lemmas.Bool.Decides.{nat_tests}
-use Rattle.qs_base.specs.Order.{same_tid}
-use Rattle.qs_base.specs.declared.identifiers.Tid.{Tid}
-use Rattle.qs_node_kept.specs.Keeping.{is_outcome_of}
-use Rattle.qs_node_kept.specs.declared.kept.Decided.{Decided}
-use Rattle.qs_node_kept.specs.declared.kept.Kept.{Kept}
-use Rattle.qs_restart.specs.Recovery.{Recovery, recovery, nothing_said, names_transaction, is_untold_of}
-use Rattle.qs_node_step.specs.Answering.{was_committed, is_kept_commit, kept_outcome}
-use Rattle.qs_node_step.specs.Opening.{new_manager, recovered_of}
-use Rattle.qs_node_step.specs.State.{NodeValue}
+use Rattle.qs_world_refine.proofs.Words.{◌≡◌, ◌⊎◌, inl, inr, ℕ, ◌<◌, ◌≤◌, ◌==◌, ◌&&◌, ◌||◌, Bool, true, false, List, [], Option, Some, None, refl, sym, ap, subst, ◌∙◌, arith, if◌then◌else◌, find, list_all, list_any, eqb-true, nat_tests, same_tid, Tid, is_outcome_of, Decided, Kept, Recovery, recovery, nothing_said, names_transaction, is_untold_of, was_committed, is_kept_commit, kept_outcome, new_manager, recovered_of, NodeValue, Participant, reopened, risen, risen_host, Open, may_be_known, ShowsAll}
+use Rattle.qs_world_refine.proofs.Words.{Face, Said, node_no, is_record_of, face_at, place, IsRisenFace, sight_risen_as, outcome_at_home, scene_of, sight, Sight, has_doubt, may_vote, is_list_of, may_take_up, kept_before, IsNewFace, IsUnseen, IsSteadyWorld, KnowsNothing}
 use Rattle.qs_tm.specs.Manager as tm
-use Rattle.qs_tm.specs.declared.participant.Participant.{Participant}
-use Rattle.qs_world.specs.Moves.{reopened, risen, risen_host}
 use Rattle.qs_world.specs.World.{World}
 use Rattle.qs_world_agree.specs.World as machine
-use Rattle.qs_world_agree.specs.World.{Open}
-use Rattle.qs_world_refine.specs.Begun.{may_be_known}
-use Rattle.qs_world_refine.specs.EachMove.{ShowsAll}
-use Rattle.qs_world_refine.specs.Faces.{Face}
 use Rattle.qs_world_refine.specs.Lefts.{IsLeft}
-use Rattle.qs_world_refine.specs.Links.{Said, node_no}
-use Rattle.qs_world_refine.specs.MoveLaws.{is_record_of}
-use Rattle.qs_world_refine.specs.NodeFaces.{face_at}
-use Rattle.qs_world_refine.specs.Places.{place}
-use Rattle.qs_world_refine.specs.RiseLaws.{IsRisenFace, sight_risen_as, outcome_at_home}
-use Rattle.qs_world_refine.specs.Shows.{scene_of, sight}
-use Rattle.qs_world_refine.specs.Sights.{Sight}
-use Rattle.qs_world_refine.specs.Sound.{has_doubt, may_vote, is_list_of, may_take_up, kept_before}
-use Rattle.qs_world_refine.specs.Starts.{IsNewFace, IsUnseen}
-use Rattle.qs_world_refine.specs.Steadies.{IsSteadyWorld}
-use Rattle.qs_world_refine.specs.SteadyFacts.{KnowsNothing}
 use Rattle.qs_world_refine.proofs.ClosedKept.{closed_commit}
 use Rattle.qs_world_refine.proofs.Reopening.{over_logs, left_shown, reopens_lawful, reopens_placed}
 use Rattle.qs_world_refine.proofs.RisenFaces.{risen_face, lists_from}
@@ -42,6 +14,7 @@ use Rattle.qs_world_refine.proofs.SteadyMays.{rises_may}
 use Rattle.qs_world_refine.proofs.StepMoves.{all_other}
 use Rattle.qs_world_refine.proofs.TakingUp.{Known, log_taken}
 use Rattle.qs_world_refine.proofs.UnseenWorlds.{nothing_known, new_face, world_unseen, none_waiting}
+use Rattle.qs_base_lemmas.proofs.Tests.{apart_turned}
 
 -- another node has of it what its log says: nothing
 new_risen : (tid : Tid) (n : ℕ) (said : Recovery) (f : Face) → (tid.home.0 == n) ≡ false → has_doubt tid said ≡ false → IsNewFace false f → IsRisenFace tid n said f
@@ -139,13 +112,10 @@ module _ (tid : Tid) (world : World) (steady : IsSteadyWorld world) (numbered : 
       none_if true l none = refl
       none_if false l none = none
 
-      turned : (a b : ℕ) → (a == b) ≡ false → (b == a) ≡ false
-      turned a b is = grind (arith, nat_tests, is)
-
       face : (n : ℕ) → n < world.size → (b : Bool) → (n == h) ≡ b → (if b then true else world.channels.up n) ≡ true → IsRisenFace tid n (x.found n) (if b then face_at opened tid else x.face n)
       face n low true same up = subst (λ (k : ℕ). IsRisenFace tid k (recovery (world.hosts k).log) (face_at opened tid)) (sym (eqb-true n h same)) its_face
-      face n low false apart up = new_risen tid n (x.found n) (x.face n) (turned n h apart) (nothing n low).doubt
-          (subst (λ (b : Bool). IsNewFace b (x.face n)) (ap (λ (b : Bool). b && (tid.inc == world.channels.inc n)) (turned n h apart)) (new_face tid world steady numbered home_in off n low))
+      face n low false apart up = new_risen tid n (x.found n) (x.face n) (apart_turned n h apart) (nothing n low).doubt
+          (subst (λ (b : Bool). IsNewFace b (x.face n)) (ap (λ (b : Bool). b && (tid.inc == world.channels.inc n)) (apart_turned n h apart)) (new_face tid world steady numbered home_in off n low))
 
   abbrev pub w : machine.World
   w = over_logs tid risen_sight passed_left

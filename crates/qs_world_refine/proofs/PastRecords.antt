@@ -1,30 +1,12 @@
 -- Each record of a log is of a transaction of an incarnation that its home had, where that is a node of the run: where a world begins, and after each move.
-use Rattle.std.proofs.Common.{◌≡◌, ℕ, ◌<◌, ◌≤◌, ◌==◌, ◌&&◌, ◌||◌, ◌⊎◌, ◌+◌, ◌++◌, not, nat_lt, nat_le, inl, inr, Bool, true, false, List, Option, Some, None, refl, sym, ap, subst, ◌∙◌, if◌then◌else◌, arith}
-use Rattle.std.specs.List.{list_all}
-use Rattle.std.proofs.lemmas.Bool.{eqb-true}
-use Rattle.std.proofs.lemmas.Bool.Decides.{nat_tests}
-use Rattle.std.proofs.lemmas.List.Folds.{list_all-append}
-use Rattle.qs_base.specs.declared.identifiers.NodeNo.{NodeNo}
-use Rattle.qs_base.specs.declared.identifiers.Tid.{Tid}
+use Rattle.qs_world_refine.proofs.Words.{◌≡◌, ℕ, ◌<◌, ◌≤◌, ◌==◌, ◌&&◌, ◌||◌, ◌⊎◌, ◌+◌, ◌++◌, not, nat_lt, nat_le, inl, inr, Bool, true, false, List, Option, Some, None, refl, sym, ap, subst, ◌∙◌, if◌then◌else◌, arith, list_all, eqb-true, nat_tests, list_all-append, NodeNo, Tid, CrashCause, is_crash, Record, names_transaction, tid_of, recovered_of, after_step, effects_of, step_work, Move, Source, Cut, Stop, Rise, event_of, taken_by, step_with, cut_with, cut_log, may_move, may_step, moved}
+use Rattle.qs_world_refine.proofs.Words.{is_in_order, stepped_host, stopped, stopped_host, risen_host, IsOpening, is_earlier, is_record, Host, Opening, start, each_is, begun_among, count_in, fits_record, inc_in, past_among, begun, IsSteadyWorld, MachineGives, GivesAt, MachineMoves, stage_of, Stage, IsTidy, is_tidy_record}
 use Rattle.qs_session_channels.specs.Network.{with_at}
-use Rattle.qs_book_journal.specs.declared.entry.CrashCause.{CrashCause}
-use Rattle.qs_book_machine.specs.Clauses.{is_crash}
-use Rattle.qs_record.specs.declared.record.Record.{Record}
 use Rattle.qs_record.specs.declared.record.Record.TheVariants as records
-use Rattle.qs_restart.specs.Recovery.{names_transaction}
-use Rattle.qs_node_step.specs.Bringing.{tid_of}
-use Rattle.qs_node_step.specs.Opening.{recovered_of}
-use Rattle.qs_node_step.specs.Step.{after_step, effects_of, step_work}
 use Rattle.qs_node_step.specs.declared.event.Event.{Event}
-use Rattle.qs_world.specs.Moves.{Move, Source, Step, Cut, Stop, Rise, Meet, event_of, taken_by, step_with, cut_with, cut_log, may_move, may_step, moved, is_in_order, stepped_host, stopped, stopped_host, risen_host}
-use Rattle.qs_world.specs.Openings.{IsOpening, is_earlier, is_record}
-use Rattle.qs_world.specs.World.{Host, Opening, World, inc_of, start}
-use Rattle.qs_world.proofs.Below.{each_is}
-use Rattle.qs_world_refine.specs.Begun.{begun_among, count_in, fits_record, inc_in, past_among}
+use Rattle.qs_world.specs.Moves.{Step, Meet}
+use Rattle.qs_world.specs.World.{World, inc_of}
 use Rattle.qs_world_refine.specs.Listed.{is_past_tid, is_past_record}
-use Rattle.qs_world_refine.specs.SoundSteps.{begun}
-use Rattle.qs_world_refine.specs.Steadies.{IsSteadyWorld, MachineGives, GivesAt, MachineMoves, stage_of}
-use Rattle.qs_world_refine.specs.Tidy.{Stage, IsTidy, is_tidy_record}
 use Rattle.qs_world_refine.proofs.MoveGoes.{StepMay, step_may}
 use Rattle.qs_world_refine.proofs.Moving.{inc_taken}
 use Rattle.qs_world_refine.proofs.Posted.{inc_all}
@@ -35,6 +17,7 @@ use Rattle.qs_world_refine.proofs.SoundBegin.{all_implied}
 use Rattle.qs_world_refine.proofs.SoundParts.{and_both}
 use Rattle.qs_world_refine.proofs.SteadyMays.{event_fits}
 use Rattle.qs_world_refine.proofs.SteadySteps.{step_tidy, d, bump}
+use Rattle.qs_base_lemmas.proofs.Tests.{eq_ge}
 
 abbrev pub ArePast : World → List Record → Type 0
 ArePast world log = list_all (is_past_record world) log ≡ true
@@ -133,12 +116,9 @@ past_with world after n host sized hosts grows own old k low = subst (λ (h : Ho
     by low true same = later_past world after sized grows (host.log ++ host.waiting) (own (subst (λ (j : ℕ). j < world.size) (eqb-true k n same) low))
     by low false apart = later_past world after sized grows ((world.hosts k).log ++ (world.hosts k).waiting) (old k low)
 
-no_less : (a b : ℕ) → b ≡ a → a ≤ b
-no_less a b same = grind (arith, same)
-
 -- a node stops
 past_stopped : (world : World) (n stamp : ℕ) (cause : CrashCause) (log : List Record) → (n < world.size → ArePast world log) → EachPast world → EachPast (stopped world n stamp cause log)
-past_stopped world n stamp cause log own old = past_with world (stopped world n stamp cause log) n (stopped_host stamp log (world.hosts n)) refl (λ k. refl) (λ k. no_less _ _ refl) (λ low. subst (λ (l : List Record). ArePast world l) (sym (append_nil log)) (own low)) old
+past_stopped world n stamp cause log own old = past_with world (stopped world n stamp cause log) n (stopped_host stamp log (world.hosts n)) refl (λ k. refl) (λ k. eq_ge _ _ refl) (λ low. subst (λ (l : List Record). ArePast world l) (sym (append_nil log)) (own low)) old
 
 pub start_past : (o : Opening) → IsOpening o → EachPast (start o)
 start_past o opens n low = subst (λ (l : List Record). ArePast (start o) l) (sym (append_nil (o.logs n))) (all_implied (is_record o n) (is_past_record (start o)) each (o.logs n) (each_is o.size (λ k. list_all (is_record o k) (o.logs k)) opens.logs n low))
@@ -169,7 +149,7 @@ move_past world (Step n stamp free source) may gives steady old = by (event_of w
     by : (o : Option Event) → event_of world n stamp source ≡ o → GivesAt world n free o → EachPast (step_with world n stamp free source o)
     by None none gives = old
     by (Some event) came gives = past_with world (step_with world n stamp free source (Some event)) n (stepped_host stamp (after_step (world.hosts n).node event free) (effects_of (world.hosts n).node event free) (world.hosts n)) refl (λ k. refl)
-        (λ k. no_less (world.channels.inc k) _ (ap (λ (f : ℕ → ℕ). f k) (inc_is event)))
+        (λ k. eq_ge (world.channels.inc k) _ (ap (λ (f : ℕ → ℕ). f k) (inc_is event)))
         (λ low. subst (λ (l : List Record). ArePast world l) (sym (log_same (effects_of (world.hosts n).node event free).force (world.hosts n).log (world.hosts n).waiting (effects_of (world.hosts n).node event free).records))
         (all_past world steady n stamp free source event came its.low its.runs gives (old n its.low))) old
 move_past world (Cut n stamp free source is_kept cause) may gives steady old = by (event_of world n stamp source) refl gives
@@ -192,5 +172,5 @@ move_past world (Rise n stamp inc) may gives steady old = past_with world (moved
       where
         at : (b : Bool) → (k == n) ≡ b → world.channels.inc k ≤ (if b then inc else world.channels.inc k)
         at true same = subst (λ (j : ℕ). world.channels.inc j ≤ inc) (sym (eqb-true k n same)) later
-        at false apart = no_less _ _ refl
-move_past world (Meet n stamp m inc) may gives steady old = past_with world (moved (Meet n stamp m inc) world) n (record (world.hosts n) { stamp = stamp }) refl (λ k. refl) (λ k. no_less _ _ refl) (λ low. old n low) old
+        at false apart = eq_ge _ _ refl
+move_past world (Meet n stamp m inc) may gives steady old = past_with world (moved (Meet n stamp m inc) world) n (record (world.hosts n) { stamp = stamp }) refl (λ k. refl) (λ k. eq_ge _ _ refl) (λ low. old n low) old

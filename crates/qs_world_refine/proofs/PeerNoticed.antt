@@ -1,35 +1,19 @@
 -- A node finds that another one restarted, and looks at one transaction: Notice.
-use Rattle.std.proofs.Common.{◌≡◌, ℕ, ◌≤◌, ◌==◌, ◌&&◌, ◌||◌, not, Bool, true, false, List, [], ◌++◌, Option, Some, refl, sym, ap, ◌∙◌, arith, if◌then◌else◌}
-use Rattle.std.specs.Prelude.{nat_le}
-use Rattle.std.specs.BTreeMap.{is_at}
-use Rattle.std.proofs.lemmas.Bool.{eqb-true}
-use Rattle.std.proofs.lemmas.Bool.Decides.{nat_tests}
-use Rattle.qs_base.specs.Order.{tid_cmp}
+use Rattle.qs_world_refine.proofs.Words.{◌≡◌, ℕ, ◌≤◌, ◌==◌, ◌&&◌, ◌||◌, not, Bool, true, false, List, [], ◌++◌, Option, Some, refl, sym, ap, ◌∙◌, arith, if◌then◌else◌, nat_le, is_at, eqb-true, nat_tests, tid_cmp, Tid, peer_of, is_covered, PeerPart, is_owed_by, Participant, block, Work, part_of, with_manager, Open, IsLawful, Face, ShowsFace, Said, node_no, all_said, face, face_at, outcome_seen, place, noticed, IsNoticed, SightGoes, Scene, said_during, unmet_during, sight_during, ShowsWork, Sight}
+use Rattle.qs_world_refine.proofs.Words.{IsAt, Goes, or_first, or_last}
 use Rattle.qs_base.specs.declared.identifiers.Outcome.{Outcome}
 use Rattle.qs_base.specs.declared.identifiers.Outcome.TheVariants as outcomes
-use Rattle.qs_base.specs.declared.identifiers.Tid.{Tid}
 use Rattle.qs_engage.specs.Engage as engage
-use Rattle.qs_engage.specs.Engage.{peer_of, is_open_to, is_covered}
-use Rattle.qs_engage.specs.declared.engage.PeerPart.{PeerPart}
+use Rattle.qs_engage.specs.Engage.{is_open_to}
 use Rattle.qs_ops.specs.declared.answer.Cause.TheVariants as causes
 use Rattle.qs_tm.specs.Manager as tm
 use Rattle.qs_tm.specs.Participant as participant
-use Rattle.qs_tm.specs.Participant.{is_owed_by, waits_for}
-use Rattle.qs_tm.specs.declared.participant.Participant.{Participant}
-use Rattle.qs_node_step.specs.Asking.{block}
-use Rattle.qs_node_step.specs.State.{Work, part_of, with_manager}
-use Rattle.qs_world_agree.specs.World.{World, Open, with_at}
-use Rattle.qs_world_agree.specs.Carry.{IsLawful}
-use Rattle.qs_world_refine.specs.Faces.{Face, ShowsFace}
-use Rattle.qs_world_refine.specs.Links.{Said, node_no}
-use Rattle.qs_world_refine.specs.Messages.{all_said}
-use Rattle.qs_world_refine.specs.NodeFaces.{face, face_at, outcome_seen}
-use Rattle.qs_world_refine.specs.Places.{place}
-use Rattle.qs_world_refine.specs.RestartLaws.{noticed, IsNoticed, FindGoneGoes, NoticeDecidedGoes}
-use Rattle.qs_world_refine.specs.Seen.{SightGoes, sight_noticed}
-use Rattle.qs_world_refine.specs.Shows.{Scene, sent_to, said_during, unmet_during, sight_during, ShowsWork}
-use Rattle.qs_world_refine.specs.Sights.{Sight}
-use Rattle.qs_world_refine.specs.Steps.{IsAt, Knows, Goes}
+use Rattle.qs_tm.specs.Participant.{waits_for}
+use Rattle.qs_world_agree.specs.World.{World, with_at}
+use Rattle.qs_world_refine.specs.RestartLaws.{FindGoneGoes, NoticeDecidedGoes}
+use Rattle.qs_world_refine.specs.Seen.{sight_noticed}
+use Rattle.qs_world_refine.specs.Shows.{sent_to}
+use Rattle.qs_world_refine.specs.Steps.{Knows}
 use Rattle.qs_world_refine.proofs.Alike.{SameFace, same_itself, found_itself, sight_alike}
 use Rattle.qs_world_refine.proofs.Arrays.{peer_put}
 use Rattle.qs_world_refine.proofs.During.{Quiet, face_here, found_same, runs}
@@ -182,12 +166,8 @@ find_gone_goes tid scene n m old new work part w lawful shown at is knows undeci
     after : Work
     after = with_manager (tm.restarted tid (node_no m)) work
 
-    or_none : (a b : Bool) → (a || b) ≡ false → a ≡ false
-    or_none true b e = absurd (cc e)
-    or_none false b e = refl
-
     covered_is : is_owed_by (node_no m) part ≡ false → (peer_of part.engage (node_no m)).sent ≤ (peer_of part.engage (node_no m)).covered
-    covered_is e = within (peer_of part.engage (node_no m)) (or_none (is_open_to (node_no m) part.engage) (waits_for (node_no m) part) e)
+    covered_is e = within (peer_of part.engage (node_no m)) (or_first (is_open_to (node_no m) part.engage) (waits_for (node_no m) part) e)
       where
         within : (p : PeerPart) → not (is_covered p) ≡ false → p.sent ≤ p.covered
         within p e = test (nat_le p.sent p.covered) refl e
@@ -235,12 +215,8 @@ notice_decided tid scene n m old new outcome work part w lawful shown at is know
     open_uninvolved outcomes.Commit false e = refl
     open_uninvolved outcomes.Abort b e = absurd (cc e)
 
-    second : (a b : Bool) → (a || b) ≡ false → b ≡ false
-    second true b e = absurd (cc e)
-    second false b e = e
-
     uninvolved : (x.face n).outcome ≡ Open → part.involved ≡ false
-    uninvolved undecided = second part.engage.home part.involved (open_uninvolved outcome (part.engage.home || part.involved)
+    uninvolved undecided = or_last part.engage.home part.involved (open_uninvolved outcome (part.engage.home || part.involved)
         (sym (ap (λ (o : Option Outcome). outcome_seen o (part.engage.home || part.involved)) decided) ∙ (sym (ap (λ (f : Face). f.outcome) (face_before tid scene n m old new work w lawful shown at is part knows)) ∙ undecided)))
 
     none_sent : (x.face n).outcome ≡ Open → w.covered (place n (x.inc n)) m ≡ (x.face n).sent m

@@ -1,13 +1,10 @@
 -- A place that has not begun yet knows nobody, and 0 is no place, after every run of the machine.
-use Rattle.std.proofs.Common.{List, [], ◌∷◌, arith, sym, subst}
-use Rattle.std.proofs.lemmas.Bool.Decides.{nat_tests}
+use Rattle.qs_world_refine.proofs.Words.{List, [], ◌∷◌, arith, sym, subst, nat_tests, Issue, Issue_unmet, Issue_local, Join, Cover, Serve, Serve_told, Yield, Ask, Vote_read, Vote_volatile, Force, Vote_recoverable, Vote_abort, Yes, Yes_lost, Count, Ignore, Refuse, Miss, Forget, Crash, Restart, Restart_in_doubt, Restart_home, Commit, Commit_cut, Commit_unlogged, Abort, Tell, Learn, Learn_cut, Learn_home, Acknowledge, Take_told, End, Checkpoint, Tell_abort, Learn_abort, Name_again, Take_names}
+use Rattle.qs_world_refine.proofs.Words.{Learn_abort_home, Abort_logged, Drop_engage, Drop_join, Drop_cover, Inquire, Inquire_lost, Inquire_home, Answer_commit, Answer_running, Answer_abort, Counts, inv_step, Inv, ArePlaced}
 use Rattle.qs_world_agree.specs.World.{World}
 use Rattle.qs_world_agree.specs.Laws.{Run}
-use Rattle.qs_world_agree.specs.Step.{Event, Step, Issue, Issue_unmet, Issue_local, Meet, Notice, Engage, Join, Cover, Serve, Serve_told, Lend, Yield, Ask, Vote_read, Vote_volatile, Force, Vote_recoverable, Vote_abort, Yes, Yes_lost, Count, Ignore, Refuse, Miss, Forget, Crash, Restart, Restart_in_doubt, Restart_home, Commit, Commit_cut, Commit_unlogged, Abort, Tell, Learn, Learn_cut, Learn_home, Acknowledge, Take_told, End, Checkpoint, Tell_abort, Learn_abort, Name_again, Take_names, Learn_abort_home, Abort_logged, Drop_engage, Drop_join, Drop_cover, Inquire, Inquire_lost, Inquire_home, Answer_commit, Answer_running, Answer_abort}
-use Rattle.qs_world_agree.proofs.Counts.{Counts}
-use Rattle.qs_world_agree.proofs.Inv.{inv_step}
-use Rattle.qs_world_agree.proofs.Whole.{Inv}
-use Rattle.qs_world_refine.specs.RiseLaws.{ArePlaced, StaysPlaced}
+use Rattle.qs_world_agree.specs.Step.{Event, Step, Meet, Notice, Engage, Lend}
+use Rattle.qs_world_refine.specs.RiseLaws.{StaysPlaced}
 use Rattle.qs_world_refine.proofs.Facts.{invariant}
 
 placed_step : (e : Event) (w v : World) → Counts w → ArePlaced w → Step e w v → ArePlaced v

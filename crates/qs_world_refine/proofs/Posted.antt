@@ -1,14 +1,9 @@
 -- What the messages of a step make of the channels: each goes behind what its node has for the incarnation that it knows, or waits.
-use Rattle.std.proofs.Common.{◌≡◌, ℕ, ◌==◌, ◌&&◌, not, Bool, true, false, List, [], ◌∷◌, ◌++◌, map, refl, sym, ap, ◌∙◌, arith, if◌then◌else◌}
-use Rattle.std.specs.List.{filter}
-use Rattle.std.proofs.lemmas.Bool.{eqb-true}
-use Rattle.std.proofs.lemmas.Bool.Decides.{nat_tests}
+use Rattle.qs_world_refine.proofs.Words.{◌≡◌, ℕ, ◌==◌, ◌&&◌, not, Bool, true, false, List, [], ◌∷◌, ◌++◌, map, refl, sym, ap, ◌∙◌, arith, if◌then◌else◌, filter, eqb-true, and_right, nat_tests, Channels, Sending, post_all, Parcel, message_of}
 use Rattle.qs_session_channels.specs.Channels as channel
-use Rattle.qs_session_channels.specs.Channels.{Channels, Wait, Post}
-use Rattle.qs_node_step.specs.declared.event.Sending.{Sending}
-use Rattle.qs_world.specs.Posting.{post_next, post_all}
-use Rattle.qs_world.specs.World.{Parcel}
-use Rattle.qs_world_refine.specs.Shows.{message_of, sent_to}
+use Rattle.qs_session_channels.specs.Channels.{Wait, Post}
+use Rattle.qs_world.specs.Posting.{post_next}
+use Rattle.qs_world_refine.specs.Shows.{sent_to}
 use Rattle.qs_world_refine.proofs.SaysOn.{append_three}
 use Rattle.qs_world_refine.proofs.Sending.{append_nil}
 
@@ -131,13 +126,9 @@ module _ (n stamp : ℕ) where
         by : (b : Bool) → (c.peer n s.to.0 == 0) ≡ b → (one b).waits p q ≡ (if (p == n) && (c.peer n q == 0) then c.waits p q ++ its (s.to.0 == q) else c.waits p q)
         by false known = at (s.to.0 == q) refl
           where
-            none : (a b : Bool) → b ≡ false → (a && b) ≡ false
-            none true b is = is
-            none false b is = refl
-
             at : (e : Bool) → (s.to.0 == q) ≡ e → c.waits p q ≡ (if (p == n) && (c.peer n q == 0) then c.waits p q ++ its e else c.waits p q)
             at false other = sym (nothing ((p == n) && (c.peer n q == 0)) (c.waits p q))
-            at true same = rw (none (p == n) (c.peer n q == 0) (rw (sym (eqb-true s.to.0 q same)) known)) refl
+            at true same = rw (and_right (p == n) (c.peer n q == 0) (rw (sym (eqb-true s.to.0 q same)) known)) refl
         by true unknown = at (p == n) refl (q == s.to.0) refl
           where
             at : (a : Bool) → (p == n) ≡ a → (b : Bool) → (q == s.to.0) ≡ b

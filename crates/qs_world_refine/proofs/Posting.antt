@@ -1,18 +1,7 @@
 -- A message of the transaction is sent: it stands on its link, or waits where no incarnation of the other node is known.
-use Rattle.std.proofs.Common.{◌≡◌, ℕ, ◌≤◌, ◌==◌, Bool, true, false, List, [], ◌∷◌, ◌++◌, arith, refl, sym, subst, ap, ◌∙◌, if◌then◌else◌}
-use Rattle.std.proofs.lemmas.Bool.Decides.{nat_tests}
-use Rattle.qs_base.specs.declared.identifiers.NodeNo.{NodeNo}
-use Rattle.qs_base.specs.declared.identifiers.Tid.{Tid}
-use Rattle.qs_packet.specs.declared.message.Message.{Message}
-use Rattle.qs_node_step.specs.Bringing.{is_other, send}
-use Rattle.qs_node_step.specs.State.{Work}
+use Rattle.qs_world_refine.proofs.Words.{◌≡◌, ℕ, ◌≤◌, ◌==◌, Bool, true, false, List, [], ◌∷◌, ◌++◌, arith, refl, sym, subst, ap, ◌∙◌, if◌then◌else◌, nat_tests, NodeNo, Tid, Message, is_other, send, Work, Face, Said, said, face_at, Scene, said_during, unmet_during, sight_during, ShowsWork, Sight, ShowsSight}
 use Rattle.qs_world_agree.specs.World.{World}
-use Rattle.qs_world_refine.specs.Faces.{Face}
-use Rattle.qs_world_refine.specs.Links.{Said}
-use Rattle.qs_world_refine.specs.Messages.{said}
-use Rattle.qs_world_refine.specs.NodeFaces.{face_at}
-use Rattle.qs_world_refine.specs.Shows.{Scene, said_during, unmet_during, sight_during, ShowsWork}
-use Rattle.qs_world_refine.specs.Sights.{Sight, ShowsSight, with_at4}
+use Rattle.qs_world_refine.specs.Sights.{with_at4}
 use Rattle.qs_world_refine.proofs.Alike.{SameFace, same_itself, sight_alike}
 use Rattle.qs_world_refine.proofs.During.{Quiet, said_same, unmet_same, found_same}
 use Rattle.qs_world_refine.proofs.Sending.{said_more, unmet_same as unmet_still}

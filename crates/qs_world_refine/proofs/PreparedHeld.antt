@@ -1,40 +1,15 @@
 -- Once a step logged a Prepare of a transaction its node is engaged for it to the end of the step, or has decided it: it says Yes in a later step.
-use Rattle.std.proofs.Common.{◌≡◌, ◌⊎◌, inl, inr, ◌||◌, Bool, true, false, List, [], ◌∷◌, ◌++◌, Option, Some, None, unwrap_or, refl, sym, ap, subst, ◌∙◌, if◌then◌else◌}
-use Rattle.std.specs.List.{list_any}
-use Rattle.std.specs.Map.{lookup, remove_entry}
-use Rattle.std.specs.BTreeMap.{is_at}
-use Rattle.qs_base.proofs.TidOrder.{tid_exact}
-use Rattle.qs_base.specs.Order.{tid_cmp, same_tid}
-use Rattle.qs_base.specs.declared.identifiers.ClientNo.{ClientNo}
-use Rattle.qs_base.specs.declared.identifiers.NodeNo.{NodeNo}
-use Rattle.qs_base.specs.declared.identifiers.Tid.{Tid}
+use Rattle.qs_world_refine.proofs.Words.{◌≡◌, ◌⊎◌, inl, inr, ◌||◌, Bool, true, false, List, [], ◌∷◌, ◌++◌, Option, Some, None, unwrap_or, refl, sym, ap, subst, ◌∙◌, if◌then◌else◌, list_any, lookup, remove_entry, is_at, tid_exact, tid_cmp, same_tid, ClientNo, NodeNo, Tid, take_first, give_back, Answer, Message, Record, aborted_participant, is_undecided, is_forgotten, new_participant, Manager, Participant, send, log, answer, is_other, tid_of, with_issued, with_local, put_label, Work, part_of}
+use Rattle.qs_world_refine.proofs.Words.{doings_of, with_manager, with_queues, with_kept, with_doings, change_server, client_cmp, with_command, drop_counts, Doings, OpenCommand, is_engaged, Stage, IsStage, IsTidy, Reads, Keeps, MayLog, MayForget, TicksOn, is_decided, or_cases}
 use Rattle.qs_ipc.specs.Ipc as ipc
 use Rattle.qs_book_journal.specs.declared.entry.Act.TheVariants as acts
-use Rattle.qs_node_kept.specs.Loans.{take_first, give_back}
-use Rattle.qs_ops.specs.declared.answer.Answer.{Answer}
-use Rattle.qs_packet.specs.declared.message.Message.{Message}
-use Rattle.qs_record.specs.declared.record.Record.{Record}
 use Rattle.qs_record.specs.declared.record.Record.TheVariants as records
 use Rattle.qs_tm.specs.Manager as tm
 use Rattle.qs_tm.specs.Outcomes as outcome_rules
 use Rattle.qs_tm.specs.Participant as participant
-use Rattle.qs_tm.specs.Outcomes.{aborted_participant}
-use Rattle.qs_tm.specs.Participant.{is_undecided, is_forgotten, new_participant}
-use Rattle.qs_tm.specs.declared.manager.Manager.{Manager}
-use Rattle.qs_tm.specs.declared.participant.Participant.{Participant}
-use Rattle.qs_node_step.specs.Bringing.{send, log, answer, is_other, tid_of}
-use Rattle.qs_node_step.specs.Commands.{with_issued}
-use Rattle.qs_node_step.specs.Requests.{with_local}
-use Rattle.qs_node_step.specs.Serving.{put_label}
-use Rattle.qs_node_step.specs.State.{Work, part_of, doings_of, no_doings, with_manager, with_queues, with_kept, with_doings, change_server, client_cmp}
-use Rattle.qs_node_step.specs.Step.{with_command}
-use Rattle.qs_node_step.specs.Telling.{drop_counts}
-use Rattle.qs_node_step.specs.declared.state.Doings.{Doings}
-use Rattle.qs_node_step.specs.declared.state.OpenCommand.{OpenCommand}
+use Rattle.qs_node_step.specs.State.{no_doings}
 use Rattle.qs_world_refine.specs.CutLaws.{is_prepare_of, is_commit_of}
-use Rattle.qs_world_refine.specs.Sound.{is_engaged}
-use Rattle.qs_world_refine.specs.Tidy.{Stage, IsStage, IsTidy}
-use Rattle.qs_world_refine.specs.Walks.{Reads, Keeps, MayLog, MayForget, TicksOn, is_decided, keeps_prepared}
+use Rattle.qs_world_refine.specs.Walks.{keeps_prepared}
 use Rattle.qs_world_refine.proofs.Maps.{lookup_put_apart}
 use Rattle.qs_world_refine.proofs.Others.{key_apart}
 use Rattle.qs_world_refine.proofs.SoundHolds.{is_held}
@@ -42,7 +17,7 @@ use Rattle.qs_world_refine.proofs.SoundKnown.{same_is}
 use Rattle.qs_world_refine.proofs.TidyKeeps.{tidy_keeps, tidy_ticks}
 use Rattle.qs_world_refine.proofs.TidyReads.{tidy_reads}
 use Rattle.qs_world_refine.proofs.WalkSettles.{doings_put}
-use Rattle.qs_world_refine.proofs.PreparedKept.{KeptIn, NotedIn, either, one_more, held_lasts, decided_lasts, engaged_held, kept_on, kept_still, part_kept, of_part, logs, met_kept, aborted_kept, forgets}
+use Rattle.qs_world_refine.proofs.PreparedKept.{KeptIn, NotedIn, one_more, held_lasts, decided_lasts, engaged_held, kept_on, kept_still, part_kept, of_part, logs, met_kept, aborted_kept, forgets}
 
 pub record LoggedWell (t : Tid) (work : Work) : Type 0 where
   pub noted : NotedIn t work
@@ -77,7 +52,7 @@ module _ (t : Tid) where
   -- a record is logged
   logged : (rec : Record) (work : Work) → MayLog rec work → LoggedWell t work → LoggedWell t (log rec work)
   logged rec work may is = record {
-    noted = λ has. noted (either (list_any (is_prepare_of t) work.out.records) (is_prepare_of t rec || false) (sym (one_more (is_prepare_of t) work.out.records rec) ∙ has));
+    noted = λ has. noted (or_cases (list_any (is_prepare_of t) work.out.records) (is_prepare_of t rec || false) (sym (one_more (is_prepare_of t) work.out.records rec) ∙ has));
     held = logs t is_held (is_prepare_of t) held_lasts rec work (λ here. (prepared rec may here).1) is.held;
     decided = logs t is_decided (is_commit_of t) decided_lasts rec work (committed rec may) is.decided;
   }

@@ -1,30 +1,14 @@
 -- What a step keeps of a transaction of which it logged a record of some kind: each change leaves it so, or its End was logged.
-use Rattle.std.proofs.Common.{◌≡◌, ◌⊎◌, inl, inr, ℕ, ◌&&◌, ◌||◌, not, Bool, true, false, List, [], ◌∷◌, ◌++◌, Option, Some, None, is_none, is_some, refl, sym, ap, subst, ◌∙◌, if◌then◌else◌}
-use Rattle.std.proofs.lemmas.List.Folds.{list_any-append}
-use Rattle.std.specs.List.{list_any}
-use Rattle.std.specs.Map.{lookup}
-use Rattle.std.specs.BTreeMap.{is_at}
-use Rattle.qs_base.specs.Order.{tid_cmp, same_tid}
-use Rattle.qs_base.specs.declared.identifiers.NodeNo.{NodeNo}
+use Rattle.qs_world_refine.proofs.Words.{◌≡◌, ◌⊎◌, inl, inr, ℕ, ◌&&◌, ◌||◌, not, Bool, true, false, List, [], ◌∷◌, ◌++◌, Option, Some, None, is_none, is_some, refl, sym, ap, subst, ◌∙◌, if◌then◌else◌, list_any-append, list_any, lookup, is_at, tid_cmp, same_tid, NodeNo, Tid, same_node, Record, aborted_participant, is_undecided, is_forgotten, new_participant, Manager, Participant, log, tid_of, Work, part_of, doings_of, with_manager, is_engaged, IsPlain, MayForget, is_decided, not-true, or_cases}
+use Rattle.qs_world_refine.proofs.Words.{or_left, or_right, never_not}
 use Rattle.qs_base.specs.declared.identifiers.Outcome.{Outcome}
-use Rattle.qs_base.specs.declared.identifiers.Tid.{Tid}
 use Rattle.qs_engage.specs.Engage as engage
-use Rattle.qs_engage.specs.Nodes.{same_node}
 use Rattle.qs_engage.specs.declared.engage.Engage.{Engage}
-use Rattle.qs_record.specs.declared.record.Record.{Record}
 use Rattle.qs_record.specs.declared.record.Record.TheVariants as records
 use Rattle.qs_tm.specs.Manager as tm
 use Rattle.qs_tm.specs.Outcomes as outcome_rules
 use Rattle.qs_tm.specs.Participant as participant
-use Rattle.qs_tm.specs.Outcomes.{aborted_participant}
-use Rattle.qs_tm.specs.Participant.{is_undecided, is_forgotten, new_participant}
-use Rattle.qs_tm.specs.declared.manager.Manager.{Manager}
-use Rattle.qs_tm.specs.declared.participant.Participant.{Participant}
-use Rattle.qs_node_step.specs.Bringing.{log, tid_of}
-use Rattle.qs_node_step.specs.State.{Work, part_of, doings_of, with_manager}
 use Rattle.qs_world_refine.specs.CutLaws.{is_prepare_of}
-use Rattle.qs_world_refine.specs.Sound.{is_engaged}
-use Rattle.qs_world_refine.specs.Walks.{IsPlain, MayForget, is_decided}
 use Rattle.qs_world_refine.proofs.Frames.{part_apart}
 use Rattle.qs_world_refine.proofs.Others.{put_apart}
 use Rattle.qs_world_refine.proofs.OthersCame.{forget_leaves}
@@ -42,17 +26,6 @@ KeptIn g p t work = list_any p work.out.records ≡ true → (tm.told_of t false
 -- a Prepare is noted
 abbrev pub NotedIn : Tid → Work → Type 0
 NotedIn t work = list_any (is_prepare_of t) work.out.records ≡ true → (doings_of t work).prepared ≡ true
-
-pub either : (a b : Bool) → (a || b) ≡ true → (a ≡ true) ⊎ (b ≡ true)
-either true b is = inl refl
-either false b is = inr is
-
-pub first : (a b : Bool) → a ≡ true → (a || b) ≡ true
-first a b is = rw is refl
-
-pub last : (a b : Bool) → b ≡ true → (a || b) ≡ true
-last true b is = refl
-last false b is = is
 
 pub one_more : (p : Record → Bool) (rs : List Record) (r : Record) → list_any p (rs ++ r ∷ []) ≡ (list_any p rs || (p r || false))
 one_more p rs r = list_any-append p rs (r ∷ [])
@@ -105,15 +78,11 @@ held_lasts = record {
     outcome_held false s = refl
 
     forgotten : (p : Participant) → is_forgotten p ≡ true → is_held p ≡ true → ⊥
-    forgotten p is held = by p.engage.home (is_undecided p) p.engage.superior (and_both (is_undecided p) _ both.0).0 (off p.engage.home (and_both (is_undecided p) _ both.0).1)
+    forgotten p is held = by p.engage.home (is_undecided p) p.engage.superior (and_both (is_undecided p) _ both.0).0 (not-true p.engage.home (and_both (is_undecided p) _ both.0).1)
         (and_both (is_none p.engage.superior) _ (and_both (is_none p.engage.superior && not p.involved) _ both.1).0).0 held
       where
         both : ((is_undecided p && not p.engage.home) ≡ true) × (((is_none p.engage.superior && not p.involved) && (Rattle.qs_engage.specs.Nodes.is_no_node p.told && Rattle.qs_tm.specs.Participant.only_read p)) ≡ true)
         both = and_both (is_undecided p && not p.engage.home) _ is
-
-        off : (a : Bool) → not a ≡ true → a ≡ false
-        off true so = absurd (cc so)
-        off false so = refl
 
         by : (h u : Bool) (o : Option NodeNo) → u ≡ true → h ≡ false → is_none o ≡ true → not (not h && (u && not (if h then u else is_some o))) ≡ true → ⊥
         by true u o now away none so = absurd (cc away)
@@ -129,12 +98,8 @@ decided_lasts = record {
   requested = λ peer number p is. is;
   decides = λ outcome p. refl;
   takes = λ outcome p. refl;
-  forgotten = λ p is so. clash (is_undecided p) (and_both (is_undecided p) _ (and_both (is_undecided p && not p.engage.home) _ is).0).0 so;
+  forgotten = λ p is so. never_not (is_undecided p) (and_both (is_undecided p) _ (and_both (is_undecided p && not p.engage.home) _ is).0).0 so;
 }
-  where
-    clash : (a : Bool) → a ≡ true → not a ≡ true → ⊥
-    clash true is so = cc so
-    clash false is so = cc is
 
 pub engaged_held : (p : Participant) → is_engaged p ≡ true → is_held p ≡ true
 engaged_held p is = by p.engage.home (is_undecided p) (is_some p.engage.superior) is
@@ -185,14 +150,14 @@ module _ (t : Tid) (g : Participant → Bool) (p : Record → Bool) (l : Lasts g
   of_part tid f work more is = kept_on work (with_manager (tm.with_part tid f) work) refl (part_kept tid f work.node.manager more) is
 
   pub logs : (rec : Record) (work : Work) → ((p rec || false) ≡ true → told work.node.manager ≡ true) → Kept work → Kept (log rec work)
-  logs rec work may is has = by (either (list_any p work.out.records) (p rec || false) (sym (one_more p work.out.records rec) ∙ has))
+  logs rec work may is has = by (or_cases (list_any p work.out.records) (p rec || false) (sym (one_more p work.out.records rec) ∙ has))
     where
       logged : told work.node.manager ≡ true → told (log rec work).node.manager ≡ true
       logged = part_kept (tid_of rec) (outcome_rules.logged rec) work.node.manager (λ _. l.logged rec)
 
       then_kept : (told work.node.manager ≡ true) ⊎ (list_any (is_end_of t) work.out.records ≡ true) → (told (log rec work).node.manager ≡ true) ⊎ (list_any (is_end_of t) (work.out.records ++ rec ∷ []) ≡ true)
       then_kept (inl so) = inl (logged so)
-      then_kept (inr ended) = inr (one_more (is_end_of t) work.out.records rec ∙ first (list_any (is_end_of t) work.out.records) (is_end_of t rec || false) ended)
+      then_kept (inr ended) = inr (one_more (is_end_of t) work.out.records rec ∙ or_left (list_any (is_end_of t) work.out.records) (is_end_of t rec || false) ended)
 
       by : (list_any p work.out.records ≡ true) ⊎ ((p rec || false) ≡ true) → (told (log rec work).node.manager ≡ true) ⊎ (list_any (is_end_of t) (work.out.records ++ rec ∷ []) ≡ true)
       by (inl before) = then_kept (is before)
@@ -230,7 +195,7 @@ module _ (t : Tid) (g : Participant → Bool) (p : Record → Bool) (l : Lasts g
     where
       own : MayForget me tid part work → same_tid t tid ≡ true → told work.node.manager ≡ true → list_any (is_end_of t) work.out.records ≡ true
       own (inl read) same so = absurd (l.forgotten part read.1 (told_part g tid work.node.manager part known (subst (λ (u : Tid). tm.told_of u false g work.node.manager ≡ true) (same_is t tid same) so)))
-      own (inr ended) same so = rw ended.1.1 (one_more (is_end_of t) ended.1.0 (records.End tid) ∙ last (list_any (is_end_of t) ended.1.0) (same_tid t tid || false) (first (same_tid t tid) false same))
+      own (inr ended) same so = rw ended.1.1 (one_more (is_end_of t) ended.1.0 (records.End tid) ∙ or_right (list_any (is_end_of t) ended.1.0) (same_tid t tid || false) (or_left (same_tid t tid) false same))
 
       by : (b : Bool) → same_tid t tid ≡ b → (told work.node.manager ≡ true) ⊎ (list_any (is_end_of t) work.out.records ≡ true) → (told (tm.forget tid work.node.manager) ≡ true) ⊎ (list_any (is_end_of t) work.out.records ≡ true)
       by b same (inr ended) = inr ended

@@ -1,35 +1,15 @@
 -- At the end of a step that logged a Prepare of a transaction its node is engaged for it, or has decided it, as it has where it logged a Commit.
-use Rattle.std.proofs.Common.{◌≡◌, ◌⊎◌, inl, inr, ℕ, ◌<◌, Bool, true, false, List, [], ◌∷◌, ◌++◌, Option, Some, None, refl, subst}
-use Rattle.std.specs.List.{list_any}
-use Rattle.std.specs.Map.{lookup, remove_entry}
-use Rattle.std.specs.BTreeMap.{is_at}
-use Rattle.qs_base.specs.declared.identifiers.ClientNo.{ClientNo}
-use Rattle.qs_base.specs.declared.identifiers.Tid.{Tid}
+use Rattle.qs_world_refine.proofs.Words.{◌≡◌, ◌⊎◌, inl, inr, ℕ, ◌<◌, Bool, true, false, List, [], ◌∷◌, ◌++◌, Option, Some, None, refl, subst, list_any, lookup, remove_entry, is_at, ClientNo, Tid, ScriptLine, Answer, Record, BeginFault, enter, answer, is_forced, begin_or_refuse, put_label, settle, NodeValue, Work, with_manager, work_on, client_cmp, happen, answer_waiting, step_work, with_command, OpenCommand, is_sound, begun, IsSteadyWorld, MachineGives, Stage, IsStage, IsTidy}
 use Rattle.qs_book_journal.specs.declared.entry.Act.TheVariants as acts
 use Rattle.qs_book_journal.specs.declared.script_line.Command.TheVariants as commands
-use Rattle.qs_book_journal.specs.declared.script_line.ScriptLine.{ScriptLine}
-use Rattle.qs_ops.specs.declared.answer.Answer.{Answer}
 use Rattle.qs_ops.specs.declared.answer.Answer.TheVariants as answers
-use Rattle.qs_record.specs.declared.record.Record.{Record}
 use Rattle.qs_record.specs.declared.record.Record.TheVariants as records
 use Rattle.qs_tm.specs.Manager as tm
-use Rattle.qs_tm.specs.declared.manager.BeginFault.{BeginFault}
 use Rattle.qs_tm.specs.declared.manager.BeginFault.TheVariants as faults
-use Rattle.qs_node_step.specs.Bringing.{enter, answer, is_forced}
-use Rattle.qs_node_step.specs.Commands.{begin_or_refuse}
-use Rattle.qs_node_step.specs.Serving.{put_label}
-use Rattle.qs_node_step.specs.Settling.{settle}
-use Rattle.qs_node_step.specs.State.{NodeValue, Work, with_manager, work_on, client_cmp}
-use Rattle.qs_node_step.specs.Step.{happen, answer_waiting, step_work, with_command}
 use Rattle.qs_node_step.specs.declared.event.Event.{Event}
 use Rattle.qs_node_step.specs.declared.event.Event.TheVariants as events
-use Rattle.qs_node_step.specs.declared.state.OpenCommand.{OpenCommand}
 use Rattle.qs_world.specs.World.{World}
 use Rattle.qs_world_refine.specs.CutLaws.{is_prepare_of, is_commit_of}
-use Rattle.qs_world_refine.specs.Sound.{is_sound}
-use Rattle.qs_world_refine.specs.SoundSteps.{begun}
-use Rattle.qs_world_refine.specs.Steadies.{IsSteadyWorld, MachineGives}
-use Rattle.qs_world_refine.specs.Tidy.{Stage, IsStage, IsTidy}
 use Rattle.qs_world_refine.proofs.BeginKeeps.{begin_keeps}
 use Rattle.qs_world_refine.proofs.PreparedHeld.{LoggedWell, Both, both_reads, both_keeps, both_ticks}
 use Rattle.qs_world_refine.proofs.SoundHappen.{happen_sound}

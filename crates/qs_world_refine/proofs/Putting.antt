@@ -1,14 +1,8 @@
 -- Events that put messages on one link, and Tell as the first of them.
-use Rattle.std.proofs.Common.{◌≡◌, ◌≢◌, ℕ, ◌<◌, ◌==◌, true, List, [], ◌∷◌, ◌++◌, arith, refl, sym, ◌∙◌, subst, ap, if◌then◌else◌}
-use Rattle.std.proofs.lemmas.Bool.Decides.{nat_tests}
-use Rattle.qs_base.specs.declared.identifiers.Tid.{Tid}
-use Rattle.qs_world_agree.specs.World.{World, Committed, with_at}
-use Rattle.qs_world_agree.specs.Step.{Step, Tell}
-use Rattle.qs_world_agree.specs.Carry.{Leads}
-use Rattle.qs_world_refine.specs.Sights.{with_at4, Sight, ShowsSight}
-use Rattle.qs_world_refine.specs.Places.{place}
-use Rattle.qs_world_refine.specs.Faces.{Face, ShowsFace}
-use Rattle.qs_world_refine.specs.Links.{Said, Outcome_told, link, IsLink, waiting_link}
+use Rattle.qs_world_refine.proofs.Words.{◌≡◌, ◌≢◌, ℕ, ◌<◌, ◌==◌, true, List, [], ◌∷◌, ◌++◌, arith, refl, sym, ◌∙◌, subst, ap, if◌then◌else◌, nat_tests, Tid, Committed, Tell, Leads, Sight, ShowsSight, place, Face, ShowsFace, Said, Outcome_told, link, IsLink, waiting_link}
+use Rattle.qs_world_agree.specs.World.{World, with_at}
+use Rattle.qs_world_agree.specs.Step.{Step}
+use Rattle.qs_world_refine.specs.Sights.{with_at4}
 use Rattle.qs_world_refine.proofs.Streams.{Stays, Carries, still, behind, ended}
 use Rattle.qs_world_refine.proofs.Still.{SameStage, stage_still, SameLogs, log_still}
 use Rattle.qs_world_refine.proofs.Around.{faces_around, links_around}

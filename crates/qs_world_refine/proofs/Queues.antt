@@ -1,18 +1,8 @@
 -- How many requests of a transaction wait at each server, after one was put into a queue or taken out of it.
-use Rattle.std.proofs.Common.{◌≡◌, ℕ, ◌+◌, ◌==◌, nat_lt, cond, Bool, true, false, List, [], ◌∷◌, ◌++◌, Option, Some, None, unwrap_or, drop, refl, sym, ap, ◌∙◌, arith, if◌then◌else◌}
-use Rattle.std.specs.Map.{lookup, set_value}
-use Rattle.std.specs.BTreeMap.{insert_entry, is_at}
-use Rattle.std.specs.declared.cmp.Ordering.TheVariants.{Less, Equal, Greater}
-use Rattle.std.proofs.lemmas.Bool.{eqb-true}
-use Rattle.std.proofs.lemmas.Bool.Decides.{nat_tests}
-use Rattle.qs_base.specs.Order.{same_tid}
-use Rattle.qs_base.specs.declared.identifiers.ServerNo.{ServerNo}
-use Rattle.qs_base.specs.declared.identifiers.Tid.{Tid}
-use Rattle.qs_ipc.specs.Ipc.{IpcValue, server_cmp, queue_at, enqueue, after_next}
-use Rattle.qs_ipc.specs.Queue.{QueueValue, no_queue, count_of, is_of, added, after_first}
-use Rattle.qs_ipc.specs.declared.delivery.Delivery.{Delivery}
+use Rattle.qs_world_refine.proofs.Words.{◌≡◌, ℕ, ◌+◌, ◌==◌, nat_lt, cond, Bool, true, false, List, [], ◌∷◌, ◌++◌, Option, Some, None, unwrap_or, drop, refl, sym, ap, ◌∙◌, arith, if◌then◌else◌, lookup, set_value, insert_entry, is_at, Less, Equal, Greater, eqb-true, nat_tests, same_tid, ServerNo, Tid, IpcValue, server_cmp, queue_at, QueueValue, no_queue, count_of, added, after_first, Delivery, server_no}
+use Rattle.qs_ipc.specs.Ipc.{enqueue, after_next}
+use Rattle.qs_ipc.specs.Queue.{is_of}
 use Rattle.qs_world_agree.specs.World.{with_at}
-use Rattle.qs_world_refine.specs.Sights.{server_no}
 use Rattle.qs_world_refine.proofs.Maps.{lookup_set, set_apart, lookup_put, lookup_put_apart}
 
 -- ---- numbers of servers as keys

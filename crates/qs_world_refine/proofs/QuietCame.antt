@@ -1,33 +1,11 @@
 -- Messages that are no events of the machine, or ask for a vote alone: a reply, a refusal, and an AskVote.
-use Rattle.std.proofs.Common.{◌≡◌, ℕ, ◌&&◌, not, Bool, true, false, Option, Some, None, refl, ap, ◌∙◌, if◌then◌else◌}
-use Rattle.std.specs.BTreeMap.{is_at}
-use Rattle.std.specs.Map.{lookup}
-use Rattle.qs_base.specs.Order.{tid_cmp}
-use Rattle.qs_base.specs.declared.identifiers.ClientNo.{ClientNo}
-use Rattle.qs_base.specs.declared.identifiers.Member.{Member}
-use Rattle.qs_base.specs.declared.identifiers.NodeNo.{NodeNo}
-use Rattle.qs_base.specs.declared.identifiers.Tid.{Tid}
-use Rattle.qs_engage.specs.Engage.{uncovered, is_node}
-use Rattle.qs_engage.specs.Nodes.{listed, same_node}
-use Rattle.qs_ops.specs.Operations.{answer_of}
-use Rattle.qs_ops.specs.declared.answer.Cause.{Cause}
-use Rattle.qs_ops.specs.declared.reply.Reply.{Reply}
+use Rattle.qs_world_refine.proofs.Words.{◌≡◌, ℕ, ◌&&◌, not, Bool, true, false, Option, Some, None, refl, ap, ◌∙◌, if◌then◌else◌, is_at, lookup, tid_cmp, ClientNo, Member, NodeNo, Tid, uncovered, is_node, listed, same_node, answer_of, Cause, Reply, is_undecided, is_by_files, Outstanding, Participant, become_asked, asked_by, ask_came, block, refusal_came, pass_unknown, send, answer, reply_came, take_reply, answer_issuer, waits_as, client_of, Work, here, part_of, with_manager, client_cmp, face}
+use Rattle.qs_world_refine.proofs.Words.{SightGoes, sight_faced, Scene, sight_during, ShowsWork, IsAt, Goes}
 use Rattle.qs_packet.specs.declared.message.Message.TheVariants as messages
 use Rattle.qs_tm.specs.Manager as tm
 use Rattle.qs_tm.specs.Participant as participant
-use Rattle.qs_tm.specs.Participant.{is_undecided, is_by_files}
-use Rattle.qs_tm.specs.declared.participant.Outstanding.{Outstanding}
-use Rattle.qs_tm.specs.declared.participant.Participant.{Participant}
-use Rattle.qs_node_step.specs.Asking.{become_asked, asked_by, ask_came, block, refusal_came, pass_unknown}
-use Rattle.qs_node_step.specs.Bringing.{send, answer}
-use Rattle.qs_node_step.specs.Requests.{reply_came, take_reply, answer_issuer, waiting_at, waits_as}
-use Rattle.qs_node_servers.specs.Servers.{client_of}
-use Rattle.qs_node_step.specs.State.{Work, here, part_of, with_manager, client_cmp}
+use Rattle.qs_node_step.specs.Requests.{waiting_at}
 use Rattle.qs_world_agree.specs.World.{World}
-use Rattle.qs_world_refine.specs.NodeFaces.{face}
-use Rattle.qs_world_refine.specs.Seen.{SightGoes, sight_faced}
-use Rattle.qs_world_refine.specs.Shows.{Scene, sight_during, ShowsWork}
-use Rattle.qs_world_refine.specs.Steps.{IsAt, Goes}
 use Rattle.qs_world_refine.proofs.Alike.{SameFace, found_itself}
 use Rattle.qs_world_refine.proofs.Asking as event
 use Rattle.qs_world_refine.proofs.During.{Leaves, leaves_itself, leaves_shown, send_leaves, local_shown, face_here, runs}

@@ -1,10 +1,7 @@
 -- What of a node is read for one transaction: where that stays, its face stays.
-use Rattle.std.proofs.Common.{◌≡◌, ℕ, Option, Some, unwrap_or, refl, ap, ◌∙◌}
-use Rattle.qs_base.specs.declared.identifiers.Tid.{Tid}
+use Rattle.qs_world_refine.proofs.Words.{◌≡◌, ℕ, Option, Some, unwrap_or, refl, ap, ◌∙◌, Tid, Participant, NodeValue, face, face_at, part_at, unknown, loans_at, is_past_commit}
 use Rattle.qs_tm.specs.Manager as tm
-use Rattle.qs_tm.specs.declared.participant.Participant.{Participant}
-use Rattle.qs_node_step.specs.State.{NodeValue}
-use Rattle.qs_world_refine.specs.NodeFaces.{face, face_at, part_at, unknown, waiting_at, loans_at, is_past_commit}
+use Rattle.qs_world_refine.specs.NodeFaces.{waiting_at}
 use Rattle.qs_world_refine.proofs.Alike.{SameFace}
 
 -- beside what is kept of it

@@ -1,9 +1,7 @@
 -- A face that is ready is a place that is.
-use Rattle.std.proofs.Common.{◌≡◌, ℕ, ◌+◌, ◌≤◌, arith, ◌∙◌}
+use Rattle.qs_world_refine.proofs.Words.{◌≡◌, ℕ, ◌+◌, ◌≤◌, arith, ◌∙◌, Face, ShowsFace, ShowsOpen, FaceReady}
 use Rattle.qs_world_agree.specs.World.{World}
 use Rattle.qs_world_agree.specs.Guards.{IsReady}
-use Rattle.qs_world_refine.specs.Faces.{Face, ShowsFace, ShowsOpen}
-use Rattle.qs_world_refine.specs.Seen.{FaceReady}
 
 pub is_ready : (f : Face) (q : ℕ) (w : World) → ((m : ℕ) → w.covered q m ≤ w.sent q m) → ShowsFace f q w → FaceReady f q w → IsReady w q
 is_ready f q w counts i r = record {

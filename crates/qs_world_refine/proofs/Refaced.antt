@@ -1,13 +1,6 @@
 -- The face of one node is shown otherwise, where the machine asks no more of it.
-use Rattle.std.proofs.Common.{◌≡◌, ℕ, ◌==◌, Bool, true, false, List, refl, ◌∙◌, sym, if◌then◌else◌}
-use Rattle.std.proofs.lemmas.Bool.{eqb-true}
-use Rattle.qs_base.specs.declared.identifiers.Tid.{Tid}
-use Rattle.qs_restart.specs.Recovery.{Recovery}
-use Rattle.qs_world_agree.specs.World.{World, Committed}
-use Rattle.qs_world_refine.specs.Faces.{Face, ShowsFace}
-use Rattle.qs_world_refine.specs.Links.{Said}
-use Rattle.qs_world_refine.specs.Places.{place}
-use Rattle.qs_world_refine.specs.Sights.{Sight, ShowsSight}
+use Rattle.qs_world_refine.proofs.Words.{◌≡◌, ℕ, ◌==◌, Bool, true, false, List, refl, ◌∙◌, sym, if◌then◌else◌, eqb-true, Tid, Recovery, Committed, Face, ShowsFace, Said, place, Sight, ShowsSight}
+use Rattle.qs_world_agree.specs.World.{World}
 
 pub refaced : (tid : Tid) (x : Sight) (w : World) (n : ℕ) (f g : Face) (said : ℕ → ℕ → ℕ → ℕ → List Said) (found : ℕ → Recovery) → (ShowsFace f (place n (x.inc n)) w → ShowsFace g (place n (x.inc n)) w)
     → ShowsSight tid (record x { face = λ k. if k == n then f else x.face k; said = said; found = found }) w → ShowsSight tid (record x { face = λ k. if k == n then g else x.face k; said = said; found = found }) w

@@ -1,17 +1,10 @@
 -- A request is dropped where the sender is not the superior, and Covered goes back: Drop_cover.
-use Rattle.std.proofs.Common.{◌≡◌, ◌≢◌, ◌⊎◌, inl, inr, ℕ, ◌+◌, ◌<◌, ◌≤◌, true, false, List, [], ◌∷◌, ◌++◌, arith, refl, sym, ◌∙◌, ap}
-use Rattle.std.proofs.lemmas.Bool.Decides.{nat_tests}
-use Rattle.qs_base.specs.declared.identifiers.Tid.{Tid}
-use Rattle.qs_world_agree.specs.World.{World, with_at, with_at2, with_at3}
-use Rattle.qs_world_agree.specs.Carry.{IsLawful}
-use Rattle.qs_world_agree.specs.Guards.{Drops, next}
-use Rattle.qs_world_agree.specs.Step.{Step, Drop_cover}
+use Rattle.qs_world_refine.proofs.Words.{◌≡◌, ◌≢◌, ◌⊎◌, inl, inr, ℕ, ◌+◌, ◌<◌, ◌≤◌, true, false, List, [], ◌∷◌, ◌++◌, arith, refl, sym, ◌∙◌, ap, nat_tests, Tid, with_at3, IsLawful, next, Drop_cover, Face, ShowsFace, ShowsOpen, Said, Requested, Closed, link, waiting_link, IsLink, place, Runs, Meets, sight_returned, Sight, ShowsSight}
+use Rattle.qs_world_agree.specs.World.{World, with_at, with_at2}
+use Rattle.qs_world_agree.specs.Guards.{Drops}
+use Rattle.qs_world_agree.specs.Step.{Step}
 use Rattle.qs_world_refine.specs.EventLaws.{DropCoverGoes, DropHomeGoes}
-use Rattle.qs_world_refine.specs.Faces.{Face, ShowsFace, ShowsOpen}
-use Rattle.qs_world_refine.specs.Links.{Said, Requested, Closed, link, waiting_link, IsLink}
-use Rattle.qs_world_refine.specs.Places.{place}
-use Rattle.qs_world_refine.specs.Seen.{Runs, Meets, sight_returned}
-use Rattle.qs_world_refine.specs.Sights.{Sight, ShowsSight, with_at4}
+use Rattle.qs_world_refine.specs.Sights.{with_at4}
 use Rattle.qs_world_refine.proofs.Around.{faces_around, place_some}
 use Rattle.qs_world_refine.proofs.EventFaces.{Knows}
 use Rattle.qs_world_refine.proofs.Facts.{invariant}

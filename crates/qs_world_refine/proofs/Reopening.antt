@@ -1,23 +1,10 @@
 -- Where nothing but logs speaks of a transaction, the agreement machine that begins over them shows it.
-use Rattle.std.proofs.Common.{◌≡◌, ℕ, ◌<◌, ◌≤◌, ◌==◌, ◌&&◌, nat_lt, Bool, true, false, List, [], refl, sym, ap, subst, ◌∙◌, arith, if◌then◌else◌}
-use Rattle.std.specs.List.{list_any}
-use Rattle.std.proofs.lemmas.Bool.{eqb-true}
-use Rattle.std.proofs.lemmas.Bool.Decides.{nat_tests}
-use Rattle.qs_base.specs.Order.{same_tid}
-use Rattle.qs_base.specs.declared.identifiers.Tid.{Tid}
-use Rattle.qs_restart.specs.Recovery.{is_untold_of}
-use Rattle.qs_world_agree.proofs.Carries.{lawful}
-use Rattle.qs_world_agree.specs.Carry.{IsLawful}
+use Rattle.qs_world_refine.proofs.Words.{◌≡◌, ℕ, ◌<◌, ◌≤◌, ◌==◌, ◌&&◌, nat_lt, Bool, true, false, List, [], refl, sym, ap, subst, ◌∙◌, arith, if◌then◌else◌, list_any, eqb-true, and_right, nat_tests, same_tid, Tid, is_untold_of, lawful, IsLawful, Found, Open, Committed, Aborted, ShowsFace, reopening_seen, Said, IsLink, link, waiting_link, names_node, node_no, place, ArePlaced, IsRisenFace, outcome_at_home, Sight, ShowsSight, ShowsLog, is_in_doubt, list_of, has_doubt}
 use Rattle.qs_world_agree.specs.Origins as origins
-use Rattle.qs_world_agree.specs.Origins.{Found}
-use Rattle.qs_world_agree.specs.World.{World, Open, Committed, Aborted}
-use Rattle.qs_world_refine.specs.Faces.{ShowsFace}
-use Rattle.qs_world_refine.specs.Lefts.{IsLeft, reopening_seen}
-use Rattle.qs_world_refine.specs.Links.{Said, IsLink, link, waiting_link, names_node, node_no}
-use Rattle.qs_world_refine.specs.Places.{place, home_place}
-use Rattle.qs_world_refine.specs.RiseLaws.{ArePlaced, IsRisenFace, outcome_found, outcome_at_home}
-use Rattle.qs_world_refine.specs.Sights.{Sight, ShowsSight, ShowsLog, is_in_doubt, list_of}
-use Rattle.qs_world_refine.specs.Sound.{has_doubt}
+use Rattle.qs_world_agree.specs.World.{World}
+use Rattle.qs_world_refine.specs.Lefts.{IsLeft}
+use Rattle.qs_world_refine.specs.Places.{home_place}
+use Rattle.qs_world_refine.specs.RiseLaws.{outcome_found}
 use Rattle.qs_world_refine.specs.Starts.{node_of}
 use Rattle.qs_world_refine.proofs.Doubts.{none_of}
 use Rattle.qs_world_refine.proofs.Starting.{node_place, below, up_is, stage_seen, staged}
@@ -82,17 +69,13 @@ module _ (tid : Tid) (x : Sight) (left : IsLeft tid x) where
   pub reopens_placed : ((k : ℕ) → k < x.size → 1 ≤ x.inc k) → ArePlaced over_logs
   reopens_placed begun q m = record {
     stranger = λ late. apart (q == place (node_of q) (x.inc (node_of q))) (grind (arith, nat_tests, late)) (nat_lt m x.size) (Rattle.qs_world_refine.specs.Places.known_place m (x.knows (node_of q) m));
-    none_up = nowhere (x.up 0) (0 == place 0 (x.inc 0)) (no_place (x.inc 0) (begun 0 (grind (arith, nat_tests, left.home_in))));
+    none_up = and_right (x.up 0) (0 == place 0 (x.inc 0)) (no_place (x.inc 0) (begun 0 (grind (arith, nat_tests, left.home_in))));
     none_posted = refl;
     engager = λ on away. absurd (cc (on));
   }
     where
       apart : (a : Bool) → a ≡ false → (b : Bool) (k : ℕ) → (if a && b then k else 0) ≡ 0
       apart a is b k = rw is refl
-
-      nowhere : (a b : Bool) → b ≡ false → (a && b) ≡ false
-      nowhere true b is = is
-      nowhere false b is = refl
 
       no_place : (i : ℕ) → 1 ≤ i → (0 == place 0 i) ≡ false
       no_place i some = grind (arith, nat_tests, some)

@@ -1,36 +1,13 @@
 -- A request comes to another node than the home: whatever that keeps of the transaction, it is one event of the machine.
-use Rattle.std.proofs.Common.{◌≡◌, ◌≢◌, ◌⊎◌, inl, inr, ℕ, ◌<◌, ◌==◌, ◌&&◌, Bool, true, false, List, Option, Some, None, unwrap_or, refl, sym, subst, ap, ◌∙◌, arith, if◌then◌else◌}
-use Rattle.std.proofs.lemmas.Bool.{eqb-true}
-use Rattle.std.proofs.lemmas.Bool.Decides.{nat_tests}
-use Rattle.qs_base.specs.declared.identifiers.Member.{Member}
-use Rattle.qs_base.specs.declared.identifiers.NodeNo.{NodeNo}
+use Rattle.qs_world_refine.proofs.Words.{◌≡◌, ◌≢◌, ◌⊎◌, inl, inr, ℕ, ◌<◌, ◌==◌, ◌&&◌, Bool, true, false, List, Option, Some, None, unwrap_or, refl, sym, subst, ap, ◌∙◌, arith, if◌then◌else◌, eqb-true, nat_tests, Member, NodeNo, ServerNo, Tid, engaged, same_node, Engaged, is_for, Delivery, Op, Message, is_abort, new_participant, Participant, request_came, learn_label, engage, cover_from, take_in, is_dropped, Setting, Work, here, part_of, with_manager, IsLawful, node_no, part_at, began_here}
+use Rattle.qs_world_refine.proofs.Words.{unknown_at_home, place, Scene, sight_during, ShowsWork, handed, IsAt, IsWhole, IsNext, Goes}
 use Rattle.qs_base.specs.declared.identifiers.Outcome.{Outcome}
 use Rattle.qs_base.specs.declared.identifiers.Outcome.TheVariants as outcomes
-use Rattle.qs_base.specs.declared.identifiers.ServerNo.{ServerNo}
-use Rattle.qs_base.specs.declared.identifiers.Tid.{Tid}
-use Rattle.qs_engage.specs.Engage.{engaged, answers_to}
-use Rattle.qs_engage.specs.Nodes.{same_node}
-use Rattle.qs_engage.specs.declared.engage.Engaged.{Engaged}
+use Rattle.qs_engage.specs.Engage.{answers_to}
 use Rattle.qs_engage.specs.declared.engage.Engaged.TheVariants as engagements
-use Rattle.qs_ipc.specs.Queue.{is_for}
-use Rattle.qs_ipc.specs.declared.delivery.Delivery.{Delivery}
-use Rattle.qs_ops.specs.declared.operation.Op.{Op}
 use Rattle.qs_packet.specs.declared.message.Message.TheVariants as messages
-use Rattle.qs_packet.specs.declared.message.Message.{Message}
 use Rattle.qs_tm.specs.Manager as tm
-use Rattle.qs_tm.specs.Outcomes.{is_abort}
-use Rattle.qs_tm.specs.Participant.{new_participant}
-use Rattle.qs_tm.specs.declared.participant.Participant.{Participant}
-use Rattle.qs_node_step.specs.Serving.{request_came, learn_label, engage, cover_from, take_in, is_dropped}
-use Rattle.qs_node_step.specs.declared.setting.Setting.{Setting}
-use Rattle.qs_node_step.specs.State.{Work, here, part_of, with_manager}
 use Rattle.qs_world_agree.specs.World.{World}
-use Rattle.qs_world_agree.specs.Carry.{IsLawful}
-use Rattle.qs_world_refine.specs.Links.{node_no}
-use Rattle.qs_world_refine.specs.NodeFaces.{part_at, began_here, unknown_at_home}
-use Rattle.qs_world_refine.specs.Places.{place}
-use Rattle.qs_world_refine.specs.Shows.{Scene, sight_during, ShowsWork, handed}
-use Rattle.qs_world_refine.specs.Steps.{IsAt, IsWhole, IsNext, Goes}
 use Rattle.qs_world_refine.proofs.Keeping.{keeps_shown}
 use Rattle.qs_world_refine.proofs.Known.{told_is}
 use Rattle.qs_world_refine.proofs.MetWork.{met_work, met_is, known_met, met_keeps, label_same}

@@ -1,38 +1,16 @@
 -- A request comes to a node that knows its transaction: it is taken in or dropped, and gives the node its superior, or is covered at once.
-use Rattle.std.proofs.Common.{◌≡◌, ◌≢◌, ◌⊎◌, ℕ, ◌<◌, ◌==◌, Bool, true, false, List, [], ◌∷◌, Some, None, refl, sym, subst, ap, ◌∙◌, arith, if◌then◌else◌}
-use Rattle.std.specs.BTreeMap.{is_at}
-use Rattle.std.proofs.lemmas.Bool.Decides.{nat_tests}
-use Rattle.qs_base.specs.Order.{tid_cmp}
-use Rattle.qs_base.specs.declared.identifiers.Member.{Member}
-use Rattle.qs_base.specs.declared.identifiers.NodeNo.{NodeNo}
+use Rattle.qs_world_refine.proofs.Words.{◌≡◌, ◌≢◌, ◌⊎◌, ℕ, ◌<◌, ◌==◌, Bool, true, false, List, [], ◌∷◌, Some, None, refl, sym, subst, ap, ◌∙◌, arith, if◌then◌else◌, is_at, nat_tests, tid_cmp, Member, NodeNo, ServerNo, Tid, is_for, Delivery, Op, Message, new_participant, Participant, is_other, send, Work, part_of, with_manager, with_queues, Open, Aborted, IsLawful, node_no, Requested, Closed, said, all_said, face, began_here, place, SightGoes, Runs, took_in, engaged_by, sight_taken, sight_returned}
+use Rattle.qs_world_refine.proofs.Words.{Scene, sight_during, ShowsWork, handed, Sight, IsAt, IsWhole, IsNext, Goes}
 use Rattle.qs_base.specs.declared.identifiers.Outcome.TheVariants as outcomes
-use Rattle.qs_base.specs.declared.identifiers.ServerNo.{ServerNo}
-use Rattle.qs_base.specs.declared.identifiers.Tid.{Tid}
 use Rattle.qs_engage.specs.Engage.{with_superior}
 use Rattle.qs_engage.specs.declared.engage.Engage.{Engage}
 use Rattle.qs_ipc.specs.Ipc as ipc
-use Rattle.qs_ipc.specs.Queue.{is_for}
-use Rattle.qs_ipc.specs.declared.delivery.Delivery.{Delivery}
-use Rattle.qs_ops.specs.declared.operation.Op.{Op}
 use Rattle.qs_packet.specs.declared.message.Message.TheVariants as messages
-use Rattle.qs_packet.specs.declared.message.Message.{Message}
 use Rattle.qs_tm.specs.Manager as tm
 use Rattle.qs_tm.specs.Participant as participant
-use Rattle.qs_tm.specs.Participant.{new_participant}
-use Rattle.qs_tm.specs.declared.participant.Participant.{Participant}
-use Rattle.qs_node_step.specs.Bringing.{is_other, send}
 use Rattle.qs_node_step.specs.Requests.{enqueue}
-use Rattle.qs_node_step.specs.State.{Work, part_of, with_manager, with_queues}
-use Rattle.qs_world_agree.specs.World.{World, Open, Aborted, with_at}
-use Rattle.qs_world_agree.specs.Carry.{IsLawful}
-use Rattle.qs_world_refine.specs.Links.{node_no, Requested, Closed}
-use Rattle.qs_world_refine.specs.Messages.{said, all_said}
-use Rattle.qs_world_refine.specs.NodeFaces.{face, began_here}
-use Rattle.qs_world_refine.specs.Places.{place}
-use Rattle.qs_world_refine.specs.Seen.{SightGoes, Runs, took_in, engaged_by, sight_engaged, sight_covered, sight_taken, sight_returned}
-use Rattle.qs_world_refine.specs.Shows.{Scene, sight_during, ShowsWork, handed}
-use Rattle.qs_world_refine.specs.Sights.{Sight}
-use Rattle.qs_world_refine.specs.Steps.{IsAt, IsWhole, IsNext, Goes}
+use Rattle.qs_world_agree.specs.World.{World, with_at}
+use Rattle.qs_world_refine.specs.Seen.{sight_engaged, sight_covered}
 use Rattle.qs_world_refine.proofs.Alike.{found_itself}
 use Rattle.qs_world_refine.proofs.During.{Quiet, face_here, meets}
 use Rattle.qs_world_refine.proofs.EventGoes as event

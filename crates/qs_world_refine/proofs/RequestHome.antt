@@ -1,32 +1,13 @@
 -- A request comes to the home: it is covered at once, and dropped where the transaction is decided.
-use Rattle.std.proofs.Common.{◌≡◌, inl, ℕ, ◌==◌, ◌&&◌, not, Bool, true, false, List, Option, Some, None, refl, sym, subst, ap, ◌∙◌, arith, if◌then◌else◌}
-use Rattle.std.specs.Prelude.{is_some}
-use Rattle.std.proofs.lemmas.Bool.Decides.{nat_tests}
-use Rattle.qs_base.specs.declared.identifiers.Member.{Member}
+use Rattle.qs_world_refine.proofs.Words.{◌≡◌, inl, ℕ, ◌==◌, ◌&&◌, not, Bool, true, false, List, Option, Some, None, refl, sym, subst, ap, ◌∙◌, arith, if◌then◌else◌, is_some, nat_tests, Member, ServerNo, Tid, engaged, same_node, Engaged, is_for, Delivery, Op, Message, Participant, request_came, learn_label, engage, cover_from, take_in, is_dropped, Setting, Work, here, part_of, with_manager, IsLawful, node_no, began_here, place, Scene, ShowsWork, handed, IsAt, IsNext, Goes, eq-eqb}
 use Rattle.qs_base.specs.declared.identifiers.Outcome.{Outcome}
-use Rattle.qs_base.specs.declared.identifiers.ServerNo.{ServerNo}
-use Rattle.qs_base.specs.declared.identifiers.Tid.{Tid}
-use Rattle.qs_engage.specs.Engage.{engaged, answers_to}
-use Rattle.qs_engage.specs.Nodes.{same_node}
-use Rattle.qs_engage.specs.declared.engage.Engaged.{Engaged}
+use Rattle.qs_engage.specs.Engage.{answers_to}
 use Rattle.qs_engage.specs.declared.engage.Engaged.TheVariants as engagements
-use Rattle.qs_ipc.specs.Queue.{is_for}
-use Rattle.qs_ipc.specs.declared.delivery.Delivery.{Delivery}
-use Rattle.qs_ops.specs.declared.operation.Op.{Op}
 use Rattle.qs_packet.specs.declared.message.Message.TheVariants as messages
-use Rattle.qs_packet.specs.declared.message.Message.{Message}
 use Rattle.qs_tm.specs.Manager as tm
-use Rattle.qs_tm.specs.declared.participant.Participant.{Participant}
-use Rattle.qs_node_step.specs.Serving.{request_came, learn_label, met, engage, cover_from, take_in, is_dropped}
-use Rattle.qs_node_step.specs.declared.setting.Setting.{Setting}
-use Rattle.qs_node_step.specs.State.{Work, here, part_of, with_manager}
+use Rattle.qs_node_step.specs.Serving.{met}
 use Rattle.qs_world_agree.specs.World.{World}
-use Rattle.qs_world_agree.specs.Carry.{IsLawful}
-use Rattle.qs_world_refine.specs.Links.{node_no}
-use Rattle.qs_world_refine.specs.NodeFaces.{began_here}
-use Rattle.qs_world_refine.specs.Places.{place}
-use Rattle.qs_world_refine.specs.Shows.{Scene, ShowsWork, handed}
-use Rattle.qs_world_refine.specs.Steps.{IsAt, Knows, IsNext, Goes}
+use Rattle.qs_world_refine.specs.Steps.{Knows}
 use Rattle.qs_world_refine.proofs.During.{Leaves, leaves_shown}
 use Rattle.qs_world_refine.proofs.Known.{told_is}
 use Rattle.qs_world_refine.proofs.RequestCases as cases
@@ -94,10 +75,7 @@ module _ (tid : Tid) (scene : Scene) (n m i number : ℕ) (label : List ℕ) (me
       (inl (began, home_place))
     where
       began : began_here now.node tid ≡ true
-      began = began_is ∙ same (tid.inc) (scene.inc n) (first undecided)
-        where
-          same : (a b : ℕ) → a ≡ b → (a == b) ≡ true
-          same a b e = grind (arith, nat_tests, e)
+      began = began_is ∙ eq-eqb (tid.inc) (scene.inc n) (first undecided)
 
       home_place : place n (scene.inc n) ≡ w.home
       home_place = ap (λ (k : ℕ). place k (scene.inc n)) (sym here_is) ∙ (ap (λ (k : ℕ). place tid.home.0 k) (sym (first undecided)) ∙ sym shown.stage.home)

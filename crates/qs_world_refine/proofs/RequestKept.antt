@@ -1,28 +1,11 @@
 -- What a request that comes makes of what is kept of its transaction.
-use Rattle.std.proofs.Common.{◌≡◌, ◌⊎◌, inl, inr, ℕ, Bool, true, false, List, Option, Some, None, refl, sym, ap, ◌∙◌, if◌then◌else◌}
-use Rattle.std.specs.Prelude.{is_none}
-use Rattle.std.specs.BTreeMap.{is_at}
-use Rattle.std.specs.Map.{lookup}
-use Rattle.qs_base.specs.Order.{tid_cmp}
-use Rattle.qs_base.specs.declared.identifiers.Member.{Member}
-use Rattle.qs_base.specs.declared.identifiers.NodeNo.{NodeNo}
-use Rattle.qs_base.specs.declared.identifiers.Tid.{Tid}
-use Rattle.qs_engage.specs.Engage.{with_last}
-use Rattle.qs_engage.specs.Nodes.{same_node}
-use Rattle.qs_engage.specs.declared.engage.Engaged.{Engaged}
+use Rattle.qs_world_refine.proofs.Words.{◌≡◌, ◌⊎◌, inl, inr, ℕ, Bool, true, false, List, Option, Some, None, refl, sym, ap, ◌∙◌, if◌then◌else◌, is_none, is_at, lookup, tid_cmp, Member, NodeNo, Tid, with_last, same_node, Engaged, is_for, Delivery, Op, new_participant, is_undecided, Participant, label_at, put_label, learn_label, cover_from, is_dropped, take_in, request_came, NodeValue, Work, here, part_of, with_manager, with_queues, node_no, same_Some}
 use Rattle.qs_engage.specs.declared.engage.Engaged.TheVariants as engagements
 use Rattle.qs_ipc.specs.Ipc as ipc
-use Rattle.qs_ipc.specs.Queue.{is_for}
-use Rattle.qs_ipc.specs.declared.delivery.Delivery.{Delivery}
-use Rattle.qs_ops.specs.declared.operation.Op.{Op}
 use Rattle.qs_packet.specs.declared.message.Message.TheVariants as messages
 use Rattle.qs_tm.specs.Manager as tm
 use Rattle.qs_tm.specs.Participant as participant
-use Rattle.qs_tm.specs.Participant.{new_participant, is_undecided}
-use Rattle.qs_tm.specs.declared.participant.Participant.{Participant}
-use Rattle.qs_node_step.specs.Serving.{label_at, put_label, learn_label, met, cover_from, is_dropped, take_in, request_came}
-use Rattle.qs_node_step.specs.State.{NodeValue, Work, here, part_of, with_manager, with_queues}
-use Rattle.qs_world_refine.specs.Links.{node_no}
+use Rattle.qs_node_step.specs.Serving.{met}
 use Rattle.qs_world_refine.proofs.Maps.{changed_none}
 use Rattle.qs_world_refine.proofs.OutcomeAfter.{send_records}
 use Rattle.qs_world_refine.proofs.SendGoes.{send_node}
@@ -124,9 +107,6 @@ module _ (t : Tid) (m number : ℕ) (label : List ℕ) (member : Member) (op : O
       by true o at has = inl has
       by false None at has = inr (sym (number_of m k has))
         where
-          inner : (x y : NodeNo) → Some x ≡ Some y → x ≡ y
-          inner x y e = cc e
-
           number_of : (a b : ℕ) → Some (node_no a) ≡ Some (node_no b) → a ≡ b
-          number_of a b e = ap (λ (x : NodeNo). x.0) (inner (node_no a) (node_no b) e)
+          number_of a b e = ap (λ (x : NodeNo). x.0) (same_Some (node_no a) (node_no b) e)
       by false (Some superior) at has = inl has

@@ -1,44 +1,14 @@
 -- A request comes, and what stood of its transaction stands.
-use Rattle.std.proofs.Common.{◌≡◌, ◌≢◌, ◌⊎◌, inl, inr, ℕ, ◌≤◌, ◌==◌, ◌&&◌, ◌||◌, not, Bool, true, false, List, ◌++◌, Option, Some, None, is_some, refl, sym, subst, ap, ◌∙◌, arith, if◌then◌else◌}
-use Rattle.std.specs.Prelude.{is_none, unwrap_or}
-use Rattle.std.specs.BTreeMap.{is_at}
-use Rattle.std.specs.List.{filter, list_any}
-use Rattle.std.proofs.lemmas.Bool.{eqb-true}
-use Rattle.std.proofs.lemmas.Bool.Decides.{nat_tests}
-use Rattle.qs_base.specs.Order.{tid_cmp, same_tid}
-use Rattle.qs_base.specs.declared.identifiers.Member.{Member}
-use Rattle.qs_base.specs.declared.identifiers.NodeNo.{NodeNo}
+use Rattle.qs_world_refine.proofs.Words.{◌≡◌, ◌≢◌, ◌⊎◌, inl, inr, ℕ, ◌≤◌, ◌==◌, ◌&&◌, ◌||◌, not, Bool, true, false, List, ◌++◌, Option, Some, None, is_some, refl, sym, subst, ap, ◌∙◌, arith, if◌then◌else◌, is_none, unwrap_or, is_at, filter, list_any, eqb-true, or_parts, nat_tests, tid_cmp, same_tid, Member, NodeNo, ServerNo, Tid, same_node, is_for, Op, Message, Record, recovery, is_abort, new_participant, is_undecided, Participant, is_forced, label_at, put_label, learn_label, request_came, Work}
+use Rattle.qs_world_refine.proofs.Words.{here, part_of, with_manager, was_committed, node_no, face_at, part_at, unknown, began_here, is_past_commit, Scene, handed, is_in_doubt, same_flag, where_so, StaysSound, FitsMessage, may_doubt, Stands, GoesOn, IsNext, IsWhole, Goes, same_Some, never_both}
 use Rattle.qs_base.specs.declared.identifiers.Outcome.{Outcome}
 use Rattle.qs_base.specs.declared.identifiers.Outcome.TheVariants as outcomes
-use Rattle.qs_base.specs.declared.identifiers.ServerNo.{ServerNo}
-use Rattle.qs_base.specs.declared.identifiers.Tid.{Tid}
-use Rattle.qs_engage.specs.Nodes.{same_node}
-use Rattle.qs_ipc.specs.Queue.{is_for}
-use Rattle.qs_ops.specs.declared.operation.Op.{Op}
-use Rattle.qs_packet.specs.declared.message.Message.{Message}
 use Rattle.qs_packet.specs.declared.message.Message.TheVariants as messages
-use Rattle.qs_record.specs.declared.record.Record.{Record}
-use Rattle.qs_restart.specs.Recovery.{recovery}
 use Rattle.qs_tm.specs.Manager as tm
-use Rattle.qs_tm.specs.Outcomes.{is_abort}
 use Rattle.qs_tm.specs.Participant as participant
-use Rattle.qs_tm.specs.Participant.{new_participant, is_undecided}
-use Rattle.qs_tm.specs.declared.participant.Participant.{Participant}
-use Rattle.qs_node_step.specs.Bringing.{is_forced}
-use Rattle.qs_node_step.specs.Serving.{label_at, put_label, learn_label, met, request_came}
-use Rattle.qs_node_step.specs.State.{Work, here, part_of, with_manager}
-use Rattle.qs_node_step.specs.Answering.{was_committed}
+use Rattle.qs_node_step.specs.Serving.{met}
 use Rattle.qs_world_agree.specs.World.{World}
-use Rattle.qs_world_refine.specs.Links.{node_no}
-use Rattle.qs_world_refine.specs.NodeFaces.{face_at, part_at, unknown, began_here, is_past_commit}
 use Rattle.qs_world_refine.specs.RequestWhole.{RequestStands}
-use Rattle.qs_world_refine.specs.Shows.{Scene, handed}
-use Rattle.qs_world_refine.specs.Sights.{is_in_doubt}
-use Rattle.qs_world_refine.specs.Sound.{same_flag, where_so}
-use Rattle.qs_world_refine.specs.SoundLaws.{StaysSound}
-use Rattle.qs_world_refine.specs.SoundSteps.{FitsMessage}
-use Rattle.qs_world_refine.specs.Stands.{may_doubt, Stands, GoesOn}
-use Rattle.qs_world_refine.specs.Steps.{IsNext, IsWhole, Goes}
 use Rattle.qs_world_refine.proofs.During.{Leaves}
 use Rattle.qs_world_refine.proofs.KindsKept.{KeepsKinds}
 use Rattle.qs_world_refine.proofs.Maps.{lookup_changed, lookup_put}
@@ -80,22 +50,15 @@ module _ (t : Tid) (scene : Scene) (n m i number : ℕ) (label : List ℕ) (memb
       clears none s = ap (λ (rs : List Record). is_in_doubt t s (if n == n then recovery (scene.log n ++ filter is_forced rs) else recovery (scene.log n))) (bare.1 ∙ asked_records t m number label member op work)
           ∙ is.clear (clear (sym (ap is_some after.outcome) ∙ both.0) bare.0) s
         where
-          parts : (a b : Bool) → (a || b) ≡ false → (a ≡ false) × (b ≡ false)
-          parts true b so = absurd (cc so)
-          parts false b so = (refl, so)
-
           both : (is_some after.next.outcome ≡ false) × (after.next.log.prepared ≡ false)
-          both = parts (is_some after.next.outcome) after.next.log.prepared (sym (ap (may_doubt (t.home.0 == n)) after.known) ∙ none)
+          both = or_parts (is_some after.next.outcome) after.next.log.prepared (sym (ap (may_doubt (t.home.0 == n)) after.known) ∙ none)
 
           bare : (part.log.prepared ≡ false) × ((request_came (node_no m) t label member number op work).out.records ≡ (with_manager (tm.requested t (node_no m) number) (met t (learn_label label t work))).out.records)
           bare = after.unprepared both.1
 
       answered : Answers t scene n (request_came (node_no m) t label member number op work)
-      answered p k at has = whom (answers_then t m number label member op work part k (after.superior (node_no k) (ap (λ (q : Participant). q.engage.superior) (some_same after.next p (sym after.known ∙ at)) ∙ has)))
+      answered p k at has = whom (answers_then t m number label member op work part k (after.superior (node_no k) (ap (λ (q : Participant). q.engage.superior) (same_Some after.next p (sym after.known ∙ at)) ∙ has)))
         where
-          some_same : (a b : Participant) → Some a ≡ Some b → a ≡ b
-          some_same a b e = cc e
-
           whom : (part.engage.superior ≡ Some (node_no k)) ⊎ (k ≡ m) → 1 ≤ scene.knows n k
           whom (inl before) = answers k before
           whom (inr same) = subst (λ (j : ℕ). 1 ≤ scene.knows n j) (sym same) (subst (λ (j : ℕ). 1 ≤ j) (sym next.from.knows) next.from.some)
@@ -131,10 +94,7 @@ module _ (t : Tid) (scene : Scene) (n m i number : ℕ) (label : List ℕ) (memb
 
   module _ (away : (t.home.0 == n) ≡ false) where
     other : t.home.0 ≢ n
-    other same = off (t.home.0 == n) (grind (arith, nat_tests, same)) away
-      where
-        off : (b : Bool) → b ≡ true → b ≡ false → ⊥
-        off b so never = cc (so, never)
+    other same = never_both (t.home.0 == n) (grind (arith, nat_tests, same)) away
 
     unknown_is : part_of t work ≡ None → part_at work.node t ≡ new_participant false
     unknown_is none = ap (λ (o : Option Participant). unwrap_or o (unknown work.node t)) none

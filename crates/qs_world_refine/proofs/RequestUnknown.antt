@@ -1,30 +1,10 @@
 -- A request comes to the home's node, which knows nothing of the transaction any more: Drop_cover, and Covered goes back.
-use Rattle.std.proofs.Common.{◌≡◌, ℕ, ◌==◌, Bool, true, false, Option, Some, None, refl, sym, subst, ap, ◌∙◌, arith, if◌then◌else◌}
-use Rattle.std.specs.BTreeMap.{is_at}
-use Rattle.std.proofs.lemmas.Bool.Decides.{nat_tests}
-use Rattle.qs_base.specs.Order.{tid_cmp}
-use Rattle.qs_engage.specs.Nodes.{same_node}
-use Rattle.qs_engage.specs.Engage.{engaged}
-use Rattle.qs_engage.specs.declared.engage.Engaged.{Engaged}
+use Rattle.qs_world_refine.proofs.Words.{◌≡◌, ℕ, ◌==◌, Bool, true, false, Option, Some, None, refl, sym, subst, ap, ◌∙◌, arith, if◌then◌else◌, is_at, nat_tests, tid_cmp, same_node, engaged, Engaged, Delivery, Participant, is_other, send, learn_label, engage, cover_from, take_in, is_dropped, Setting, Work, here, part_of, with_manager, message_came, Face, node_no, all_said, face_at, SightGoes, sight_returned, sight_during, ShowsWork, handed, Sight, IsAt, Goes}
 use Rattle.qs_engage.specs.declared.engage.Engaged.TheVariants as engagements
-use Rattle.qs_ipc.specs.declared.delivery.Delivery.{Delivery}
 use Rattle.qs_packet.specs.declared.message.Message.TheVariants as messages
 use Rattle.qs_tm.specs.Manager as tm
 use Rattle.qs_tm.specs.Participant as participant
-use Rattle.qs_tm.specs.declared.participant.Participant.{Participant}
-use Rattle.qs_node_step.specs.Bringing.{is_other, send}
-use Rattle.qs_node_step.specs.Serving.{learn_label, met, engage, cover_from, take_in, is_dropped}
-use Rattle.qs_node_step.specs.declared.setting.Setting.{Setting}
-use Rattle.qs_node_step.specs.State.{Work, here, part_of, with_manager}
-use Rattle.qs_node_step.specs.Step.{message_came}
-use Rattle.qs_world_refine.specs.Faces.{Face}
-use Rattle.qs_world_refine.specs.Links.{node_no}
-use Rattle.qs_world_refine.specs.Messages.{all_said}
-use Rattle.qs_world_refine.specs.NodeFaces.{face_at}
-use Rattle.qs_world_refine.specs.Seen.{SightGoes, sight_returned}
-use Rattle.qs_world_refine.specs.Shows.{sight_during, ShowsWork, handed}
-use Rattle.qs_world_refine.specs.Sights.{Sight}
-use Rattle.qs_world_refine.specs.Steps.{IsAt, Goes}
+use Rattle.qs_node_step.specs.Serving.{met}
 use Rattle.qs_world_refine.specs.RuleLaws.{RequestUnknownGoes}
 use Rattle.qs_world_refine.proofs.Alike.{SameFace, same_itself, found_itself}
 use Rattle.qs_world_refine.proofs.During.{Leaves, leaves_shown, face_here, runs, meets}

@@ -1,16 +1,8 @@
 -- A request is handed up: what Engage, Join and Cover change, and Engage over all that is seen.
-use Rattle.std.proofs.Common.{◌≡◌, ◌≢◌, ℕ, ◌+◌, ◌<◌, ◌≤◌, true, false, List, [], ◌∷◌, arith, refl, sym, ◌∙◌, subst, ap}
-use Rattle.std.proofs.lemmas.Bool.Decides.{nat_tests}
-use Rattle.qs_base.specs.declared.identifiers.Tid.{Tid}
-use Rattle.qs_world_agree.specs.World.{World, Open, Aborted, with_at, with_at2, with_at3}
-use Rattle.qs_world_agree.specs.Guards.{next, next_server}
-use Rattle.qs_world_agree.specs.Step.{Step, Engage, Join, Cover}
-use Rattle.qs_world_agree.specs.Carry.{Leads}
-use Rattle.qs_world_refine.specs.Sights.{Sight, ShowsSight}
-use Rattle.qs_world_refine.specs.Places.{place}
-use Rattle.qs_world_refine.specs.Faces.{Face, ShowsFace}
-use Rattle.qs_world_refine.specs.Links.{Said, Requested, Closed, link, IsLink, waiting_link}
-use Rattle.qs_world_refine.specs.Seen.{engaged_by, sight_engaged, took_in}
+use Rattle.qs_world_refine.proofs.Words.{◌≡◌, ◌≢◌, ℕ, ◌+◌, ◌<◌, ◌≤◌, true, false, List, [], ◌∷◌, arith, refl, sym, ◌∙◌, subst, ap, nat_tests, Tid, Open, Aborted, with_at3, next, next_server, Join, Cover, Leads, Sight, ShowsSight, place, Face, ShowsFace, Said, Requested, Closed, link, IsLink, waiting_link, engaged_by, took_in}
+use Rattle.qs_world_agree.specs.World.{World, with_at, with_at2}
+use Rattle.qs_world_agree.specs.Step.{Step, Engage}
+use Rattle.qs_world_refine.specs.Seen.{sight_engaged}
 use Rattle.qs_world_refine.proofs.EventFaces.{face_engage}
 use Rattle.qs_world_refine.proofs.Streams.{Stays, Carries, still, ended, within}
 use Rattle.qs_world_refine.proofs.Still.{stage_still, log_still}

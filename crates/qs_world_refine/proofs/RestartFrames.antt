@@ -1,28 +1,12 @@
 -- What a node does for one transaction where another node restarted leaves every other one, and each server of its kind.
-use Rattle.std.proofs.Common.{◌≡◌, ℕ, ◌+◌, ◌==◌, ◌&&◌, not, Bool, true, false, List, [], ◌∷◌, Option, Some, None, map, refl, ◌∙◌, if◌then◌else◌}
-use Rattle.std.specs.BTreeMap.{is_at}
-use Rattle.qs_base.specs.Order.{tid_cmp}
-use Rattle.qs_base.specs.declared.identifiers.NodeNo.{NodeNo}
+use Rattle.qs_world_refine.proofs.Words.{◌≡◌, ℕ, ◌+◌, ◌==◌, ◌&&◌, not, Bool, true, false, List, [], ◌∷◌, Option, Some, None, map, refl, ◌∙◌, if◌then◌else◌, is_at, tid_cmp, NodeNo, ServerNo, Tid, same_node, listed, IpcValue, queue_at, server_cmp, count_of, mark_stale, Delivery, is_abort, is_told_again, named_by, is_owed_by, Participant, block, send, find_gone, is_orphaned_by, inquire, notice_decided, notice_part, notice_tid, Work, part_of, with_manager, with_queues, server_no}
 use Rattle.qs_base.specs.declared.identifiers.Outcome.{Outcome}
-use Rattle.qs_base.specs.declared.identifiers.ServerNo.{ServerNo}
-use Rattle.qs_base.specs.declared.identifiers.Tid.{Tid}
-use Rattle.qs_engage.specs.Nodes.{same_node, listed}
 use Rattle.qs_ipc.specs.Ipc as ipc
-use Rattle.qs_ipc.specs.Ipc.{IpcValue, queue_at, server_cmp}
-use Rattle.qs_ipc.specs.Queue.{count_of, is_of, mark_stale}
-use Rattle.qs_ipc.specs.declared.delivery.Delivery.{Delivery}
+use Rattle.qs_ipc.specs.Queue.{is_of}
 use Rattle.qs_ops.specs.declared.answer.Cause.TheVariants as causes
 use Rattle.qs_packet.specs.declared.message.Message.TheVariants as messages
 use Rattle.qs_tm.specs.Manager as tm
-use Rattle.qs_tm.specs.Outcomes.{is_abort, is_told_again, named_by}
 use Rattle.qs_tm.specs.Participant as participant
-use Rattle.qs_tm.specs.Participant.{is_owed_by}
-use Rattle.qs_tm.specs.declared.participant.Participant.{Participant}
-use Rattle.qs_node_step.specs.Asking.{block}
-use Rattle.qs_node_step.specs.Bringing.{send}
-use Rattle.qs_node_step.specs.Restarts.{find_gone, is_orphaned_by, inquire, notice_decided, notice_part, notice_tid}
-use Rattle.qs_node_step.specs.State.{Work, part_of, with_manager, with_queues}
-use Rattle.qs_world_refine.specs.Sights.{server_no}
 use Rattle.qs_world_refine.proofs.DecidedStands.{KeepOutcomes, outcome_itself, outcome_on, outcome_sent}
 use Rattle.qs_world_refine.proofs.During.{Leaves, leaves_itself, leaves_on, send_leaves}
 use Rattle.qs_world_refine.proofs.Frames.{out_leaves, part_leaves, part_apart}

@@ -1,22 +1,12 @@
 -- A node restarts, whatever its log has of the transaction: Restart, Restart_in_doubt, or Restart_home and Learn_abort_home.
-use Rattle.std.proofs.Common.{◌≡◌, ◌≢◌, inr, ℕ, ◌<◌, ◌≤◌, ◌==◌, ◌&&◌, Bool, true, false, [], ◌∷◌, arith, refl, sym, ◌∙◌, ap, subst, if◌then◌else◌}
-use Rattle.std.specs.List.{list_any}
-use Rattle.std.proofs.lemmas.Bool.Decides.{nat_tests}
-use Rattle.qs_base.specs.Order.{same_tid}
-use Rattle.qs_base.specs.declared.identifiers.Tid.{Tid}
-use Rattle.qs_restart.specs.Recovery.{is_untold_of}
-use Rattle.qs_world_agree.specs.World.{World, Outcome, Open, Committed, Aborted, with_at}
+use Rattle.qs_world_refine.proofs.Words.{◌≡◌, ◌≢◌, inr, ℕ, ◌<◌, ◌≤◌, ◌==◌, ◌&&◌, Bool, true, false, [], ◌∷◌, arith, refl, sym, ◌∙◌, ap, subst, if◌then◌else◌, list_any, nat_tests, same_tid, Tid, is_untold_of, Open, Committed, Aborted, Restart, Restart_in_doubt, Restart_home, Learn_abort_home, Leads, IsLawful, Face, place, ArePlaced, IsRisenFace, outcome_at_home, sight_risen_as, SightGoes, Sight, ShowsSight, has_doubt}
+use Rattle.qs_world_agree.specs.World.{World, Outcome, with_at}
 use Rattle.qs_world_agree.specs.Guards.{closed}
-use Rattle.qs_world_agree.specs.Step.{Step, Restart, Restart_in_doubt, Restart_home, Learn_abort_home}
-use Rattle.qs_world_agree.specs.Carry.{Leads, IsLawful}
-use Rattle.qs_world_refine.specs.Faces.{Face, blank_face}
+use Rattle.qs_world_agree.specs.Step.{Step}
+use Rattle.qs_world_refine.specs.Faces.{blank_face}
 use Rattle.qs_world_refine.specs.Links.{is_aborted}
-use Rattle.qs_world_refine.specs.Places.{place}
-use Rattle.qs_world_refine.specs.RiseLaws.{ArePlaced, IsRisenFace, MayRise, RiseGoes, outcome_at_home, sight_risen_as}
+use Rattle.qs_world_refine.specs.RiseLaws.{MayRise, RiseGoes}
 use Rattle.qs_world_refine.specs.RisingLaws.{RestartGoes}
-use Rattle.qs_world_refine.specs.Seen.{SightGoes}
-use Rattle.qs_world_refine.specs.Sights.{Sight, ShowsSight}
-use Rattle.qs_world_refine.specs.Sound.{has_doubt}
 use Rattle.qs_world_refine.proofs.Doubts.{is_doubt_at, none_of, some_of}
 use Rattle.qs_world_refine.proofs.Facts.{invariant}
 use Rattle.qs_world_refine.proofs.FreshRuns.{fresh}

@@ -1,37 +1,16 @@
 -- What stands of a transaction as its node finds that another one restarted, at the scene where that is known.
-use Rattle.std.proofs.Common.{◌≡◌, ℕ, ◌<◌, ◌≤◌, ◌==◌, ◌&&◌, nat_lt, Bool, true, false, List, [], ◌∷◌, fold, refl, sym, ap, ◌∙◌, arith, if◌then◌else◌}
-use Rattle.std.proofs.lemmas.Bool.{eqb-true}
-use Rattle.qs_base.specs.declared.identifiers.NodeNo.{NodeNo}
-use Rattle.qs_base.specs.declared.identifiers.Tid.{Tid}
-use Rattle.qs_engage.specs.Engage.{peer_of}
-use Rattle.qs_engage.specs.Nodes.{same_node}
+use Rattle.qs_world_refine.proofs.Words.{◌≡◌, ℕ, ◌<◌, ◌≤◌, ◌==◌, ◌&&◌, nat_lt, Bool, true, false, List, [], ◌∷◌, fold, refl, sym, ap, ◌∙◌, arith, if◌then◌else◌, eqb-true, NodeNo, Tid, peer_of, same_node, Participant, Work, Leads, node_no, noticed, Scene, ShowsWork, StaysSound, Stands, IsAt, listed, no_nodes, put_node, put_where, union, PeerPart, Nodes, is_abort, is_owed_by, send, name_again, IsWhole}
 use Rattle.qs_tm.specs.Participant as participant
-use Rattle.qs_tm.specs.declared.participant.Participant.{Participant}
-use Rattle.qs_node_step.specs.State.{Work}
 use Rattle.qs_world_agree.specs.World.{World}
-use Rattle.qs_world_agree.specs.Carry.{Leads}
-use Rattle.qs_world_refine.specs.Links.{node_no}
-use Rattle.qs_world_refine.specs.RestartLaws.{noticed}
-use Rattle.qs_world_refine.specs.Shows.{Scene, ShowsWork}
-use Rattle.qs_world_refine.specs.SoundLaws.{StaysSound}
-use Rattle.qs_world_refine.specs.Stands.{Stands}
-use Rattle.qs_world_refine.specs.Steps.{IsAt}
 use Rattle.qs_world_refine.proofs.During.{Leaves}
 use Rattle.qs_world_refine.proofs.Facts.{lawful_on}
 use Rattle.qs_world_refine.proofs.KindsKept.{KeepsKinds}
 use Rattle.qs_world_refine.proofs.SettleRules.{beside, IsClear, Answers}
 use Rattle.qs_world_refine.proofs.SettleStands.{at_same}
 use Rattle.qs_engage.specs.Engage.{has_sent}
-use Rattle.qs_engage.specs.Nodes.{listed, all_nodes, no_nodes, put_node, put_where, drop_node, union}
-use Rattle.qs_engage.specs.declared.engage.PeerPart.{PeerPart}
-use Rattle.qs_engage.specs.declared.nodes.Nodes.{Nodes}
+use Rattle.qs_engage.specs.Nodes.{all_nodes, drop_node}
 use Rattle.qs_world_refine.proofs.Arrays.{peer_put}
 use Rattle.qs_packet.specs.declared.message.Message.TheVariants as messages
-use Rattle.qs_tm.specs.Outcomes.{is_abort}
-use Rattle.qs_tm.specs.Participant.{is_owed_by}
-use Rattle.qs_node_step.specs.Bringing.{send}
-use Rattle.qs_node_step.specs.Restarts.{name_again}
-use Rattle.qs_world_refine.specs.Steps.{IsWhole}
 
 module _ (t : Tid) (scene : Scene) (n m old new : ℕ) where
   abbrev later : Scene

@@ -1,28 +1,13 @@
 -- A node finds that another one restarted, and what stood of a transaction stands.
-use Rattle.std.proofs.Common.{◌≡◌, ◌⊎◌, inl, inr, ℕ, ◌<◌, ◌≤◌, ◌==◌, ◌&&◌, ◌||◌, not, Bool, true, false, List, [], ◌∷◌, Option, Some, None, fold, refl, sym, subst, ap, ◌∙◌, arith, if◌then◌else◌}
-use Rattle.std.specs.Prelude.{unwrap_or}
-use Rattle.std.proofs.lemmas.Bool.{eqb-true}
+use Rattle.qs_world_refine.proofs.Words.{◌≡◌, ◌⊎◌, inl, inr, ℕ, ◌<◌, ◌≤◌, ◌==◌, ◌&&◌, ◌||◌, not, Bool, true, false, List, [], ◌∷◌, Option, Some, None, fold, refl, sym, subst, ap, ◌∙◌, arith, if◌then◌else◌, unwrap_or, eqb-true, Tid, peer_of, same_node, is_one, Participant, notice_tid, Work, part_of, with_queues, node_no, face_at, part_at, noticed, IsNoticed, Scene, sight_during, Sight, Stands, GoesOn, Goes, no_peer, PeerPart, Face, ShowsFace, place, unknown, is_past_commit}
 use Rattle.qs_base.specs.declared.identifiers.Outcome.TheVariants as outcomes
-use Rattle.qs_base.specs.declared.identifiers.Tid.{Tid}
-use Rattle.qs_engage.specs.Engage.{peer_of, is_idle_with}
-use Rattle.qs_engage.specs.Nodes.{same_node}
+use Rattle.qs_engage.specs.Engage.{is_idle_with}
 use Rattle.qs_ipc.specs.Ipc as ipc
 use Rattle.qs_tm.specs.Manager as tm
-use Rattle.qs_tm.specs.Manager.{is_one}
 use Rattle.qs_tm.specs.Participant as participant
 use Rattle.qs_tm.specs.declared.manager.Which.TheVariants as whiches
-use Rattle.qs_tm.specs.declared.participant.Participant.{Participant}
-use Rattle.qs_node_step.specs.Restarts.{notice_tid}
-use Rattle.qs_node_step.specs.State.{Work, part_of, with_queues}
 use Rattle.qs_world_agree.specs.World.{World}
-use Rattle.qs_world_refine.specs.Links.{node_no}
-use Rattle.qs_world_refine.specs.NodeFaces.{face_at, part_at}
 use Rattle.qs_world_refine.specs.RestartFound.{PeerRestartedGoes}
-use Rattle.qs_world_refine.specs.RestartLaws.{noticed, IsNoticed}
-use Rattle.qs_world_refine.specs.Shows.{Scene, sight_during}
-use Rattle.qs_world_refine.specs.Sights.{Sight}
-use Rattle.qs_world_refine.specs.Stands.{Stands, GoesOn}
-use Rattle.qs_world_refine.specs.Steps.{Goes}
 use Rattle.qs_world_refine.proofs.During.{Leaves, leaves_itself}
 use Rattle.qs_world_refine.proofs.KindsKept.{fold_kinds}
 use Rattle.qs_world_refine.proofs.PeerNoticed.{noticed_goes, find_gone_goes, notice_decided as notice_decided_goes}
@@ -34,12 +19,8 @@ use Rattle.qs_world_refine.proofs.SoundQueued.{marked_sound}
 use Rattle.qs_world_refine.proofs.SoundRestart.{notice_sound}
 use Rattle.qs_world_refine.proofs.SoundViews.{seen}
 use Rattle.qs_world_refine.proofs.Turns.{Entry, turns, AllApart, turns_leave, turns_sound, fold_split, Never, Once, turn_of}
-use Rattle.qs_engage.specs.Engage.{no_peer, is_idle}
-use Rattle.qs_engage.specs.declared.engage.PeerPart.{PeerPart}
+use Rattle.qs_engage.specs.Engage.{is_idle}
 use Rattle.qs_tm.specs.Manager.{concerns}
-use Rattle.qs_world_refine.specs.Faces.{Face, ShowsFace}
-use Rattle.qs_world_refine.specs.Places.{place}
-use Rattle.qs_world_refine.specs.NodeFaces.{unknown, is_past_commit}
 use Rattle.qs_world_agree.specs.World.{with_at}
 use Rattle.qs_world_refine.proofs.Alike.{SameFace}
 use Rattle.qs_world_refine.proofs.During.{quiet_itself, face_here}

@@ -1,30 +1,12 @@
 -- A node finds that another one restarted: the turn of one transaction, in which its machine comes to know it.
-use Rattle.std.proofs.Common.{◌≡◌, ◌≢◌, ℕ, ◌<◌, ◌≤◌, ◌==◌, ◌&&◌, not, nat_lt, Bool, true, false, Option, Some, None, refl, sym, subst, ap, ◌∙◌, arith, if◌then◌else◌}
-use Rattle.std.specs.BTreeMap.{is_at}
-use Rattle.std.proofs.lemmas.Bool.{eqb-true}
-use Rattle.std.proofs.lemmas.Bool.Decides.{nat_tests}
-use Rattle.qs_base.specs.Order.{tid_cmp}
-use Rattle.qs_base.specs.declared.identifiers.NodeNo.{NodeNo}
+use Rattle.qs_world_refine.proofs.Words.{◌≡◌, ◌≢◌, ℕ, ◌<◌, ◌≤◌, ◌==◌, ◌&&◌, not, nat_lt, Bool, true, false, Option, Some, None, refl, sym, subst, ap, ◌∙◌, arith, if◌then◌else◌, is_at, eqb-true, nat_tests, tid_cmp, NodeNo, Tid, peer_of, same_node, is_one, Participant, find_gone, is_orphaned_by, inquire, notice_decided, notice_part, notice_tid, Work, part_of, with_manager, IsLawful, node_no, noticed, Scene, ShowsWork, same_flag, is_superior, StaysSound, Stands, GoesOn, IsAt, Goes, length-set, listed}
+use Rattle.qs_world_refine.proofs.Words.{PeerPart, is_abort, named_by, is_owed_by, block, send, name_again, IsWhole, never_both}
 use Rattle.qs_base.specs.declared.identifiers.Outcome.{Outcome}
 use Rattle.qs_base.specs.declared.identifiers.Outcome.TheVariants as outcomes
-use Rattle.qs_base.specs.declared.identifiers.Tid.{Tid}
-use Rattle.qs_engage.specs.Engage.{peer_of}
-use Rattle.qs_engage.specs.Nodes.{same_node}
 use Rattle.qs_tm.specs.Manager as tm
-use Rattle.qs_tm.specs.Manager.{is_one}
 use Rattle.qs_tm.specs.Participant as participant
-use Rattle.qs_tm.specs.declared.participant.Participant.{Participant}
-use Rattle.qs_node_step.specs.Restarts.{find_gone, is_orphaned_by, inquire, notice_decided, notice_part, notice_tid}
-use Rattle.qs_node_step.specs.State.{Work, part_of, with_manager}
 use Rattle.qs_world_agree.specs.World.{World}
-use Rattle.qs_world_agree.specs.Carry.{IsLawful}
-use Rattle.qs_world_refine.specs.Links.{node_no}
-use Rattle.qs_world_refine.specs.RestartLaws.{noticed}
-use Rattle.qs_world_refine.specs.Shows.{Scene, ShowsWork}
-use Rattle.qs_world_refine.specs.Sound.{same_flag, is_superior}
-use Rattle.qs_world_refine.specs.SoundLaws.{StaysSound}
-use Rattle.qs_world_refine.specs.Stands.{Stands, GoesOn}
-use Rattle.qs_world_refine.specs.Steps.{IsAt, Knows, Goes}
+use Rattle.qs_world_refine.specs.Steps.{Knows}
 use Rattle.qs_world_refine.proofs.DecidedStands.{KeepOutcomes}
 use Rattle.qs_world_refine.proofs.During.{Leaves}
 use Rattle.qs_world_refine.proofs.Facts.{lawful_on}
@@ -39,18 +21,10 @@ use Rattle.qs_world_refine.proofs.SettleRules.{beside, beside_apart, clear_carri
 use Rattle.qs_world_refine.proofs.SettleStands.{whole_known}
 use Rattle.qs_world_refine.proofs.SoundHolds.{known_sound}
 use Rattle.qs_world_refine.proofs.SoundRestart.{notice_sound}
-use Rattle.std.proofs.lemmas.List.{length-set}
-use Rattle.qs_engage.specs.Nodes.{listed}
-use Rattle.qs_engage.specs.declared.engage.PeerPart.{PeerPart}
 use Rattle.qs_world_refine.proofs.Arrays.{peer_put}
 use Rattle.qs_ops.specs.declared.answer.Cause.TheVariants as causes
 use Rattle.qs_packet.specs.declared.message.Message.TheVariants as messages
-use Rattle.qs_tm.specs.Outcomes.{is_abort, named_by}
-use Rattle.qs_tm.specs.Participant.{is_owed_by}
-use Rattle.qs_node_step.specs.Asking.{block}
-use Rattle.qs_node_step.specs.Bringing.{send}
-use Rattle.qs_node_step.specs.Restarts.{tell_again, name_again}
-use Rattle.qs_world_refine.specs.Steps.{IsWhole}
+use Rattle.qs_node_step.specs.Restarts.{tell_again}
 use Rattle.qs_world_refine.proofs.DecidedStands.{decided_clear, decided_answers}
 use Rattle.qs_world_refine.proofs.Maps.{lookup_changed}
 use Rattle.qs_world_refine.proofs.SoundParts.{and_both}
@@ -91,10 +65,7 @@ module _ (t : Tid) (scene : Scene) (n m old new : ℕ) (work : Work) (w : World)
   asks mid v p lawful shown at its_knows undecided its away = by p.engage.home refl (is_orphaned_by (node_no m) new t p) refl
     where
       other : t.home.0 ≢ n
-      other same = off (t.home.0 == n) (grind (arith, nat_tests, same)) away
-        where
-          off : (b : Bool) → b ≡ true → b ≡ false → ⊥
-          off b so never = cc (so, never)
+      other same = never_both (t.home.0 == n) (grind (arith, nat_tests, same)) away
 
       now_known : (a b : Bool) → a ≡ true → b ≡ true → (if a && b then new else scene.knows n m) ≡ new
       now_known a b is so = rw (is, so) refl
@@ -243,10 +214,7 @@ module _ (t : Tid) (scene : Scene) (n m old new : ℕ) (work : Work) (w : World)
           named false away = name_other t (noticed scene n m new) n m (with_manager (tm.restarted t (node_no m)) work) part first.next first.shown (λ same. apart same)
             where
               apart : t.home.0 ≡ m → ⊥
-              apart same = off (t.home.0 == m) (grind (arith, nat_tests, same)) away
-                where
-                  off : (b : Bool) → b ≡ true → b ≡ false → ⊥
-                  off b so never = cc (so, never)
+              apart same = never_both (t.home.0 == m) (grind (arith, nat_tests, same)) away
 
       whole : Goes t (noticed scene n m new) n (notice_tid (node_no m) old new work t) w
       whole = subst (λ (k : Work). Goes t (noticed scene n m new) n k w) (sym both_are)

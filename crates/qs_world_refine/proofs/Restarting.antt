@@ -1,20 +1,14 @@
 -- A node restarts: its new place runs and shows what the node made of its log, and all else stays as it was.
-use Rattle.std.proofs.Common.{◌≡◌, ◌≢◌, ℕ, ◌+◌, ◌<◌, ◌≤◌, ◌==◌, ◌&&◌, ◌||◌, Bool, true, false, [], arith, refl, sym, ◌∙◌, subst, ap, if◌then◌else◌}
-use Rattle.std.proofs.lemmas.Bool.{eqb-true}
-use Rattle.std.proofs.lemmas.Bool.Decides.{nat_tests}
-use Rattle.qs_base.specs.declared.identifiers.Tid.{Tid}
-use Rattle.qs_world_agree.specs.World.{World, Outcome, Open}
-use Rattle.qs_world_agree.proofs.Counts.{Counts}
-use Rattle.qs_world_refine.specs.Places.{place, known_place}
-use Rattle.qs_world_refine.specs.Faces.{Face, ShowsFace}
-use Rattle.qs_world_refine.specs.Links.{link, is_aborted, IsLink, IsEmpty, waiting_link}
-use Rattle.qs_world_refine.specs.RiseLaws.{sight_risen_as, MayRise, IsRisenFace}
-use Rattle.qs_world_refine.specs.Sights.{Sight, ShowsSight}
+use Rattle.qs_world_refine.proofs.Words.{◌≡◌, ◌≢◌, ℕ, ◌+◌, ◌<◌, ◌≤◌, ◌==◌, ◌&&◌, ◌||◌, Bool, true, false, [], arith, refl, sym, ◌∙◌, subst, ap, if◌then◌else◌, eqb-true, nat_tests, Tid, Open, Counts, place, known_place, Face, ShowsFace, link, IsLink, IsEmpty, waiting_link, sight_risen_as, IsRisenFace, Sight, ShowsSight, eqb-self}
+use Rattle.qs_world_agree.specs.World.{World, Outcome}
+use Rattle.qs_world_refine.specs.Links.{is_aborted}
+use Rattle.qs_world_refine.specs.RiseLaws.{MayRise}
 use Rattle.qs_world_refine.proofs.Same.{same_place}
 use Rattle.qs_world_refine.proofs.Streams.{Stays, still}
 use Rattle.qs_world_refine.proofs.Still.{log_still}
 use Rattle.qs_world_refine.proofs.Fresh.{Fresh}
 use Rattle.qs_world_refine.proofs.Unborn.{Blank}
+use Rattle.qs_base_lemmas.proofs.Tests.{le_zero}
 
 -- a place that no restart has taken yet: nothing was put for it or by it, and it knows nobody
 pub record IsUnborn (w : World) (q : ℕ) : Type 0 where
@@ -106,13 +100,10 @@ module _ (q : ℕ) (w : World) (present : ℕ → ℕ) (up involved : ℕ → Bo
       to_new p = empty p q (unknown_to_all p) (u.counts.posted_known p q (unknown_to_all p))
 
       from_new : (m : ℕ) → 1 ≤ m → IsEmpty (link risen_world q m)
-      from_new m some = empty q m (zero_below (w.peer q (w.node m)) (u.stranger (w.node m))) (none (w.posted q m) (w.sent q (w.node m)) (u.counts.posted_sent q m) (u.blank.sent (w.node m)))
+      from_new m some = empty q m (zero_below (w.peer q (w.node m)) (u.stranger (w.node m))) (le_zero (w.posted q m) (w.sent q (w.node m)) (u.counts.posted_sent q m) (u.blank.sent (w.node m)))
         where
           zero_below : (a : ℕ) → a ≡ 0 → a < m
           zero_below a e = omega (arith, e, some)
-
-          none : (a b : ℕ) → a ≤ b → b ≡ 0 → a ≡ 0
-          none a b c d = omega (arith, c, d)
 
       waiting_new : (m : ℕ) → IsEmpty (waiting_link risen_world q m)
       waiting_new m = record {
@@ -194,11 +185,8 @@ module _ (tid : Tid) (x : Sight) (w : World) (n new : ℕ) (shown : ShowsSight t
       by : (c d e : Bool) → (a == n) ≡ c → (k == new) ≡ d → (b == n) ≡ e → (if e then true else x.up b) ≡ true → l ≡ (if e then new else x.inc b) → IsLink (link v (place a k) (place b l)) (if (c && d) || (e && (l == new)) then [] else x.said a k b l)
       by c d true ec ed ee b_up now =
           let is_b : b ≡ n = eqb-true b n ee in
-          let hit : (l == new) ≡ true = subst (λ (z : ℕ). (z == new) ≡ true) (sym now) (same_number new) in
+          let hit : (l == new) ≡ true = subst (λ (z : ℕ). (z == new) ≡ true) (sym now) (eqb-self new) in
           pick (c && d) (right (c && d) (l == new) hit) (rw (is_b, now) (to_new q w present up involved outcome acknowledged cell learnt r u (place a k)))
-        where
-          same_number : (z : ℕ) → (z == z) ≡ true
-          same_number z = grind (arith, nat_tests)
       by true true false ec ed ee b_up now = rw (eqb-true a n ec, eqb-true k new ed) (from_new q w present up involved outcome acknowledged cell learnt r u (place b l) (some l (rw now (may.begun b b_in))))
       by true false false ec ed ee b_up now = old (λ _ is. grind (arith, nat_tests, ed, is)) (not_n b ee) b_up now
       by false d false ec ed ee b_up now = old (λ is _. grind (arith, nat_tests, ec, is)) (not_n b ee) b_up now

@@ -1,29 +1,12 @@
 -- What is told again as another node restarted, and what the first step of an incarnation of the home's node does: Tell, Tell_abort and Name_again.
-use Rattle.std.proofs.Common.{◌≡◌, ◌≢◌, ℕ, ◌==◌, ◌&&◌, ◌||◌, not, Bool, true, false, [], ◌∷◌, Some, None, refl, sym, subst, ap, ◌∙◌, arith, if◌then◌else◌}
-use Rattle.std.specs.Prelude.{is_some}
-use Rattle.std.proofs.lemmas.Bool.{eqb-true}
-use Rattle.std.proofs.lemmas.Bool.Decides.{nat_tests}
+use Rattle.qs_world_refine.proofs.Words.{◌≡◌, ◌≢◌, ℕ, ◌==◌, ◌&&◌, ◌||◌, not, Bool, true, false, [], ◌∷◌, Some, None, refl, sym, subst, ap, ◌∙◌, arith, if◌then◌else◌, is_some, eqb-true, and_from, and_right, and_parts, nat_tests, same_node, listed, is_abort, is_told_again, named_by, Participant, send, log_if, give_notices, name_again, Work, Aborted, Face, node_no, names_node, face, face_at, NamedGoes, drew, sight_faced, sight_during, ShowsWork, Sight, Goes}
 use Rattle.qs_base.specs.declared.identifiers.Outcome.{Outcome}
 use Rattle.qs_base.specs.declared.identifiers.Outcome.TheVariants as outcomes
-use Rattle.qs_engage.specs.Nodes.{same_node, has_node, listed}
+use Rattle.qs_engage.specs.Nodes.{has_node}
 use Rattle.qs_packet.specs.declared.message.Message.TheVariants as messages
 use Rattle.qs_record.specs.declared.record.Record.TheVariants as records
 use Rattle.qs_tm.specs.Outcomes as outcome_rules
-use Rattle.qs_tm.specs.Outcomes.{is_abort, is_told_again, named_by}
-use Rattle.qs_tm.specs.declared.participant.Participant.{Participant}
-use Rattle.qs_node_step.specs.Bringing.{send, log_if}
-use Rattle.qs_node_step.specs.Deciding.{give_notices}
-use Rattle.qs_node_step.specs.Restarts.{name_again}
-use Rattle.qs_node_step.specs.State.{Work}
-use Rattle.qs_world_agree.specs.World.{Aborted}
-use Rattle.qs_world_refine.specs.Faces.{Face}
-use Rattle.qs_world_refine.specs.Links.{node_no, names_node}
-use Rattle.qs_world_refine.specs.NodeFaces.{face, face_at}
 use Rattle.qs_world_refine.specs.RestartLaws.{TellAgainGoes, NameHomeGoes, NameOtherGoes, ResumeCommitGoes, ResumeAbortGoes}
-use Rattle.qs_world_refine.specs.Seen.{NamedGoes, drew, sight_faced}
-use Rattle.qs_world_refine.specs.Shows.{sight_during, ShowsWork}
-use Rattle.qs_world_refine.specs.Sights.{Sight}
-use Rattle.qs_world_refine.specs.Steps.{Goes}
 use Rattle.qs_world_refine.proofs.Alike.{SameFace, same_itself, found_itself}
 use Rattle.qs_world_refine.proofs.During.{quiet_itself, forced_log, recovery_same, local_shown, face_here, runs}
 use Rattle.qs_world_refine.proofs.Keeping.{Keeps, keeps_on, keeps_goes, nothing_goes, part_keeps}
@@ -34,11 +17,6 @@ use Rattle.qs_world_refine.proofs.Reading.{part_known}
 use Rattle.qs_world_refine.proofs.SendGoes.{tells_go, tells_abort}
 use Rattle.qs_world_refine.proofs.TellAbortCame.{named_drew}
 
-both : (a b : Bool) → (a && b) ≡ true → (a ≡ true) × (b ≡ true)
-both true true is = (refl, refl)
-both true false is = absurd (cc is)
-both false b is = absurd (cc is)
-
 -- ---- it is told again
 
 pub tell_again_goes : TellAgainGoes
@@ -48,7 +26,7 @@ tell_again_goes tid scene m outcome work part w shown at knows home decided = by
     face_is = ap (λ (p : Participant). face work.node tid p) (part_known tid work.node part knows.known)
 
     tells : is_told_again (node_no m) part ≡ true → (k : ℕ) → names_node (node_no m ∷ []) (node_no k) ≡ true → (face_at work.node tid).tell k ≡ true
-    tells is k named = ap (λ (f : Face). f.tell k) face_is ∙ (ap (λ (j : ℕ). has_node part.tell (node_no j)) (only (k == m) refl named) ∙ (both (is_some part.outcome) (has_node part.tell (node_no m)) (both (is_some part.outcome && has_node part.tell (node_no m)) (is_abort part.outcome || not (has_node part.acknowledged (node_no m))) is).0).1)
+    tells is k named = ap (λ (f : Face). f.tell k) face_is ∙ (ap (λ (j : ℕ). has_node part.tell (node_no j)) (only (k == m) refl named) ∙ (and_parts (is_some part.outcome) (has_node part.tell (node_no m)) (and_parts (is_some part.outcome && has_node part.tell (node_no m)) (is_abort part.outcome || not (has_node part.acknowledged (node_no m))) is).0).1)
       where
         only : (b : Bool) → (k == m) ≡ b → (b || false) ≡ true → k ≡ m
         only true e _ = eqb-true k m e
@@ -87,18 +65,11 @@ name_home tid scene n i work part w lawful shown at peer knows aborted = subst (
     names k named = let pair = named_drew tid.home part k knows.whole (omega (arith, peer.in_run, shown.stage.small)) named in (pair.0, rw face_before pair.1)
 
     work_is : name_again (node_no tid.home.0) tid part work ≡ send (node_no tid.home.0) (messages.Told tid (listed (named_by tid.home part))) work
-    work_is = ap (λ (b : Bool). if b then send (node_no tid.home.0) (messages.Told tid (listed (named_by tid.home part))) work else work) (by (is_abort part.outcome) (same_node tid.home (node_no tid.home.0)) (rw aborted refl) (grind (arith, nat_tests)))
-      where
-        by : (a b : Bool) → a ≡ true → b ≡ true → (a && b) ≡ true
-        by a b ea eb = rw (ea, eb) refl
+    work_is = ap (λ (b : Bool). if b then send (node_no tid.home.0) (messages.Told tid (listed (named_by tid.home part))) work else work) (and_from (is_abort part.outcome) (same_node tid.home (node_no tid.home.0)) (rw aborted refl) (grind (arith, nat_tests)))
 
 pub name_other : NameOtherGoes
-name_other tid scene n m work part w shown other = by (is_abort part.outcome && same_node tid.home (node_no m)) (off (is_abort part.outcome) (same_node tid.home (node_no m)) (grind (arith, nat_tests, other)))
+name_other tid scene n m work part w shown other = by (is_abort part.outcome && same_node tid.home (node_no m)) (and_right (is_abort part.outcome) (same_node tid.home (node_no m)) (grind (arith, nat_tests, other)))
   where
-    off : (a b : Bool) → b ≡ false → (a && b) ≡ false
-    off true b is = is
-    off false b is = refl
-
     by : (b : Bool) → b ≡ false → Goes tid scene n (if b then send (node_no m) (messages.Told tid (listed (named_by tid.home part))) work else work) w
     by b is = rw is (nothing_goes tid scene n work w shown)
 

@@ -1,16 +1,7 @@
 -- A request is handed up, and Covered goes back to where it came from.
-use Rattle.std.proofs.Common.{◌≡◌, ◌≢◌, ℕ, ◌==◌, Bool, true, false, List, [], ◌∷◌, ◌++◌, refl, sym, subst, ap, ◌∙◌, if◌then◌else◌}
-use Rattle.qs_base.specs.declared.identifiers.Tid.{Tid}
-use Rattle.qs_packet.specs.declared.message.Message.{Message}
-use Rattle.qs_node_step.specs.State.{Work}
+use Rattle.qs_world_refine.proofs.Words.{◌≡◌, ◌≢◌, ℕ, ◌==◌, Bool, true, false, List, [], ◌∷◌, ◌++◌, refl, sym, subst, ap, ◌∙◌, if◌then◌else◌, Tid, Message, Work, Face, Said, Closed, node_no, said, all_said, face_at, sight_returned, Scene, said_during, unmet_during, sight_during, ShowsWork, handed, Sight, ShowsSight}
 use Rattle.qs_world_agree.specs.World.{World}
-use Rattle.qs_world_refine.specs.Faces.{Face}
-use Rattle.qs_world_refine.specs.Links.{Said, Closed, node_no}
-use Rattle.qs_world_refine.specs.Messages.{said, all_said}
-use Rattle.qs_world_refine.specs.NodeFaces.{face_at}
-use Rattle.qs_world_refine.specs.Seen.{sight_returned}
-use Rattle.qs_world_refine.specs.Shows.{Scene, said_during, unmet_during, sight_during, ShowsWork, handed}
-use Rattle.qs_world_refine.specs.Sights.{Sight, ShowsSight, with_at4}
+use Rattle.qs_world_refine.specs.Sights.{with_at4}
 use Rattle.qs_world_refine.proofs.Alike.{SameFace, same_itself, sight_alike}
 use Rattle.qs_world_refine.proofs.During.{Quiet, said_same, unmet_same, found_same}
 use Rattle.qs_world_refine.proofs.Handing.{handed_said}

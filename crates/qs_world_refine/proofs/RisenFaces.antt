@@ -1,33 +1,10 @@
 -- What is seen of a transaction at a node that opens over its log in a later incarnation.
-use Rattle.std.proofs.Common.{◌≡◌, ℕ, ◌<◌, ◌==◌, ◌&&◌, ◌||◌, not, Bool, true, false, List, [], ◌∷◌, length, fold, Option, Some, None, is_some, unwrap_or, nat_lt, refl, sym, ap, subst, ◌∙◌, arith, if◌then◌else◌}
-use Rattle.std.specs.List.{filter, list_all, list_any}
-use Rattle.std.proofs.lemmas.Bool.{eqb-true}
-use Rattle.std.proofs.lemmas.Bool.Decides.{nat_tests}
-use Rattle.qs_base.specs.Order.{same_tid}
-use Rattle.qs_base.specs.declared.identifiers.NodeNo.{NodeNo}
+use Rattle.qs_world_refine.proofs.Words.{◌≡◌, ℕ, ◌<◌, ◌==◌, ◌&&◌, ◌||◌, not, Bool, true, false, List, [], ◌∷◌, length, fold, Option, Some, None, is_some, unwrap_or, nat_lt, refl, sym, ap, subst, ◌∙◌, arith, if◌then◌else◌, filter, list_all, list_any, eqb-true, nat_tests, same_tid, NodeNo, Tid, new_engage, no_peer, no_nodes, same_node, is_standing_loan, Lent, Record, Untold, Recovery, recovery, found_record, nothing_said, with_list, is_untold_of, no_member, committed_before, new_participant}
+use Rattle.qs_world_refine.proofs.Words.{member_of, Participant, was_committed, new_manager, recovered_of, NodeValue, reopened, Open, Committed, Aborted, node_no, face, face_at, unknown, uncast_of, outcome_of, outcome_seen, loans_at, began_here, unknown_at_home, IsRisenFace, outcome_at_home, server_no, has_doubt, may_vote, is_list_of, is_loan_before, is_label_before}
 use Rattle.qs_base.specs.declared.identifiers.Outcome.TheVariants as outcomes
-use Rattle.qs_base.specs.declared.identifiers.Tid.{Tid}
-use Rattle.qs_engage.specs.Engage.{new_engage, no_peer}
-use Rattle.qs_engage.specs.Nodes.{no_nodes, same_node}
-use Rattle.qs_node_kept.specs.Loans.{is_standing_loan}
-use Rattle.qs_node_kept.specs.declared.kept.Lent.{Lent}
-use Rattle.qs_record.specs.declared.record.Record.{Record}
 use Rattle.qs_record.specs.declared.record.Record.TheVariants as records
-use Rattle.qs_restart.specs.Recovery.{Untold, Recovery, recovery, found_record, nothing_said, with_list, is_untold_of}
-use Rattle.qs_tm.specs.Members.{no_member}
-use Rattle.qs_tm.specs.Outcomes.{committed_before}
-use Rattle.qs_tm.specs.Participant.{new_participant, member_of}
-use Rattle.qs_tm.specs.declared.participant.Participant.{Participant}
-use Rattle.qs_node_step.specs.Answering.{was_committed}
-use Rattle.qs_node_step.specs.Opening.{new_manager, recovered_of}
-use Rattle.qs_node_step.specs.State.{NodeValue}
-use Rattle.qs_world.specs.Moves.{reopened}
-use Rattle.qs_world_agree.specs.World.{Outcome, Open, Committed, Aborted}
-use Rattle.qs_world_refine.specs.Links.{node_no}
-use Rattle.qs_world_refine.specs.NodeFaces.{face, face_at, unknown, uncast_of, outcome_of, outcome_seen, loans_at, began_here, unknown_at_home}
-use Rattle.qs_world_refine.specs.RiseLaws.{IsRisenFace, RisenFace, outcome_at_home, outcome_found}
-use Rattle.qs_world_refine.specs.Sights.{server_no}
-use Rattle.qs_world_refine.specs.Sound.{has_doubt, may_vote, is_list_of, is_loan_before, is_label_before}
+use Rattle.qs_world_agree.specs.World.{Outcome}
+use Rattle.qs_world_refine.specs.RiseLaws.{RisenFace, outcome_found}
 use Rattle.qs_world_refine.proofs.SoundBegin.{all_last}
 use Rattle.qs_world_refine.proofs.SoundLogs.{all_filtered}
 use Rattle.qs_world_refine.proofs.SoundParts.{and_both}

@@ -1,22 +1,7 @@
 -- The laws of rules, each from its file.
-use Rattle.std.proofs.Common.{◌≡◌, ℕ, Bool, true, false, List, [], Option, Some, None, refl, sym, subst, ap, ◌∙◌, if◌then◌else◌}
-use Rattle.qs_base.specs.declared.identifiers.Tid.{Tid}
+use Rattle.qs_world_refine.proofs.Words.{◌≡◌, ℕ, Bool, true, false, List, [], Option, Some, None, refl, sym, subst, ap, ◌∙◌, if◌then◌else◌, Tid, Message, is_undecided, Participant, refusal_came, count, become_asked, enter_ask, message_came, reply_came, Work, part_of, Scene, sight_during, ShowsWork, handed, node_no, said, all_said, IsForeign, face_at, SightGoes, sight_taken, IsAt, IsToldSet, Goes}
 use Rattle.qs_packet.specs.declared.message.Message.TheVariants as messages
-use Rattle.qs_packet.specs.declared.message.Message.{Message}
-use Rattle.qs_tm.specs.Participant.{is_undecided}
-use Rattle.qs_tm.specs.declared.participant.Participant.{Participant}
-use Rattle.qs_node_step.specs.Asking.{refusal_came, count, become_asked}
-use Rattle.qs_node_step.specs.Commands.{enter_ask}
-use Rattle.qs_node_step.specs.Step.{message_came}
-use Rattle.qs_node_step.specs.Requests.{reply_came}
-use Rattle.qs_node_step.specs.State.{Work, part_of}
-use Rattle.qs_world_refine.specs.Shows.{Scene, sight_during, ShowsWork, handed}
-use Rattle.qs_world_refine.specs.Links.{node_no}
-use Rattle.qs_world_refine.specs.Messages.{said, all_said, IsForeign}
-use Rattle.qs_world_refine.specs.NodeFaces.{face_at}
-use Rattle.qs_world_refine.specs.Seen.{SightGoes, sight_taken}
 use Rattle.qs_world_refine.specs.RuleLaws.{VotedYesGoes, CoveredGoes, IssueAwayGoes, RequestGoes, RequestHomeGoes, CloserIgnored, TellCommitGoes, AnswerSuperiorGoes, IssueHereGoes, OwnerAsksGoes, ForeignGoes, AnsweredGoes, RefusalGoes, AskVoteGoes, RecoverableGoes, VolatileGoes, ReadOnlyGoes, AgainstGoes}
-use Rattle.qs_world_refine.specs.Steps.{IsAt, IsToldSet, Goes}
 use Rattle.qs_world_refine.proofs.CloserCame.{closer_goes}
 use Rattle.qs_world_refine.proofs.Frames.{out_leaves}
 use Rattle.qs_world_refine.proofs.IssueAway.{issue_goes}

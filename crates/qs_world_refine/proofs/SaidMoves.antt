@@ -1,33 +1,13 @@
 -- Each move of the world leaves the nodes that run sound over their logs, and so they are where a world begins.
-use Rattle.std.proofs.Common.{◌≡◌, ℕ, ◌<◌, ◌==◌, ◌&&◌, ◌||◌, not, Bool, true, false, List, [], ◌∷◌, ◌++◌, Option, Some, None, refl, sym, ap, subst, ◌∙◌, arith, if◌then◌else◌}
-use Rattle.std.specs.List.{list_all, list_any}
-use Rattle.std.proofs.lemmas.Bool.{eqb-true}
-use Rattle.std.proofs.lemmas.Bool.Decides.{nat_tests}
-use Rattle.qs_base.specs.declared.identifiers.Tid.{Tid}
+use Rattle.qs_world_refine.proofs.Words.{◌≡◌, ℕ, ◌<◌, ◌==◌, ◌&&◌, ◌||◌, not, Bool, true, false, List, [], ◌∷◌, ◌++◌, Option, Some, None, refl, sym, ap, subst, ◌∙◌, arith, if◌then◌else◌, list_all, list_any, eqb-true, not-true, nat_tests, Tid, same_node, no_kept, Record, Prepared, Untold, Recovery, recovery, nothing_said, names_transaction, is_untold_of, committed_before, Manager, InLog, Participant, opened_manager, recovered_as, recovered_of, NodeValue, after_step, effects_of, Effects, Setting}
+use Rattle.qs_world_refine.proofs.Words.{Source, Move, Commanded, Handed, Queues, Clock, Noticed, Cut, Stop, Rise, event_of, step_with, cut_with, stepped_host, stopped_host, risen_host, cut_log, hand_next, taken_by, may_move, moved, IsOpening, are_unended, is_untold, post_all, next_parcel, Host, Parcel, start, each_is, are_left_open, no_flags, AreSaid, AreSoundOver, BeginsNewAt, MayMoveOver, has_doubt, may_vote, is_list_of, MayStep}
 use Rattle.qs_session_channels.specs.Network.{with_at}
-use Rattle.qs_engage.specs.Nodes.{same_node}
-use Rattle.qs_node_kept.specs.Keeping.{no_kept}
-use Rattle.qs_record.specs.declared.record.Record.{Record}
-use Rattle.qs_restart.specs.Recovery.{Prepared, Untold, Recovery, recovery, nothing_said, names_transaction, is_untold_of}
 use Rattle.qs_tm.specs.Manager as tm
-use Rattle.qs_tm.specs.Outcomes.{committed_before}
-use Rattle.qs_tm.specs.declared.manager.Manager.{Manager}
-use Rattle.qs_tm.specs.declared.participant.InLog.{InLog}
-use Rattle.qs_tm.specs.declared.participant.Participant.{Participant}
-use Rattle.qs_node_step.specs.Opening.{opened_manager, recovered_as, recovered_of}
-use Rattle.qs_node_step.specs.State.{NodeValue}
-use Rattle.qs_node_step.specs.Step.{after_step, effects_of}
-use Rattle.qs_node_step.specs.declared.event.Effects.{Effects}
 use Rattle.qs_node_step.specs.declared.event.Event.{Event}
-use Rattle.qs_node_step.specs.declared.setting.Setting.{Setting}
-use Rattle.qs_world.specs.Moves.{Source, Move, Commanded, Handed, Queues, Clock, Noticed, Step, Cut, Stop, Rise, Meet, event_of, step_with, cut_with, stepped_host, stopped_host, risen_host, cut_log, hand_next, taken_by, may_move, moved}
-use Rattle.qs_world.specs.Openings.{IsOpening, are_unended, is_untold}
-use Rattle.qs_world.specs.Posting.{post_all, next_parcel}
-use Rattle.qs_world.specs.World.{Host, Parcel, World, start}
-use Rattle.qs_world.proofs.Below.{each_is}
-use Rattle.qs_world_refine.specs.SaidLaws.{is_open_vote, are_left_open, no_flags, AreSaid, AreSoundOver, is_said_host, OpenedSaid, RestartSaid, BeginsNewAt, MayMoveOver, MoveSaid}
-use Rattle.qs_world_refine.specs.Sound.{has_doubt, may_vote, is_list_of}
-use Rattle.qs_world_refine.specs.SoundMoves.{MayStep, MayMove}
+use Rattle.qs_world.specs.Moves.{Step, Meet}
+use Rattle.qs_world.specs.World.{World}
+use Rattle.qs_world_refine.specs.SaidLaws.{is_open_vote, is_said_host, OpenedSaid, RestartSaid, MoveSaid}
+use Rattle.qs_world_refine.specs.SoundMoves.{MayMove}
 use Rattle.qs_world_refine.proofs.Doubts.{is_doubt_of, none_of}
 use Rattle.qs_world_refine.proofs.Posted.{up_all}
 use Rattle.qs_world_refine.proofs.RisenFaces.{lists_from}
@@ -54,10 +34,6 @@ module _ (said : Recovery) (unended : are_left_open said ≡ true) where
   doubt_named tid [] all some = absurd (cc (some))
   doubt_named tid (v ∷ votes) all some = by (is_doubt_of tid v) refl some (doubt_named tid votes (and_both (is_open_vote said v) (list_all (is_open_vote said) votes) all).1)
     where
-      off : (b : Bool) → not b ≡ true → b ≡ false
-      off true is = absurd (cc (is))
-      off false is = refl
-
       open_is : (c a b : Bool) → (c || (a && b)) ≡ true → not c ≡ true → (a ≡ true) × (b ≡ true)
       open_is true a b is so = absurd (cc (so))
       open_is false a b is so = and_both a b is
@@ -67,7 +43,7 @@ module _ (said : Recovery) (unended : are_left_open said ≡ true) where
       by true is some more =
           let both : (Rattle.qs_restart.specs.Recovery.is_of tid v ≡ true) × (not v.committed ≡ true) = and_both (Rattle.qs_restart.specs.Recovery.is_of tid v) (not v.committed) is in
           let its : (names_transaction v.tid ≡ true) × (not (list_any (is_untold_of v.tid) said.untold) ≡ true) = open_is v.committed (names_transaction v.tid) (not (list_any (is_untold_of v.tid) said.untold)) (and_both (is_open_vote said v) (list_all (is_open_vote said) votes) all).0 both.1 in
-          subst (λ (t : Tid). (names_transaction t ≡ true) × (list_any (is_untold_of t) said.untold ≡ false)) (same_is v.tid tid both.0) (its.0, off (list_any (is_untold_of v.tid) said.untold) its.1)
+          subst (λ (t : Tid). (names_transaction t ≡ true) × (list_any (is_untold_of t) said.untold ≡ false)) (same_is v.tid tid both.0) (its.0, not-true (list_any (is_untold_of v.tid) said.untold) its.1)
 
   pub untold_named : (tid : Tid) (commits : List Untold) → list_all is_untold commits ≡ true → list_any (is_untold_of tid) commits ≡ true → names_transaction tid ≡ true
   untold_named tid [] all some = absurd (cc (some))

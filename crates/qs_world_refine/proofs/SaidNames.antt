@@ -1,22 +1,11 @@
 -- What a log says of transactions that are not ended names transactions, and no vote is in doubt beside a Commit that waits, where a sound node stands over it.
-use Rattle.std.proofs.Common.{◌≡◌, inl, inr, ℕ, ◌&&◌, ◌||◌, not, Bool, true, false, List, [], ◌∷◌, ◌++◌, map, fold, Option, Some, None, is_some, refl, sym, ap, subst, ◌∙◌, arith, if◌then◌else◌}
-use Rattle.std.proofs.lemmas.Bool.Decides.{nat_tests}
-use Rattle.std.specs.List.{list_all, list_any, filter}
-use Rattle.qs_base.specs.declared.identifiers.NodeNo.{NodeNo}
-use Rattle.qs_base.specs.declared.identifiers.Tid.{Tid}
-use Rattle.qs_record.specs.declared.record.Record.{Record}
+use Rattle.qs_world_refine.proofs.Words.{◌≡◌, inl, inr, ℕ, ◌&&◌, ◌||◌, not, Bool, true, false, List, [], ◌∷◌, ◌++◌, map, fold, Option, Some, None, is_some, refl, sym, ap, subst, ◌∙◌, arith, if◌then◌else◌, nat_tests, list_all, list_any, filter, NodeNo, Tid, Record, Prepared, Recovery, found_record, names_transaction, is_untold_of, is_vote_of, ended, mark_committed, with_list, NodeValue, is_abort, is_undecided, InLog, Participant, are_unended, is_untold, fits_record, is_list_at, are_left_open}
+use Rattle.qs_world_refine.proofs.Words.{no_flags, flags_at, AreSaid, is_sound, has_doubt, where_so, is_sound_said, implied, or_left, or_right}
 use Rattle.qs_record.specs.declared.record.Record.TheVariants as records
-use Rattle.qs_restart.specs.Recovery.{Prepared, Recovery, found_record, names_transaction, is_of, is_untold_of, is_vote_of, ended, mark_committed, with_list}
-use Rattle.qs_node_step.specs.State.{NodeValue}
+use Rattle.qs_restart.specs.Recovery.{is_of}
 use Rattle.qs_tm.specs.Manager as tm
-use Rattle.qs_tm.specs.Outcomes.{is_abort}
-use Rattle.qs_tm.specs.Participant.{is_undecided}
-use Rattle.qs_tm.specs.declared.participant.InLog.{InLog}
-use Rattle.qs_tm.specs.declared.participant.Participant.{Participant}
-use Rattle.qs_world.specs.Openings.{are_unended, is_doubt, is_untold}
-use Rattle.qs_world_refine.specs.Begun.{fits_record, is_list_at}
-use Rattle.qs_world_refine.specs.SaidLaws.{is_open_vote, are_left_open, no_flags, flags_at, AreSaid}
-use Rattle.qs_world_refine.specs.Sound.{is_sound, has_doubt, where_so, is_sound_said}
+use Rattle.qs_world.specs.Openings.{is_doubt}
+use Rattle.qs_world_refine.specs.SaidLaws.{is_open_vote}
 use Rattle.qs_world_refine.proofs.Entries.{all_mapped}
 use Rattle.qs_world_refine.proofs.SaysSeen.{said_seen}
 use Rattle.qs_world_refine.proofs.SoundBegin.{all_implied, all_last}
@@ -99,14 +88,7 @@ flags_in o = elim o [ None ↦ no_flags | Some part ↦ part.log ]
 
 all_of : {X : Type 0} (q : X → Bool) (xs : List X) → ((x : X) → ((f : X → Bool) → f x ≡ true → list_any f xs ≡ true) → q x ≡ true) → (ys : List X) → ((f : X → Bool) → list_any f ys ≡ true → list_any f xs ≡ true) → list_all q ys ≡ true
 all_of q xs each [] within = refl
-all_of {X} q xs each (y ∷ ys) within = both_and (q y) (list_all q ys) (each y (λ f is. within f (first (f y) (list_any f ys) is))) (all_of q xs each ys (λ f is. within f (last (f y) (list_any f ys) is)))
-  where
-    first : (a b : Bool) → a ≡ true → (a || b) ≡ true
-    first a b is = rw is refl
-
-    last : (a b : Bool) → b ≡ true → (a || b) ≡ true
-    last true b is = refl
-    last false b is = is
+all_of {X} q xs each (y ∷ ys) within = both_and (q y) (list_all q ys) (each y (λ f is. within f (or_left (f y) (list_any f ys) is))) (all_of q xs each ys (λ f is. within f (or_right (f y) (list_any f ys) is)))
 
 pub unended_said : (node : NodeValue) (said : Recovery) → is_sound node ≡ true → is_sound_said node said ≡ true → AreNamed said → are_left_open said ≡ true
 unended_said node said sound over named = both_and (list_all (is_open_vote said) said.prepared) (list_all is_untold said.untold) (all_of (is_open_vote said) said.prepared doubt said.prepared (λ f is. is)) named.commits
@@ -154,11 +136,7 @@ unended_said node said sound over named = both_and (list_all (is_open_vote said)
                 clash [] all any = any
                 clash (x ∷ xs) all any =
                     let both : (is_named_vote x ≡ true) × (list_all is_named_vote xs ≡ true) = and_both (is_named_vote x) (list_all is_named_vote xs) all in
-                    clash xs both.1 (rest (is_named_vote x) (list_any (λ (v : Prepared). not (is_named_vote v)) xs) both.0 any)
-                  where
-                    rest : (a b : Bool) → a ≡ true → (not a || b) ≡ true → b ≡ true
-                    rest true b so is = is
-                    rest false b so is = absurd (cc (so))
+                    clash xs both.1 (implied (is_named_vote x) (list_any (λ (v : Prepared). not (is_named_vote v)) xs) both.0 any)
 
                 test : (b : Bool) → is_named_vote vote ≡ b → b ≡ true
                 test true is = refl

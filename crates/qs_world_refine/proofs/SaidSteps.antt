@@ -1,18 +1,8 @@
 -- A whole step leaves a node sound over its log, and in its place.
-use Rattle.std.proofs.Common.{◌≡◌, ◌⊎◌, ℕ, true, false, List, ◌++◌, fold, sym, ap, subst, ◌∙◌}
-use Rattle.std.specs.List.{list_all, list_any}
-use Rattle.std.proofs.lemmas.List.Sums.{fold-append}
-use Rattle.qs_base.specs.declared.identifiers.Tid.{Tid}
-use Rattle.qs_engage.specs.Nodes.{same_node}
-use Rattle.qs_record.specs.declared.record.Record.{Record}
-use Rattle.qs_restart.specs.Recovery.{Recovery, recovery, found_record, nothing_said}
-use Rattle.qs_node_step.specs.Bringing.{is_forced}
-use Rattle.qs_node_step.specs.State.{NodeValue, work_on}
-use Rattle.qs_node_step.specs.Step.{happen, accept, after_step, effects_of, step_work}
+use Rattle.qs_world_refine.proofs.Words.{◌≡◌, ◌⊎◌, ℕ, true, false, List, ◌++◌, fold, sym, ap, subst, ◌∙◌, list_all, list_any, fold-append, Tid, same_node, Record, Recovery, recovery, found_record, nothing_said, is_forced, NodeValue, work_on, happen, accept, after_step, effects_of, step_work, lists_others, AreSaid, SaysOn, BeginsNew, has_doubt, is_sound, is_sound_said, MayHappen, commands_in_run, begun, is_whole_log, AreListed}
 use Rattle.qs_node_step.specs.declared.event.Event.{Event}
-use Rattle.qs_world_refine.specs.SaidLaws.{is_prepare_of, lists_others, AreSaid, SaysOn, BeginsNew, StepSaid, StepSeated, StepForces, StepOpen}
-use Rattle.qs_world_refine.specs.Sound.{has_doubt, is_sound, is_sound_said}
-use Rattle.qs_world_refine.specs.SoundSteps.{MayHappen, commands_in_run, begun, settled}
+use Rattle.qs_world_refine.specs.SaidLaws.{is_prepare_of, StepSaid, StepSeated, StepForces, StepOpen}
+use Rattle.qs_world_refine.specs.SoundSteps.{settled}
 use Rattle.qs_world_refine.proofs.SaysOn.{on_then}
 use Rattle.qs_world_refine.proofs.SaysSeen.{said_seen, seen_said}
 use Rattle.qs_world_refine.proofs.SaysSettles.{begin_incarnation_on, settle_on}
@@ -21,8 +11,7 @@ use Rattle.qs_world_refine.proofs.SoundHappen.{happen_sound}
 use Rattle.qs_world_refine.proofs.SoundRestart.{begin_incarnation_sound}
 use Rattle.qs_world_refine.proofs.SoundStep.{step_sound}
 use Rattle.qs_world_refine.proofs.SoundViews.{seen}
-use Rattle.qs_world.specs.Openings.{is_commit_of, is_whole_log}
-use Rattle.qs_world_refine.specs.Lists.{AreListed}
+use Rattle.qs_world.specs.Openings.{is_commit_of}
 
 pub step_on : (node : NodeValue) (event : Event) (free : ℕ) → MayHappen event (begun node free) → BeginsNew event (begun node free) → is_sound node ≡ true → SaysOn (work_on node free) (step_work node event free)
 step_on node event free may new sound =

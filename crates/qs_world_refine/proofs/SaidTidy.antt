@@ -1,19 +1,8 @@
 -- A log whose records fit says what a node can take up, and what names transactions that may be known.
-use Rattle.std.proofs.Common.{◌≡◌, ◌&&◌, ◌||◌, not, Bool, true, false, List, [], ◌∷◌, ◌++◌, map, fold, refl, arith, if◌then◌else◌}
-use Rattle.std.specs.List.{list_all, list_any, filter}
-use Rattle.std.proofs.lemmas.Bool.Decides.{nat_tests}
-use Rattle.qs_base.specs.Order.{same_tid}
-use Rattle.qs_base.specs.declared.identifiers.NodeNo.{NodeNo}
-use Rattle.qs_base.specs.declared.identifiers.Tid.{Tid}
-use Rattle.qs_engage.specs.Nodes.{same_node}
-use Rattle.qs_book_machine.specs.Nodes.{is_recoverable}
-use Rattle.qs_record.specs.declared.record.Record.{Record}
+use Rattle.qs_world_refine.proofs.Words.{◌≡◌, ◌&&◌, ◌||◌, not, Bool, true, false, List, [], ◌∷◌, ◌++◌, map, fold, refl, arith, if◌then◌else◌, list_all, list_any, filter, nat_tests, same_tid, NodeNo, Tid, same_node, is_recoverable, Record, Prepared, Untold, Recovery, nothing_said, recovery, found_record, names_transaction, is_untold_of, is_vote_of, ended, mark_committed, with_list, prepare_of, commit_of, in_doubt, untold, is_list_at, may_vote, is_list_of, may_take_up, is_steady_record, or_right}
 use Rattle.qs_record.specs.declared.record.Record.TheVariants as records
 use Rattle.qs_restart.specs.Recovery as restart
-use Rattle.qs_restart.specs.Recovery.{Prepared, Untold, Recovery, nothing_said, recovery, found_record, names_transaction, is_of, is_untold_of, is_vote_of, ended, mark_committed, with_list, prepare_of, commit_of, in_doubt, untold}
-use Rattle.qs_world_refine.specs.Begun.{is_list_at}
-use Rattle.qs_world_refine.specs.Sound.{may_vote, is_list_of, may_take_up}
-use Rattle.qs_world_refine.specs.Steadies.{is_steady_record}
+use Rattle.qs_restart.specs.Recovery.{is_of}
 use Rattle.qs_world_refine.proofs.Entries.{all_mapped}
 use Rattle.qs_world_refine.proofs.SoundBegin.{all_implied, all_last}
 use Rattle.qs_world_refine.proofs.SoundLogs.{all_filtered}
@@ -104,11 +93,7 @@ module _ (past : Tid → Bool) (me : NodeNo) where
         where
           itself : (b : Bool) → b ≡ true → (b || false) ≡ true
           itself b is = rw is refl
-      last (y ∷ ys) = more (same_tid tid y) (list_any (same_tid tid) (ys ++ tid ∷ [])) (last ys)
-        where
-          more : (a b : Bool) → b ≡ true → (a || b) ≡ true
-          more true b is = refl
-          more false b is = is
+      last (y ∷ ys) = or_right (same_tid tid y) (list_any (same_tid tid) (ys ++ tid ∷ [])) (last ys)
 
       by : (b : Bool) → (not b || list_any (same_tid tid) (xs ++ (if b then tid ∷ [] else []))) ≡ true
       by true = last xs

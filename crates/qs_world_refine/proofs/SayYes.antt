@@ -1,34 +1,12 @@
 -- A node that may answer sends VotedYes to its superior: Yes, or Yes_lost.
-use Rattle.std.proofs.Common.{◌≡◌, ◌≢◌, ℕ, ◌<◌, ◌==◌, ◌&&◌, Bool, true, false, [], ◌∷◌, length, Option, Some, None, refl, sym, subst, ap, ◌∙◌, arith, if◌then◌else◌}
-use Rattle.std.specs.BTreeMap.{is_at}
-use Rattle.std.proofs.lemmas.Bool.Decides.{nat_tests}
-use Rattle.std.proofs.lemmas.List.{length-set}
-use Rattle.qs_base.specs.Order.{tid_cmp}
-use Rattle.qs_base.specs.declared.identifiers.NodeNo.{NodeNo}
-use Rattle.qs_base.specs.declared.identifiers.Tid.{Tid}
-use Rattle.qs_engage.specs.Engage.{peer_of}
-use Rattle.qs_engage.specs.Nodes.{has_node, put_node, listed}
-use Rattle.qs_engage.specs.declared.nodes.Nodes.{Nodes}
+use Rattle.qs_world_refine.proofs.Words.{◌≡◌, ◌≢◌, ℕ, ◌<◌, ◌==◌, ◌&&◌, Bool, true, false, [], ◌∷◌, length, Option, Some, None, refl, sym, subst, ap, ◌∙◌, arith, if◌then◌else◌, is_at, nat_tests, length-set, tid_cmp, NodeNo, Tid, peer_of, put_node, listed, Nodes, Message, told_with_own, Participant, is_other, send, is_busy, say_yes, answer_superior, Work, here, part_of, with_manager, IsLawful, Face, node_no, names_node, Closed, said, face, began_here, place, SightGoes, FaceReady, sight_agreed, Scene}
+use Rattle.qs_world_refine.proofs.Words.{sight_during, ShowsWork, Sight, IsAt, IsKnown, Goes}
+use Rattle.qs_engage.specs.Nodes.{has_node}
 use Rattle.qs_packet.specs.declared.message.Message.TheVariants as messages
-use Rattle.qs_packet.specs.declared.message.Message.{Message}
 use Rattle.qs_tm.specs.Manager as tm
-use Rattle.qs_tm.specs.Outcomes.{told_with_own}
 use Rattle.qs_tm.specs.Participant as participant
-use Rattle.qs_tm.specs.declared.participant.Participant.{Participant}
-use Rattle.qs_node_step.specs.Bringing.{is_other, send}
-use Rattle.qs_node_step.specs.Settling.{is_busy, say_yes, answer_superior}
-use Rattle.qs_node_step.specs.State.{Work, here, part_of, with_manager}
 use Rattle.qs_world_agree.specs.World.{World}
-use Rattle.qs_world_agree.specs.Carry.{IsLawful}
-use Rattle.qs_world_refine.specs.Faces.{Face}
-use Rattle.qs_world_refine.specs.Links.{node_no, names_node, Closed}
-use Rattle.qs_world_refine.specs.Messages.{said}
-use Rattle.qs_world_refine.specs.NodeFaces.{face, began_here}
-use Rattle.qs_world_refine.specs.Places.{place}
-use Rattle.qs_world_refine.specs.Seen.{SightGoes, FaceReady, sight_agreed}
-use Rattle.qs_world_refine.specs.Shows.{Scene, sight_during, ShowsWork}
-use Rattle.qs_world_refine.specs.Sights.{Sight}
-use Rattle.qs_world_refine.specs.Steps.{IsAt, Knows, IsKnown, Goes}
+use Rattle.qs_world_refine.specs.Steps.{Knows}
 use Rattle.qs_world_refine.proofs.Alike.{SameFace, found_itself}
 use Rattle.qs_world_refine.proofs.Answering as event
 use Rattle.qs_world_refine.proofs.Arrays.{node_put}

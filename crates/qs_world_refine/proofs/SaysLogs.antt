@@ -1,29 +1,12 @@
 -- A record that is appended: the flags say of its transaction what the log says then.
-use Rattle.std.proofs.Common.{◌≡◌, ℕ, ◌<◌, ◌&&◌, ◌||◌, ◌⊎◌, inl, inr, ◌==◌, not, Bool, true, false, List, [], ◌∷◌, length, Option, Some, None, refl, sym, ap, subst, ◌∙◌, arith}
-use Rattle.std.specs.List.{filter, list_all, list_any}
-use Rattle.std.specs.Map.{lookup}
-use Rattle.std.specs.BTreeMap.{is_at}
-use Rattle.std.proofs.lemmas.Bool.Decides.{nat_tests}
-use Rattle.qs_base.specs.Order.{same_tid, tid_cmp}
-use Rattle.qs_base.specs.declared.identifiers.NodeNo.{NodeNo}
-use Rattle.qs_base.specs.declared.identifiers.Tid.{Tid}
-use Rattle.qs_engage.specs.Nodes.{has_node, joined, no_nodes, same_node}
-use Rattle.qs_engage.specs.declared.nodes.Nodes.{Nodes}
-use Rattle.qs_record.specs.declared.record.Record.{Record}
+use Rattle.qs_world_refine.proofs.Words.{◌≡◌, ℕ, ◌<◌, ◌&&◌, ◌||◌, ◌⊎◌, inl, inr, ◌==◌, not, Bool, true, false, List, [], ◌∷◌, length, Option, Some, None, refl, sym, ap, subst, ◌∙◌, arith, filter, list_all, list_any, lookup, is_at, nat_tests, same_tid, tid_cmp, NodeNo, Tid, joined, no_nodes, same_node, Nodes, Record, Prepared, Untold, Recovery, found_record, is_vote_of, is_untold_of, InLog, Participant, log, log_if, tid_of, is_forced, NodeValue, Work, part_of, names_node, node_no, is_in_run}
+use Rattle.qs_world_refine.proofs.Words.{is_whole_log, AreListed, last_list, tell_at, tell_of_part, lists_others, no_flags, flags_at, IsSaid, AreSaid, SaysOn, list_of, has_doubt, false-or}
+use Rattle.qs_engage.specs.Nodes.{has_node}
 use Rattle.qs_record.specs.declared.record.Record.TheVariants as records
-use Rattle.qs_restart.specs.Recovery.{Prepared, Untold, Recovery, found_record, is_vote_of, is_untold_of}
 use Rattle.qs_tm.specs.Outcomes.{in_log, logged}
-use Rattle.qs_tm.specs.declared.participant.InLog.{InLog}
-use Rattle.qs_tm.specs.declared.participant.Participant.{Participant}
-use Rattle.qs_node_step.specs.Bringing.{log, log_if, tid_of, is_forced}
-use Rattle.qs_node_step.specs.State.{NodeValue, Work, part_of}
-use Rattle.qs_world_refine.specs.Links.{names_node, node_no}
 use Rattle.qs_world.specs.Openings as openings
-use Rattle.qs_world.specs.Openings.{is_commit_of, is_in_run, is_whole_log}
-use Rattle.qs_world_refine.specs.Lists.{AreListed, last_list, tell_at, tell_of_part}
-use Rattle.qs_world_refine.specs.SaidLaws.{is_prepare_of, lists_others, no_flags, flags_at, IsSaid, AreSaid, SaysOn}
-use Rattle.qs_world_refine.specs.Sights.{list_of}
-use Rattle.qs_world_refine.specs.Sound.{has_doubt}
+use Rattle.qs_world.specs.Openings.{is_commit_of}
+use Rattle.qs_world_refine.specs.SaidLaws.{is_prepare_of}
 use Rattle.qs_world_refine.proofs.Doubts.{is_doubt_of, doubt_same, doubts_ended, doubts_marked, any_last}
 use Rattle.qs_world_refine.proofs.Frames.{part_apart, same_record}
 use Rattle.qs_world_refine.proofs.LogEnds.{untold_ended}
@@ -194,10 +177,6 @@ module _ (rec : Record) (work : Work) (may : MayLog rec work) where
           ap (λ (es : List (Tid × Participant)). told (lookup (is_at (tid_cmp (tid_of rec))) es)) (Rattle.qs_world_refine.proofs.Maps.changed_none (is_at (tid_cmp (tid_of rec))) (logged rec) work.node.manager.known none)
           ∙ (ap told none ∙ (unknown_flags rec loose ∙ ap (in_log rec) (sym (ap told none))))
 
-  or_none : (a : Bool) → a ≡ (a || false)
-  or_none true = refl
-  or_none false = refl
-
   -- whom its node is to tell stays
   tells : (t : Tid) → tell_at t (log rec work).node ≡ tell_at t work.node
   tells t = told_changed no_nodes tell_of_part (is_at (tid_cmp (tid_of rec))) (is_at (tid_cmp t)) (logged rec) (λ part. refl) work.node.manager.known
@@ -209,7 +188,7 @@ module _ (rec : Record) (work : Work) (may : MayLog rec work) where
     others = logs_others rec work.node lists;
     own = λ said is t off any. logs_own rec work.node owns said is t off any;
     records = refl;
-    forced = ap (λ (f : Bool). work.out.force || f) (or_none (is_forced rec));
+    forced = ap (λ (f : Bool). work.out.force || f) (false-or (is_forced rec));
     commands = λ is. is;
     said = λ said is t. by said is t (same_tid t (tid_of rec)) refl;
     lists = λ said is has. lists_on rec work.node (log rec work).node said tells lists has;

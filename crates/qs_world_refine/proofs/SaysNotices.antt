@@ -1,22 +1,11 @@
 -- Notices to the servers of a node leave it sound over its log, and what it keeps of a transaction known.
-use Rattle.std.proofs.Common.{◌≡◌, List, [], ◌∷◌, fold, Some, refl, ◌∙◌}
-use Rattle.std.specs.BTreeMap.{is_at}
-use Rattle.qs_base.specs.Order.{tid_cmp}
+use Rattle.qs_world_refine.proofs.Words.{◌≡◌, List, [], ◌∷◌, fold, Some, refl, ◌∙◌, is_at, tid_cmp, ServerNo, Tid, after_notice, aborted_participant, record_of, writes_commit, Manager, InLog, Participant, notify, end_member, due_endings, end_members, learn_member, learners_at, learn_members, give_notices, Work, part_of, with_manager, change_server, SaysOn}
 use Rattle.qs_base.specs.declared.identifiers.Outcome.{Outcome}
 use Rattle.qs_base.specs.declared.identifiers.Outcome.TheVariants as outcomes
-use Rattle.qs_base.specs.declared.identifiers.ServerNo.{ServerNo}
-use Rattle.qs_base.specs.declared.identifiers.Tid.{Tid}
-use Rattle.qs_ops.specs.Server.{after_notice}
 use Rattle.qs_ops.specs.declared.vote.Notice.{Notice}
 use Rattle.qs_tm.specs.Manager as tm
 use Rattle.qs_tm.specs.Outcomes as outcome_rules
-use Rattle.qs_tm.specs.Outcomes.{aborted_participant, record_of, writes_commit}
-use Rattle.qs_tm.specs.declared.manager.Manager.{Manager}
-use Rattle.qs_tm.specs.declared.participant.InLog.{InLog}
-use Rattle.qs_tm.specs.declared.participant.Participant.{Participant}
-use Rattle.qs_node_step.specs.Deciding.{notice_of, notify, end_member, due_endings, end_members, learn_member, learners_at, learn_members, give_notices}
-use Rattle.qs_node_step.specs.State.{Work, part_of, with_manager, change_server}
-use Rattle.qs_world_refine.specs.SaidLaws.{SaysOn}
+use Rattle.qs_node_step.specs.Deciding.{notice_of}
 use Rattle.qs_world_refine.proofs.Maps.{lookup_changed}
 use Rattle.qs_world_refine.proofs.SaysOn.{on_then, fold_on, enter_on, server_on, part_on}
 

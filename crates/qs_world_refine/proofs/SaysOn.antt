@@ -1,42 +1,10 @@
 -- Pieces of a step that leave a node sound over its log, one after another.
-use Rattle.std.proofs.Common.{◌≡◌, ℕ, ◌<◌, ◌||◌, Bool, true, false, List, [], ◌∷◌, ◌++◌, fold, Option, Some, None, is_some, refl, sym, ap, subst, ◌∙◌, arith, if◌then◌else◌}
-use Rattle.std.specs.Map.{lookup, set_value}
-use Rattle.std.specs.BTreeMap.{is_at}
-use Rattle.std.proofs.lemmas.Bool.Decides.{nat_tests}
-use Rattle.std.specs.List.{list_all, list_any}
-use Rattle.std.proofs.lemmas.List.Folds.{list_all-append, list_any-append}
-use Rattle.std.proofs.lemmas.List.Sums.{fold-append}
-use Rattle.qs_base.specs.Order.{same_tid, tid_cmp}
-use Rattle.qs_base.specs.declared.identifiers.ClientNo.{ClientNo}
-use Rattle.qs_base.specs.declared.identifiers.NodeNo.{NodeNo}
-use Rattle.qs_base.specs.declared.identifiers.ServerNo.{ServerNo}
-use Rattle.qs_base.specs.declared.identifiers.Tid.{Tid}
-use Rattle.qs_engage.specs.Nodes.{has_node, no_nodes}
-use Rattle.qs_engage.specs.declared.nodes.Nodes.{Nodes}
-use Rattle.qs_ipc.specs.Ipc.{IpcValue}
+use Rattle.qs_world_refine.proofs.Words.{◌≡◌, ℕ, ◌<◌, ◌||◌, Bool, true, false, List, [], ◌∷◌, ◌++◌, fold, Option, Some, None, is_some, refl, sym, ap, subst, ◌∙◌, arith, if◌then◌else◌, lookup, set_value, is_at, nat_tests, list_all, list_any, list_all-append, list_any-append, fold-append, same_tid, tid_cmp, ClientNo, NodeNo, ServerNo, Tid, no_nodes, Nodes, IpcValue, Kept, ServerValue, Answer, Message, Record, Recovery, found_record, changed_value, InLog, Participant, enter, send, send_next}
+use Rattle.qs_world_refine.proofs.Words.{send_each, answer, is_other, is_forced, Work, with_manager, with_queues, with_kept, with_doings, change_server, client_cmp, Doings, OpenCommand, lists_others, no_flags, flags_at, AreSaid, SaysOn, node_no, Setting, same_node, is_whole_log, AreListed, tell_at, tell_of_part, is_open_in_run, commands_in_run, or_assoc, false-or}
+use Rattle.qs_engage.specs.Nodes.{has_node}
 use Rattle.qs_book_journal.specs.declared.entry.Act.{Act}
-use Rattle.qs_node_kept.specs.declared.kept.Kept.{Kept}
-use Rattle.qs_ops.specs.Server.{ServerValue}
-use Rattle.qs_ops.specs.declared.answer.Answer.{Answer}
-use Rattle.qs_packet.specs.declared.message.Message.{Message}
-use Rattle.qs_record.specs.declared.record.Record.{Record}
-use Rattle.qs_restart.specs.Recovery.{Recovery, found_record}
 use Rattle.qs_tm.specs.Manager as tm
-use Rattle.qs_tm.specs.Manager.{changed_value}
-use Rattle.qs_tm.specs.declared.participant.InLog.{InLog}
-use Rattle.qs_tm.specs.declared.participant.Participant.{Participant}
-use Rattle.qs_node_step.specs.Bringing.{enter, send, send_next, send_each, answer, is_other, is_forced}
-use Rattle.qs_node_step.specs.State.{Work, with_manager, with_queues, with_kept, with_doings, change_server, client_cmp}
-use Rattle.qs_node_step.specs.declared.state.Doings.{Doings}
-use Rattle.qs_node_step.specs.declared.state.OpenCommand.{OpenCommand}
-use Rattle.qs_world_refine.specs.SaidLaws.{lists_others, no_flags, flags_at, AreSaid, SaysOn}
-use Rattle.qs_world_refine.specs.Links.{node_no}
-use Rattle.qs_node_step.specs.declared.setting.Setting.{Setting}
-use Rattle.qs_engage.specs.Nodes.{same_node}
 use Rattle.qs_world_refine.proofs.DoubtsBefore.{own_then}
-use Rattle.qs_world.specs.Openings.{is_whole_log}
-use Rattle.qs_world_refine.specs.Lists.{AreListed, tell_at, tell_of_part}
-use Rattle.qs_world_refine.specs.SoundSteps.{is_open_in_run, commands_in_run}
 use Rattle.qs_world_refine.proofs.Maps.{lookup_put}
 use Rattle.qs_world_refine.proofs.Others.{put_apart}
 use Rattle.qs_world_refine.proofs.Sending.{append_nil}
@@ -49,20 +17,12 @@ pub append_three : {A : Type 0} (xs ys zs : List A) → (xs ++ ys) ++ zs ≡ xs 
 append_three [] ys zs = refl
 append_three (x ∷ xs) ys zs = ap (λ (l : List _). x ∷ l) (append_three xs ys zs)
 
-or_more : (a b c : Bool) → ((a || b) || c) ≡ (a || (b || c))
-or_more true b c = refl
-or_more false b c = refl
-
-or_none : (a : Bool) → a ≡ (a || false)
-or_none true = refl
-or_none false = refl
-
 pub on_then : {a b c : Work} → SaysOn a b → SaysOn b c → SaysOn a c
 on_then {a} {b} {c} first second = record {
   setting = second.setting ∙ first.setting;
   more = first.more ++ second.more;
   records = second.records ∙ (ap (λ (l : List Record). l ++ second.more) first.records ∙ append_three a.out.records first.more second.more);
-  forced = second.forced ∙ (ap (λ (f : Bool). f || list_any is_forced second.more) first.forced ∙ (or_more a.out.force (list_any is_forced first.more) (list_any is_forced second.more)
+  forced = second.forced ∙ (ap (λ (f : Bool). f || list_any is_forced second.more) first.forced ∙ (or_assoc a.out.force (list_any is_forced first.more) (list_any is_forced second.more)
       ∙ ap (λ (f : Bool). a.out.force || f) (sym (list_any-append is_forced first.more second.more))));
   commands = λ is. second.commands (first.commands is);
   own = λ said is t off any. own_then t first.more second.more said (first.own said is t off) (second.own (fold found_record said first.more) (first.said said is) t (subst (λ (s : Setting). same_node t.home s.node ≡ false) (sym first.setting) off)) any;
@@ -99,7 +59,7 @@ two_on work new rest same tells = record {
   others = refl;
   own = λ said is t off any. absurd (cc (any));
   records = rest.records ∙ sym (append_nil work.out.records);
-  forced = rest.force ∙ or_none work.out.force;
+  forced = rest.force ∙ false-or work.out.force;
   commands = rest.commands;
   said = λ said is tid. record { prepared = (same tid).0 ∙ (is tid).prepared; listed = (same tid).1 ∙ (is tid).listed };
   lists = tells;

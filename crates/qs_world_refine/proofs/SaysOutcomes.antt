@@ -1,47 +1,24 @@
 -- Decisions, outcomes that are told, and inquiries leave a node sound over its log.
-use Rattle.std.proofs.Common.{◌≡◌, inl, inr, ◌==◌, ◌&&◌, ◌||◌, not, Bool, true, false, List, [], ◌∷◌, fold, Option, Some, None, is_some, refl, sym, ap, subst, ◌∙◌, arith, if◌then◌else◌, is_none, ℕ, ◌<◌}
-use Rattle.std.specs.List.{list_all, list_any}
-use Rattle.std.specs.BTreeMap.{is_at}
-use Rattle.qs_base.specs.Order.{same_tid, tid_cmp}
-use Rattle.qs_base.specs.declared.identifiers.NodeNo.{NodeNo}
+use Rattle.qs_world_refine.proofs.Words.{◌≡◌, inl, inr, ◌==◌, ◌&&◌, ◌||◌, not, Bool, true, false, List, [], ◌∷◌, fold, Option, Some, None, is_some, refl, sym, ap, subst, ◌∙◌, arith, if◌then◌else◌, is_none, ℕ, ◌<◌, list_all, list_any, is_at, same_tid, tid_cmp, NodeNo, Tid, listed, same_node, no_nodes, Cause, Record, aborted_participant, record_of, writes_commit, is_undecided, Decision, InLog, Participant, was_committed, answer_unknown, answer_known, inquiry_came, log, log_if, tid_of, learners_at}
+use Rattle.qs_world_refine.proofs.Words.{give_notices, keep_outcome, decide, decide_commit, Work, here, part_of, with_manager, names_at, end_record, record_learnt, learn, learn_unknown, take_outcome, tell_came, forget, end_told, take_told, take_names, keep_abort_told, is_other_node, told_unknown, told_known, told_at_home, told_came, no_flags, flags_at, SaysOn, in_order, list_of, is_in_run, tell_at, tell_of_part, names_node, node_no, Nodes, is_untold_of}
 use Rattle.qs_base.specs.declared.identifiers.Outcome.{Outcome}
 use Rattle.qs_base.specs.declared.identifiers.Outcome.TheVariants as outcomes
-use Rattle.qs_base.specs.declared.identifiers.Tid.{Tid}
-use Rattle.qs_engage.specs.Nodes.{listed, same_node, has_node, no_nodes}
-use Rattle.qs_ops.specs.declared.answer.Cause.{Cause}
+use Rattle.qs_engage.specs.Nodes.{has_node}
 use Rattle.qs_ops.specs.declared.answer.Cause.TheVariants as causes
 use Rattle.qs_packet.specs.declared.message.Message.TheVariants as messages
-use Rattle.qs_record.specs.declared.record.Record.{Record}
 use Rattle.qs_record.specs.declared.record.Record.TheVariants as records
 use Rattle.qs_tm.specs.Manager as tm
 use Rattle.qs_tm.specs.Outcomes as outcome_rules
-use Rattle.qs_tm.specs.Outcomes.{aborted_participant, record_of, writes_commit}
 use Rattle.qs_tm.specs.Participant as participant
-use Rattle.qs_tm.specs.Participant.{is_undecided}
-use Rattle.qs_tm.specs.declared.manager.Decision.{Decision}
-use Rattle.qs_tm.specs.declared.participant.InLog.{InLog}
-use Rattle.qs_tm.specs.declared.participant.Participant.{Participant}
-use Rattle.qs_node_step.specs.Answering.{was_committed, answer_unknown, answer_known, inquiry_came}
-use Rattle.qs_node_step.specs.Bringing.{log, log_if, tid_of}
-use Rattle.qs_node_step.specs.Deciding.{learners_at, give_notices, keep_outcome, decide, decide_commit}
-use Rattle.qs_node_step.specs.State.{Work, here, part_of, with_manager}
-use Rattle.qs_node_step.specs.Telling.{names_at, end_record, record_learnt, learn, learn_unknown, take_outcome, tell_came, forget, end_told, take_told, take_names, keep_abort_told, is_other_node, told_unknown, told_known, told_at_home, told_came}
-use Rattle.qs_world_refine.specs.SaidLaws.{no_flags, flags_at, SaysOn}
-use Rattle.qs_world_refine.specs.Sound.{in_order}
 use Rattle.qs_world_refine.proofs.Forgetting.{forgotten, order_changed}
 use Rattle.qs_world_refine.proofs.Maps.{lookup_changed}
 use Rattle.qs_world_refine.proofs.Others.{forget_apart}
 use Rattle.qs_world_refine.proofs.SaysLogs.{CommitsOwn, MayLog, ListsIt, lists_told, log_on, log_if_on, flags_logged}
 use Rattle.qs_world_refine.proofs.SaysOn.{on_itself, on_then, if_on, rest_on, two_on, grown_on, KeepsTelling, enter_on, send_on, sends_on, queues_on, part_on, absent_on}
 use Rattle.qs_world_refine.proofs.SoundKnown.{same_is}
-use Rattle.qs_world_refine.specs.Sights.{list_of}
 use Rattle.qs_world.specs.Openings as openings
-use Rattle.qs_world.specs.Openings.{is_in_run}
-use Rattle.qs_world_refine.specs.Lists.{is_commit, tell_at, tell_of_part}
-use Rattle.qs_world_refine.specs.Links.{names_node, node_no}
+use Rattle.qs_world_refine.specs.Lists.{is_commit}
 use Rattle.qs_world_refine.proofs.NodeLists.{listed_within, listed_names, unlisted}
-use Rattle.qs_engage.specs.declared.nodes.Nodes.{Nodes}
-use Rattle.qs_restart.specs.Recovery.{is_untold_of}
 use Rattle.qs_world_refine.proofs.SaysNotices.{IsKnown, IsLoggedAs, learns_logged, notices_known, notices_on, part_known, part_logged}
 use Rattle.qs_world_refine.proofs.SaysTells.{NotCommitted, open_of, nobody_told, names_grow, tell_grows}
 

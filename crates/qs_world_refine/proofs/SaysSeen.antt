@@ -1,20 +1,8 @@
 -- The test of a node over its log says of each transaction that its flags are what the log says.
-use Rattle.std.proofs.Common.{◌≡◌, inl, inr, ◌&&◌, ◌||◌, not, Bool, true, false, List, [], ◌∷◌, Option, Some, None, is_some, refl, sym, ap, subst, ◌∙◌, arith}
-use Rattle.std.specs.List.{list_all, list_any}
-use Rattle.std.specs.Map.{lookup}
-use Rattle.std.specs.BTreeMap.{is_at}
-use Rattle.std.specs.declared.cmp.Ordering.{Ordering}
-use Rattle.std.specs.declared.cmp.Ordering.TheVariants.{Less, Equal, Greater}
-use Rattle.std.proofs.lemmas.Bool.Decides.{nat_tests}
-use Rattle.qs_base.specs.Order.{tid_cmp}
-use Rattle.qs_base.specs.declared.identifiers.Tid.{Tid}
-use Rattle.qs_restart.specs.Recovery.{Prepared, Untold, Recovery, is_untold_of}
+use Rattle.qs_world_refine.proofs.Words.{◌≡◌, inl, inr, ◌&&◌, ◌||◌, not, Bool, true, false, List, [], ◌∷◌, Option, Some, None, is_some, refl, sym, ap, subst, ◌∙◌, arith, list_all, list_any, lookup, is_at, Ordering, Less, Equal, Greater, nat_tests, tid_cmp, Tid, Prepared, Untold, Recovery, is_untold_of, InLog, Participant, NodeValue, no_flags, flags_at, IsSaid, AreSaid, in_order, same_flag, has_doubt, or_right, or_left}
 use Rattle.qs_tm.specs.Manager as tm
-use Rattle.qs_tm.specs.declared.participant.InLog.{InLog}
-use Rattle.qs_tm.specs.declared.participant.Participant.{Participant}
-use Rattle.qs_node_step.specs.State.{NodeValue}
-use Rattle.qs_world_refine.specs.SaidLaws.{no_flags, flags_at, IsSaid, AreSaid, SaidSeen, SeenSaid}
-use Rattle.qs_world_refine.specs.Sound.{in_order, same_flag, has_doubt, is_logged, is_known_vote, is_known_commit}
+use Rattle.qs_world_refine.specs.SaidLaws.{SaidSeen, SeenSaid}
+use Rattle.qs_world_refine.specs.Sound.{is_logged, is_known_vote, is_known_commit}
 use Rattle.qs_world_refine.proofs.Doubts.{is_doubt_of}
 use Rattle.qs_world_refine.proofs.Forgetting.{none_behind}
 use Rattle.qs_world_refine.proofs.SoundKnown.{same_is}
@@ -117,12 +105,8 @@ module _ (node : NodeValue) (said : Recovery) (all : AreSaid node said) where
 
   known_votes : (votes : List Prepared) → ((tid : Tid) → list_any (is_doubt_of tid) votes ≡ true → tm.knows tid node.manager ≡ true) → list_all (is_known_vote node) votes ≡ true
   known_votes [] each = refl
-  known_votes (v ∷ votes) each = both_and (is_known_vote node v) (list_all (is_known_vote node) votes) (by v.committed refl) (known_votes votes (λ tid some. each tid (last (is_doubt_of tid v) (list_any (is_doubt_of tid) votes) some)))
+  known_votes (v ∷ votes) each = both_and (is_known_vote node v) (list_all (is_known_vote node) votes) (by v.committed refl) (known_votes votes (λ tid some. each tid (or_right (is_doubt_of tid v) (list_any (is_doubt_of tid) votes) some)))
     where
-      last : (a b : Bool) → b ≡ true → (a || b) ≡ true
-      last true b is = refl
-      last false b is = is
-
       first : (a b c : Bool) → a ≡ true → c ≡ false → ((a && not c) || b) ≡ true
       first a b c is off = rw (is, off) refl
 
@@ -132,14 +116,7 @@ module _ (node : NodeValue) (said : Recovery) (all : AreSaid node said) where
 
   known_commits : (commits : List Untold) → ((tid : Tid) → list_any (is_untold_of tid) commits ≡ true → tm.knows tid node.manager ≡ true) → list_all (is_known_commit node) commits ≡ true
   known_commits [] each = refl
-  known_commits (c ∷ commits) each = both_and (is_known_commit node c) (list_all (is_known_commit node) commits) (each c.tid (first (is_untold_of c.tid c) (list_any (is_untold_of c.tid) commits) (grind (arith, nat_tests)))) (known_commits commits (λ tid some. each tid (last (is_untold_of tid c) (list_any (is_untold_of tid) commits) some)))
-    where
-      last : (a b : Bool) → b ≡ true → (a || b) ≡ true
-      last true b is = refl
-      last false b is = is
-
-      first : (a b : Bool) → a ≡ true → (a || b) ≡ true
-      first a b is = rw is refl
+  known_commits (c ∷ commits) each = both_and (is_known_commit node c) (list_all (is_known_commit node) commits) (each c.tid (or_left (is_untold_of c.tid c) (list_any (is_untold_of c.tid) commits) (grind (arith, nat_tests)))) (known_commits commits (λ tid some. each tid (or_right (is_untold_of tid c) (list_any (is_untold_of tid) commits) some)))
 
 pub seen_said : SeenSaid
 seen_said node said sound all = both_and (list_all (is_logged said) node.manager.known) (list_all (is_known_vote node) said.prepared && list_all (is_known_commit node) said.untold)

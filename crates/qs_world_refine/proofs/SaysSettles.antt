@@ -1,41 +1,17 @@
 -- What a node does of itself at the end of a step, and as another one or itself restarted, leaves it sound over its log.
-use Rattle.std.proofs.Common.{◌≡◌, inr, ℕ, ◌==◌, ◌&&◌, ◌||◌, not, Bool, true, false, List, [], ◌∷◌, fold, Option, Some, None, is_none, refl, sym, ap, subst, ◌∙◌, if◌then◌else◌}
-use Rattle.std.specs.List.{list_all}
-use Rattle.qs_base.specs.declared.identifiers.NodeNo.{NodeNo}
+use Rattle.qs_world_refine.proofs.Words.{◌≡◌, inr, ℕ, ◌==◌, ◌&&◌, ◌||◌, not, Bool, true, false, List, [], ◌∷◌, fold, Option, Some, None, is_none, refl, sym, ap, subst, ◌∙◌, if◌then◌else◌, list_all, NodeNo, ServerNo, Tid, release_of, listed, is_no_node, same_node, after_vote, changes_in, vote_of, Cause, Note, Vote, server_at, audit_no, files_no, is_abort, is_undecided, is_forgotten, InLog, Participant, member_here, decide, decide_commit, end_members, find_gone, inquire, notice_decided, notice_part}
+use Rattle.qs_world_refine.proofs.Words.{notice_tid, peer_restarted, resume_home, resume_part, resume_tid, known_tids, begin_incarnation, is_pass_due, pass_rule, may_answer, is_quiet, say_yes, ready_rule, refusal_goes_to, send_refusal, refuse_rule, forget_rule, try, settle_tid, due_tids, settle, Work, here, part_of, doings_of, with_node, with_manager, with_queues, with_doings, change_server, record_learnt, end_record, owes_note, issue_note, note_text, change_count, served_count, enter_vote}
+use Rattle.qs_world_refine.proofs.Words.{vote_with, vote_frame, vote_next, due_votes, vote_pass, is_in_run, no_flags, flags_at, SaysOn, is_sound, same_flag, where_so, same_Some, and_right, not-true}
 use Rattle.qs_base.specs.declared.identifiers.Outcome.{Outcome}
 use Rattle.qs_base.specs.declared.identifiers.Outcome.TheVariants as outcomes
-use Rattle.qs_base.specs.declared.identifiers.ServerNo.{ServerNo}
-use Rattle.qs_base.specs.declared.identifiers.Tid.{Tid}
-use Rattle.qs_engage.specs.Engage.{release_of}
-use Rattle.qs_engage.specs.Nodes.{listed, is_no_node, same_node}
 use Rattle.qs_ipc.specs.Ipc as ipc
-use Rattle.qs_ops.specs.Server.{after_vote, changes_in, vote_of}
-use Rattle.qs_ops.specs.declared.answer.Cause.{Cause}
 use Rattle.qs_ops.specs.declared.answer.Cause.TheVariants as causes
-use Rattle.qs_ops.specs.declared.operation.Op.TheVariants.{Note}
-use Rattle.qs_ops.specs.declared.vote.Vote.{Vote}
 use Rattle.qs_ops.specs.declared.vote.Vote.TheVariants as votes
 use Rattle.qs_packet.specs.declared.message.Message.TheVariants as messages
 use Rattle.qs_record.specs.declared.record.Record.TheVariants as records
-use Rattle.qs_node_servers.specs.Servers.{server_at, audit_no}
 use Rattle.qs_tm.specs.Manager as tm
-use Rattle.qs_tm.specs.Members.{files_no}
-use Rattle.qs_tm.specs.Outcomes.{is_abort}
 use Rattle.qs_tm.specs.Participant as participant
-use Rattle.qs_tm.specs.Participant.{is_undecided, is_forgotten}
-use Rattle.qs_tm.specs.declared.participant.InLog.{InLog}
-use Rattle.qs_tm.specs.declared.participant.Participant.{Participant}
-use Rattle.qs_node_step.specs.Bringing.{member_here}
-use Rattle.qs_node_step.specs.Deciding.{decide, decide_commit, end_members}
-use Rattle.qs_node_step.specs.Restarts.{find_gone, inquire, notice_decided, notice_part, notice_tid, peer_restarted, resume_home, resume_part, resume_tid, known_tids, begin_incarnation}
-use Rattle.qs_node_step.specs.Settling.{is_pass_due, pass_rule, may_answer, is_quiet, say_yes, ready_rule, refusal_goes_to, send_refusal, refuse_rule, forget_rule, try, settle_tid, due_tids, settle}
-use Rattle.qs_node_step.specs.State.{Work, here, part_of, doings_of, with_node, with_manager, with_queues, with_doings, change_server}
-use Rattle.qs_node_step.specs.Telling.{record_learnt, end_record}
-use Rattle.qs_node_step.specs.Voting.{owes_note, issue_note, note_text, change_count, served_count, enter_vote, vote_with, vote_frame, vote_next, due_votes, vote_pass}
 use Rattle.qs_world.specs.Openings as openings
-use Rattle.qs_world.specs.Openings.{is_in_run}
-use Rattle.qs_world_refine.specs.SaidLaws.{no_flags, flags_at, SaysOn}
-use Rattle.qs_world_refine.specs.Sound.{is_sound, same_flag, where_so}
 use Rattle.qs_world_refine.proofs.SaysLogs.{CommitsOwn, ListsIt, log_on, log_if_on}
 use Rattle.qs_world_refine.proofs.SaysOn.{on_itself, on_then, fold_on, if_on, rest_on, enter_on, send_on, sends_on, queues_on, doings_on, server_on, part_on}
 use Rattle.qs_world_refine.proofs.SaysNotices.{IsKnown, part_known, end_members_on, notices_on, notices_known}
@@ -119,23 +95,16 @@ module _ (tid : Tid) (part : Participant) (work : Work) (known : part_of tid wor
       nowhere None is = refl
       nowhere (Some outcome) is = absurd (cc (is))
 
-      off : (a b : Bool) → b ≡ false → (a && b) ≡ false
-      off true b is = is
-      off false b is = refl
-
       unlisted_yet : part.log.listed ≡ false
       unlisted_yet =
           let rest = (and_both (where_so (part.log.prepared || part.log.listed) part.log.unended) _ s.logged).1 in
           let drawn : (where_so part.log.prepared part.involved ≡ true) × _ = and_both (where_so part.log.prepared part.involved) _ rest in
           let lists : (where_so part.log.listed (part.engage.home && (Rattle.std.proofs.Common.is_some part.outcome && not (is_abort part.outcome))) ≡ true) × _ = and_both (where_so part.log.listed (part.engage.home && (Rattle.std.proofs.Common.is_some part.outcome && not (is_abort part.outcome)))) _ drawn.1 in
-          unless part.log.listed _ (off part.engage.home _ (nowhere part.outcome open_now)) lists.0
+          unless part.log.listed _ (and_right part.engage.home _ (nowhere part.outcome open_now)) lists.0
 
       may_list : part.engage.home ≡ true → MayList tid outcomes.Commit work
-      may_list home _ other its = subst (λ (p : Participant). (p.log.listed ≡ false) × ((list_all (is_in_run 16) (listed p.told) ≡ true) × ((not (openings.has_node (listed p.told) tid.home) ≡ true) × (same_node tid.home (here work) ≡ true)))) (one part other (sym known ∙ its)) (unlisted_yet, (told_nodes part, (names_others part.told tid.home s.outside, at_home)))
+      may_list home _ other its = subst (λ (p : Participant). (p.log.listed ≡ false) × ((list_all (is_in_run 16) (listed p.told) ≡ true) × ((not (openings.has_node (listed p.told) tid.home) ≡ true) × (same_node tid.home (here work) ≡ true)))) (same_Some part other (sym known ∙ its)) (unlisted_yet, (told_nodes part, (names_others part.told tid.home s.outside, at_home)))
         where
-          one : (a b : Participant) → Some a ≡ Some b → a ≡ b
-          one a b same = cc (same)
-
           flagged : (a b : Bool) → same_flag a b ≡ true → a ≡ true → b ≡ true
           flagged true true same on = refl
           flagged true false same on = absurd (cc (same))
@@ -166,10 +135,6 @@ module _ (tid : Tid) (part : Participant) (work : Work) (known : part_of tid wor
       s : PartSound work.node tid part
       s = known_sound tid work.node part known sound
 
-      off : (a : Bool) → not a ≡ true → a ≡ false
-      off true is = absurd (cc (is))
-      off false is = refl
-
       unless : (c b : Bool) → b ≡ false → where_so c b ≡ true → c ≡ false
       unless true b none is = absurd (cc (none, is))
       unless false b none is = refl
@@ -182,7 +147,7 @@ module _ (tid : Tid) (part : Participant) (work : Work) (known : part_of tid wor
           let rest = (and_both (where_so (part.log.prepared || part.log.listed) part.log.unended) _ s.logged).1 in
           let drawn : (where_so part.log.prepared part.involved ≡ true) × _ = and_both (where_so part.log.prepared part.involved) _ rest in
           let lists : (where_so part.log.listed (part.engage.home && (Rattle.std.proofs.Common.is_some part.outcome && not (is_abort part.outcome))) ≡ true) × _ = and_both (where_so part.log.listed (part.engage.home && (Rattle.std.proofs.Common.is_some part.outcome && not (is_abort part.outcome)))) _ drawn.1 in
-          (unless part.log.prepared part.involved (off part.involved idle) drawn.0, unless part.log.listed _ (rw (off part.engage.home away) refl) lists.0)
+          (unless part.log.prepared part.involved (not-true part.involved idle) drawn.0, unless part.log.listed _ (rw (not-true part.engage.home away) refl) lists.0)
 
       found : (flag : InLog → Bool) → flag (flags_at tid work.node) ≡ flag part.log
       found flag = ap (λ (o : Option Participant). flag (elim o [ None ↦ no_flags | Some p ↦ p.log ])) known

@@ -1,48 +1,19 @@
 -- Commands, messages and whole steps leave a node sound over its log.
-use Rattle.std.proofs.Common.{◌≡◌, ℕ, ◌+◌, true, List, [], ◌∷◌, Option, Some, None, refl, fold, Bool, if◌then◌else◌, sym, subst, ◌&&◌, false}
-use Rattle.std.specs.List.{list_all}
-use Rattle.std.specs.Map.{lookup, set_value}
-use Rattle.std.specs.BTreeMap.{insert_entry, is_at}
-use Rattle.std.specs.declared.cmp.Ordering.{Ordering}
-use Rattle.std.specs.declared.cmp.Ordering.TheVariants.{Less, Equal, Greater}
-use Rattle.qs_base.specs.declared.identifiers.ClientNo.{ClientNo}
-use Rattle.qs_base.specs.declared.identifiers.Member.{Member}
-use Rattle.qs_base.specs.declared.identifiers.NodeNo.{NodeNo}
+use Rattle.qs_world_refine.proofs.Words.{◌≡◌, ℕ, ◌+◌, true, List, [], ◌∷◌, Option, Some, None, refl, fold, Bool, if◌then◌else◌, sym, subst, ◌&&◌, false, list_all, lookup, set_value, insert_entry, is_at, Ordering, Less, Equal, Greater, ClientNo, Member, NodeNo, Tid, Command, ScriptLine, first_untaken, last_taken, take_first, give_back, Decided, Lent, Op, Message, begun_participant, is_undecided, BeginFault, Participant, kept_outcome, is_void, take, take_command, yield, lent_command, with_loan}
+use Rattle.qs_world_refine.proofs.Words.{loan_command, borrower_command, begin_as, begin_or_refuse, begin_command, request_as, request_command, with_issued, enter_ask, ask, open_command, decided_answer, owner_command, enter, decide, next_number, label_at, put_label, Work, with_manager, change_server, client_cmp, is_owner, labelled, obey, with_command, command_came, message_came, abort_old, age_rule, tick, happen, owner_waits, borrower_waits, wait_command, wait_on, waiting_clients, answer_waiting}
+use Rattle.qs_world_refine.proofs.Words.{Issued, OpenCommand, SaysOn, BeginsNew, in_order, goes_in_run, where_so, MayHappen, is_open_in_run, commands_in_run, Which, is_one}
 use Rattle.qs_base.specs.declared.identifiers.Outcome.TheVariants as outcomes
-use Rattle.qs_base.specs.declared.identifiers.Tid.{Tid}
-use Rattle.qs_book_journal.specs.declared.script_line.Command.{Command}
 use Rattle.qs_book_journal.specs.declared.script_line.Command.TheVariants as commands
-use Rattle.qs_book_journal.specs.declared.script_line.ScriptLine.{ScriptLine}
-use Rattle.qs_node_kept.specs.Loans.{first_untaken, last_taken, take_first, give_back}
 use Rattle.qs_node_kept.specs.declared.kept.KeptLabel.{KeptLabel}
-use Rattle.qs_node_kept.specs.declared.kept.Decided.{Decided}
-use Rattle.qs_node_kept.specs.declared.kept.Lent.{Lent}
 use Rattle.qs_ops.specs.declared.answer.Answer.TheVariants as answers
 use Rattle.qs_ops.specs.declared.answer.Cause.TheVariants as causes
-use Rattle.qs_ops.specs.declared.operation.Op.{Op}
-use Rattle.qs_packet.specs.declared.message.Message.{Message}
 use Rattle.qs_packet.specs.declared.message.Message.TheVariants as messages
 use Rattle.qs_tm.specs.Manager as tm
-use Rattle.qs_tm.specs.Participant.{begun_participant, is_undecided}
-use Rattle.qs_tm.specs.declared.manager.BeginFault.{BeginFault}
 use Rattle.qs_tm.specs.declared.manager.BeginFault.TheVariants as faults
-use Rattle.qs_tm.specs.declared.participant.Participant.{Participant}
-use Rattle.qs_node_step.specs.Answering.{kept_outcome}
-use Rattle.qs_node_step.specs.Borrowing.{is_aborted, is_void, take, take_command, yield, lent_command, with_loan, loan_command, borrower_command}
-use Rattle.qs_node_step.specs.Commands.{begin_as, begin_or_refuse, begin_command, request_as, request_command, with_issued, enter_ask, ask, open_command, decided_answer, owner_command}
-use Rattle.qs_node_step.specs.Bringing.{enter}
-use Rattle.qs_node_step.specs.Deciding.{decide}
-use Rattle.qs_node_step.specs.Requests.{next_number}
-use Rattle.qs_node_step.specs.Serving.{label_at, put_label}
-use Rattle.qs_node_step.specs.State.{Work, with_manager, change_server, client_cmp}
-use Rattle.qs_node_step.specs.Step.{is_owner, labelled, obey, with_command, command_came, message_came, abort_old, age_rule, tick, happen, owner_waits, borrower_waits, waits_at, wait_command, wait_on, waiting_clients, answer_waiting}
+use Rattle.qs_node_step.specs.Borrowing.{is_aborted}
+use Rattle.qs_node_step.specs.Step.{waits_at}
 use Rattle.qs_node_step.specs.declared.event.Event.{Event}
 use Rattle.qs_node_step.specs.declared.event.Event.TheVariants as events
-use Rattle.qs_node_step.specs.declared.state.Issued.{Issued}
-use Rattle.qs_node_step.specs.declared.state.OpenCommand.{OpenCommand}
-use Rattle.qs_world_refine.specs.SaidLaws.{SaysOn, BeginsNew}
-use Rattle.qs_world_refine.specs.Sound.{in_order, goes_in_run, where_so}
-use Rattle.qs_world_refine.specs.SoundSteps.{MayHappen, is_open_in_run, commands_in_run}
 use Rattle.qs_world_refine.proofs.SaysOn.{on_itself, on_then, fold_on, if_on, rest_on, enter_on, answer_on, kept_on, doings_on, put_on, plain_on}
 use Rattle.qs_world_refine.proofs.SaysOutcomes.{aborts_none, decide_on, tell_came_on, told_came_on, inquiry_came_on}
 use Rattle.qs_world_refine.proofs.SaysRules.{issue_as_on, reply_came_on, request_came_on, serve_all_on, become_asked_on, undecided_on, ask_came_on, closer_came_on, refusal_came_on}
@@ -52,8 +23,6 @@ use Rattle.qs_world_refine.proofs.SoundStep.{all_changed}
 use Rattle.qs_world_refine.proofs.SoundHolds.{told_part}
 use Rattle.qs_world_refine.proofs.SoundFrames.{behind, order_tail}
 use Rattle.qs_world_refine.proofs.SoundAge.{picked, put_all, all_fit, is_home_open, is_open_at, still_fits, fits_on}
-use Rattle.qs_tm.specs.declared.manager.Which.{Which}
-use Rattle.qs_tm.specs.Manager.{is_one}
 use Rattle.qs_tm.specs.declared.manager.Which.TheVariants as whiches
 use Rattle.qs_world_refine.proofs.SaysTells.{NotCommitted, open_commit, open_of}
 

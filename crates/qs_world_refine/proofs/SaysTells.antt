@@ -1,15 +1,9 @@
 -- Whom a node is to tell a commit: nobody where it knows none, and more as it goes on.
-use Rattle.std.proofs.Common.{◌≡◌, ℕ, ◌<◌, ◌||◌, Bool, true, false, List, Option, Some, None, is_none, refl, sym, ap, subst, ◌∙◌, if◌then◌else◌}
-use Rattle.qs_base.specs.declared.identifiers.NodeNo.{NodeNo}
+use Rattle.qs_world_refine.proofs.Words.{◌≡◌, ℕ, ◌<◌, ◌||◌, Bool, true, false, List, Option, Some, None, is_none, refl, sym, ap, subst, ◌∙◌, if◌then◌else◌, NodeNo, Tid, no_nodes, put_node, union, is_undecided, Participant, Work, part_of, node_no, tell_of_part, same_Some, or_left}
 use Rattle.qs_base.specs.declared.identifiers.Outcome.{Outcome}
-use Rattle.qs_base.specs.declared.identifiers.Tid.{Tid}
-use Rattle.qs_engage.specs.Nodes.{has_node, no_nodes, put_node, union}
+use Rattle.qs_engage.specs.Nodes.{has_node}
 use Rattle.qs_tm.specs.Outcomes as outcome_rules
-use Rattle.qs_tm.specs.Participant.{is_undecided}
-use Rattle.qs_tm.specs.declared.participant.Participant.{Participant}
-use Rattle.qs_node_step.specs.State.{Work, part_of}
-use Rattle.qs_world_refine.specs.Links.{node_no}
-use Rattle.qs_world_refine.specs.Lists.{is_commit, tell_of_part}
+use Rattle.qs_world_refine.specs.Lists.{is_commit}
 use Rattle.qs_world_refine.proofs.NodeLists.{put_grows}
 use Rattle.qs_world_refine.proofs.NodeTests.{where_is}
 use Rattle.qs_world_refine.proofs.StartWorlds.{nobody}
@@ -23,10 +17,7 @@ open_commit None is = refl
 open_commit (Some outcome) is = absurd (cc (is))
 
 pub open_of : (tid : Tid) (work : Work) (part : Participant) → part_of tid work ≡ Some part → is_undecided part ≡ true → NotCommitted tid work
-open_of tid work part known open_now other its = subst (λ (p : Participant). is_commit p.outcome ≡ false) (one part other (sym known ∙ its)) (open_commit part.outcome open_now)
-  where
-    one : (a b : Participant) → Some a ≡ Some b → a ≡ b
-    one a b same = cc (same)
+open_of tid work part known open_now other its = subst (λ (p : Participant). is_commit p.outcome ≡ false) (same_Some part other (sym known ∙ its)) (open_commit part.outcome open_now)
 
 -- so nobody is to be told that
 pub nobody_told : (part : Participant) → is_commit part.outcome ≡ false → (m : ℕ) → has_node (tell_of_part part) (node_no m) ≡ true → ⊥
@@ -35,10 +26,7 @@ nobody_told part off m has = let none : has_node (tell_of_part part) (node_no m)
 -- whom it is to tell goes on
 pub names_grow : (tid : Tid) (further : List NodeNo) (part : Participant) (b : Bool) (m : ℕ) → m < 16 → has_node (if b then part.tell else no_nodes) (node_no m) ≡ true
     → has_node (if b then union part.tell (outcome_rules.new_names tid.home further part) else no_nodes) (node_no m) ≡ true
-names_grow tid further part true m below has = where_is (λ node. has_node part.tell node || has_node (outcome_rules.new_names tid.home further part) node) m below ∙ first (has_node part.tell (node_no m)) (has_node (outcome_rules.new_names tid.home further part) (node_no m)) has
-  where
-    first : (a b : Bool) → a ≡ true → (a || b) ≡ true
-    first a b is = rw is refl
+names_grow tid further part true m below has = where_is (λ node. has_node part.tell node || has_node (outcome_rules.new_names tid.home further part) node) m below ∙ or_left (has_node part.tell (node_no m)) (has_node (outcome_rules.new_names tid.home further part) (node_no m)) has
 names_grow tid further part false m below has = has
 
 pub tell_grows : (peer : NodeNo) (part : Participant) (b : Bool) (m : ℕ) → has_node (if b then part.tell else no_nodes) (node_no m) ≡ true → has_node (if b then put_node part.tell peer else no_nodes) (node_no m) ≡ true

@@ -1,21 +1,11 @@
 -- The nodes of a world sit in their places, where it begins and after each move.
-use Rattle.std.proofs.Common.{◌≡◌, ◌≢◌, ℕ, ◌<◌, ◌≤◌, ◌==◌, ◌&&◌, not, nat_lt, nat_le, Bool, true, false, [], Option, Some, None, refl, sym, ap, subst, ◌∙◌, arith, if◌then◌else◌}
-use Rattle.std.proofs.lemmas.Bool.{eqb-true}
-use Rattle.std.proofs.lemmas.Bool.Decides.{nat_tests}
+use Rattle.qs_world_refine.proofs.Words.{◌≡◌, ◌≢◌, ℕ, ◌<◌, ◌≤◌, ◌==◌, ◌&&◌, not, nat_lt, nat_le, Bool, true, false, [], Option, Some, None, refl, sym, ap, subst, ◌∙◌, arith, if◌then◌else◌, eqb-true, nat_tests, recovered_of, after_step, effects_of, Setting, Source, Commanded, Handed, Queues, Clock, Noticed, Move, Cut, Stop, Rise, event_of, hand_next, taken_by, step_with, cut_with, stepped_host, stopped_host, risen_host, cut_log, may_move, moved, is_later, is_in_order, is_setting, next_parcel}
+use Rattle.qs_world_refine.proofs.Words.{post_all, Host, Parcel, known_of, each_is, node_no, IsSeated, AreSoundOver, BeginsNewAt, MayStep}
 use Rattle.qs_session_channels.specs.Network.{with_at}
-use Rattle.qs_node_step.specs.Opening.{recovered_of}
-use Rattle.qs_node_step.specs.Step.{after_step, effects_of}
 use Rattle.qs_node_step.specs.declared.event.Event.{Event}
-use Rattle.qs_node_step.specs.declared.setting.Setting.{Setting}
-use Rattle.qs_world.specs.Moves.{Source, Commanded, Handed, Queues, Clock, Noticed, Move, Step, Cut, Stop, Rise, Meet, event_of, notice_of, has_begun, hand_next, taken_by, step_with, cut_with, stepped_host, stopped_host, risen_host, cut_log, may_move, moved, is_later, is_in_order}
-use Rattle.qs_world.specs.Openings.{is_setting}
-use Rattle.qs_world.specs.Posting.{next_parcel, post_all}
-use Rattle.qs_world.specs.World.{Host, Parcel, World, known_of}
-use Rattle.qs_world.proofs.Below.{each_is}
-use Rattle.qs_world_refine.specs.Links.{node_no}
-use Rattle.qs_world_refine.specs.MoveLaws.{IsSeated, StartSeated, MoveSeated}
-use Rattle.qs_world_refine.specs.SaidLaws.{AreSoundOver, BeginsNewAt}
-use Rattle.qs_world_refine.specs.SoundMoves.{MayStep}
+use Rattle.qs_world.specs.Moves.{Step, Meet, notice_of, has_begun}
+use Rattle.qs_world.specs.World.{World}
+use Rattle.qs_world_refine.specs.MoveLaws.{StartSeated, MoveSeated}
 use Rattle.qs_world_refine.proofs.Channelled.{IsWell, well_hand, well_notice, well_meet, well_crash, well_restart, well_post}
 use Rattle.qs_world_refine.proofs.Posted.{inc_all}
 use Rattle.qs_world_refine.proofs.Moving.{inc_taken}

@@ -1,19 +1,11 @@
 -- What is seen of a transaction after a restart and a first meeting, from what was seen before it.
-use Rattle.std.proofs.Common.{◌≡◌, inl, inr, ℕ, ◌<◌, ◌≤◌, ◌==◌, ◌&&◌, ◌||◌, Bool, true, false, List, [], ◌++◌, drop, length, map, refl, sym, ap, ◌∙◌, if◌then◌else◌}
-use Rattle.std.proofs.lemmas.Bool.{eqb-true}
-use Rattle.qs_base.specs.declared.identifiers.Tid.{Tid}
-use Rattle.qs_restart.specs.Recovery.{recovery}
+use Rattle.qs_world_refine.proofs.Words.{◌≡◌, inl, inr, ℕ, ◌<◌, ◌≤◌, ◌==◌, ◌&&◌, ◌||◌, Bool, true, false, List, [], ◌++◌, drop, length, map, refl, sym, ap, ◌∙◌, if◌then◌else◌, eqb-true, Tid, recovery, risen_host, reopened, risen, Parcel, all_said, IsSeated, face_at, sight_risen_as, message_of, scene_of, sight, Sight, ShowsSight}
 use Rattle.qs_restart.specs.declared.recovered.Recovered.{Recovered}
-use Rattle.qs_world.specs.Moves.{risen_host, reopened, risen, met}
-use Rattle.qs_world.specs.World.{Parcel, World}
+use Rattle.qs_world.specs.Moves.{met}
+use Rattle.qs_world.specs.World.{World}
 use Rattle.qs_world_agree.specs.World as machine
-use Rattle.qs_world_refine.specs.Messages.{all_said}
 use Rattle.qs_world_refine.specs.MeetingLaws.{sight_met}
-use Rattle.qs_world_refine.specs.MoveLaws.{IsSeated}
-use Rattle.qs_world_refine.specs.NodeFaces.{face_at}
-use Rattle.qs_world_refine.specs.RiseLaws.{sight_risen_as}
-use Rattle.qs_world_refine.specs.Shows.{message_of, scene_of, sight}
-use Rattle.qs_world_refine.specs.Sights.{Sight, ShowsSight, with_at4}
+use Rattle.qs_world_refine.specs.Sights.{with_at4}
 use Rattle.qs_world_refine.proofs.Alike.{SameFace, SameFound, same_itself, found_itself, sight_alike}
 use Rattle.qs_world_refine.proofs.Channelled.{four_at}
 use Rattle.qs_world_refine.proofs.Moving.{drop_none, none_before, knows_as}

@@ -1,27 +1,8 @@
 -- A message of the transaction goes to one node, or to each of a list, where its event may follow for each.
-use Rattle.std.proofs.Common.{◌≡◌, ◌≢◌, ℕ, ◌<◌, ◌≤◌, ◌==◌, ◌&&◌, ◌||◌, not, nat_lt, Bool, true, false, List, [], ◌∷◌, arith, refl, sym, subst, ap, if◌then◌else◌}
-use Rattle.std.proofs.lemmas.Bool.{eqb-true}
-use Rattle.std.proofs.lemmas.Bool.Decides.{nat_tests}
-use Rattle.qs_base.specs.declared.identifiers.NodeNo.{NodeNo}
+use Rattle.qs_world_refine.proofs.Words.{◌≡◌, ◌≢◌, ℕ, ◌<◌, ◌≤◌, ◌==◌, ◌||◌, not, nat_lt, Bool, true, false, List, [], ◌∷◌, arith, refl, sym, subst, ap, if◌then◌else◌, eqb-true, and_parts, nat_tests, NodeNo, Tid, same_node, Message, is_other, send, send_each, NodeValue, Work, Committed, Aborted, Leads, leads_on, Face, Said, Outcome_told, node_no, names_node, said, face_at, SightGoes, sight_said, sight_waiting, Scene, sight_during, ShowsWork, Sight, IsAt, Goes, never_not}
 use Rattle.qs_base.specs.declared.identifiers.Outcome.TheVariants as outcomes
-use Rattle.qs_base.specs.declared.identifiers.Tid.{Tid}
-use Rattle.qs_engage.specs.Nodes.{same_node}
-use Rattle.qs_packet.specs.declared.message.Message.{Message}
 use Rattle.qs_packet.specs.declared.message.Message.TheVariants as messages
-use Rattle.qs_node_step.specs.Bringing.{is_other, send, send_each}
-use Rattle.qs_node_step.specs.State.{NodeValue, Work}
-use Rattle.qs_world_agree.specs.World.{World, Committed, Aborted}
-use Rattle.qs_world_agree.specs.Carry.{Leads}
-use Rattle.qs_world_agree.proofs.Carries.{leads_on}
-use Rattle.qs_world_refine.specs.Faces.{Face}
-use Rattle.qs_world_refine.specs.Links.{Said, Outcome_told, node_no, names_node}
-use Rattle.qs_world_refine.specs.Messages.{said}
-use Rattle.qs_world_refine.specs.NodeFaces.{face_at}
-use Rattle.qs_world_refine.specs.Seen.{SightGoes, sight_said}
-use Rattle.qs_world_refine.specs.SeenOutcome.{sight_waiting}
-use Rattle.qs_world_refine.specs.Shows.{Scene, sight_during, ShowsWork}
-use Rattle.qs_world_refine.specs.Sights.{Sight}
-use Rattle.qs_world_refine.specs.Steps.{IsAt, Goes}
+use Rattle.qs_world_agree.specs.World.{World}
 use Rattle.qs_world_refine.proofs.Alike.{same_itself}
 use Rattle.qs_world_refine.proofs.During.{quiet_itself, face_here, runs}
 use Rattle.qs_world_refine.proofs.EventGoes.{tell}
@@ -34,11 +15,6 @@ use Rattle.qs_world_refine.proofs.Unmet.{wait_shown}
 -- one piece after another
 pub goes_on : (tid : Tid) (scene : Scene) (n : ℕ) (new : Work) (w u : World) → Leads w u → Goes tid scene n new u → Goes tid scene n new w
 goes_on tid scene n new w u first second = record { next = second.next; leads = leads_on w u second.next first second.leads; shown = second.shown }
-
-both : (a b : Bool) → (a && b) ≡ true → (a ≡ true) × (b ≡ true)
-both true true is = (refl, refl)
-both true false is = absurd (cc is)
-both false b is = absurd (cc is)
 
 module _ (tid : Tid) (scene : Scene) (n : ℕ) (to : NodeNo) (message : Message) (what : Said) (work : Work) (w : World) (at : IsAt scene n work) (says : said tid message ≡ what ∷ []) (shown : ShowsWork tid scene n work w) where
   abbrev pub x : Sight
@@ -57,13 +33,10 @@ module _ (tid : Tid) (scene : Scene) (n : ℕ) (to : NodeNo) (message : Message)
       posted other c is = at_once c is
         where
           in_run : to.0 < scene.size
-          in_run = subst (λ (k : ℕ). to.0 < k) at.nodes (grind (arith, nat_tests, (both (not (same_node work.node.setting.node to)) (nat_lt to.0 work.node.setting.nodes) other).1))
+          in_run = subst (λ (k : ℕ). to.0 < k) at.nodes (grind (arith, nat_tests, (and_parts (not (same_node work.node.setting.node to)) (nat_lt to.0 work.node.setting.nodes) other).1))
 
           apart : to.0 ≢ n
-          apart e = off (same_node work.node.setting.node to) (rw at.node (grind (arith, nat_tests, e))) (both (not (same_node work.node.setting.node to)) (nat_lt to.0 work.node.setting.nodes) other).0
-            where
-              off : (b : Bool) → b ≡ true → not b ≡ true → ⊥
-              off b is not_it = cc (rw is at not_it)
+          apart e = never_not (same_node work.node.setting.node to) (rw at.node (grind (arith, nat_tests, e))) (and_parts (not (same_node work.node.setting.node to)) (nat_lt to.0 work.node.setting.nodes) other).0
 
           same : (x.face n).is_home ≡ (face_at work.node tid).is_home
           same = ap (λ (f : Face). f.is_home) (face_here tid scene n work)

@@ -1,15 +1,6 @@
 -- What a message that is sent adds to what is on its way.
-use Rattle.std.proofs.Common.{◌≡◌, ℕ, ◌==◌, ◌&&◌, not, Bool, true, false, List, [], ◌∷◌, ◌++◌, map, arith, refl, sym, ap, ◌∙◌, append_assoc, if◌then◌else◌}
-use Rattle.std.specs.List.{filter}
-use Rattle.std.proofs.lemmas.Bool.{eqb-true}
-use Rattle.std.proofs.lemmas.Bool.Decides.{nat_tests}
-use Rattle.qs_base.specs.declared.identifiers.NodeNo.{NodeNo}
-use Rattle.qs_base.specs.declared.identifiers.Tid.{Tid}
-use Rattle.qs_packet.specs.declared.message.Message.{Message}
-use Rattle.qs_node_step.specs.declared.event.Sending.{Sending}
-use Rattle.qs_world_refine.specs.Links.{Said}
-use Rattle.qs_world_refine.specs.Messages.{said, all_said}
-use Rattle.qs_world_refine.specs.Shows.{Scene, said_during, unmet_during, sent_to}
+use Rattle.qs_world_refine.proofs.Words.{◌≡◌, ℕ, ◌==◌, ◌&&◌, not, Bool, true, false, List, [], ◌∷◌, ◌++◌, map, refl, sym, ap, ◌∙◌, append_assoc, if◌then◌else◌, filter, eqb-true, NodeNo, Tid, Message, Sending, Said, said, all_said, Scene, said_during, unmet_during, eqb-self}
+use Rattle.qs_world_refine.specs.Shows.{sent_to}
 use Rattle.qs_world_refine.specs.Sights.{with_at4}
 use Rattle.qs_world_refine.proofs.Still.{at_four}
 
@@ -40,12 +31,6 @@ sent_more tid q to message (s ∷ sendings) = by (s.to.0 == q) (sent_more tid q 
     by true is = ap (λ (t : List Said). said tid s.message ++ t) is ∙ sym (append_assoc (said tid s.message) (all_said tid (sent_to q sendings)) (if to.0 == q then said tid message else []))
     by false is = is
 
-same_number : (a : ℕ) → (a == a) ≡ true
-same_number a = grind (arith, nat_tests)
-
-turned : (a b : ℕ) → (a == b) ≡ false → (b == a) ≡ false
-turned a b e = grind (arith, nat_tests, e)
-
 all_four : (a b c d : Bool) → (a && (b && (c && d))) ≡ true → (a ≡ true) × (b ≡ true) × (c ≡ true) × (d ≡ true)
 all_four true true true true e = (refl, refl, refl, refl)
 all_four false b c d e = absurd (cc e)
@@ -58,7 +43,7 @@ module _ (tid : Tid) (scene : Scene) (n : ℕ) (to : NodeNo) (message : Message)
   more = sendings ++ record { to = to; message = message } ∷ []
 
   pub sent_here : all_said tid (sent_to to.0 more) ≡ all_said tid (sent_to to.0 sendings) ++ said tid message
-  sent_here = sent_more tid to.0 to message sendings ∙ by (to.0 == to.0) (same_number to.0)
+  sent_here = sent_more tid to.0 to message sendings ∙ by (to.0 == to.0) (eqb-self to.0)
     where
       by : (b : Bool) → b ≡ true → all_said tid (sent_to to.0 sendings) ++ (if b then said tid message else []) ≡ all_said tid (sent_to to.0 sendings) ++ said tid message
       by b e = rw e refl
@@ -79,7 +64,7 @@ module _ (tid : Tid) (scene : Scene) (n : ℕ) (to : NodeNo) (message : Message)
       pick t e xs ys zs = rw e (sym (append_assoc xs ys zs))
 
       test : ((n == n) && ((scene.inc n == scene.inc n) && ((scene.knows n to.0 == scene.knows n to.0) && not (scene.knows n to.0 == 0)))) ≡ true
-      test = rw (same_number n, same_number (scene.inc n), same_number (scene.knows n to.0), known) refl
+      test = rw (eqb-self n, eqb-self (scene.inc n), eqb-self (scene.knows n to.0), known) refl
 
       here : said_during tid scene n more n (scene.inc n) to.0 (scene.knows n to.0) ≡ said_during tid scene n sendings n (scene.inc n) to.0 (scene.knows n to.0) ++ said tid message
       here = rw sent_here (pick ((n == n) && ((scene.inc n == scene.inc n) && ((scene.knows n to.0 == scene.knows n to.0) && not (scene.knows n to.0 == 0)))) test (all_said tid (scene.pending n (scene.inc n) to.0 (scene.knows n to.0))) (all_said tid (sent_to to.0 sendings)) (said tid message))

@@ -1,37 +1,12 @@
 -- What a served request changes of its own transaction: one count, and no outcome.
-use Rattle.std.proofs.Common.{◌≡◌, ◌≢◌, ℕ, ◌+◌, ◌<◌, ◌==◌, ◌||◌, Bool, true, false, [], ◌∷◌, ◌++◌, length, Option, Some, None, refl, ap, ◌∙◌, if◌then◌else◌}
-use Rattle.std.specs.Map.{lookup, remove_entry}
-use Rattle.std.specs.BTreeMap.{is_at}
-use Rattle.std.proofs.lemmas.List.{get_or-set_other, get_or-set_same}
-use Rattle.qs_base.specs.Order.{tid_cmp}
-use Rattle.qs_base.specs.declared.identifiers.ClientNo.{ClientNo}
-use Rattle.qs_base.specs.declared.identifiers.Member.{Member}
-use Rattle.qs_base.specs.declared.identifiers.ServerNo.{ServerNo}
-use Rattle.qs_base.specs.declared.identifiers.Tid.{Tid}
-use Rattle.qs_engage.specs.Engage.{last_number}
-use Rattle.qs_engage.specs.Nodes.{same_node}
-use Rattle.qs_ipc.specs.declared.delivery.Delivery.{Delivery}
+use Rattle.qs_world_refine.proofs.Words.{◌≡◌, ◌≢◌, ℕ, ◌+◌, ◌<◌, ◌==◌, ◌||◌, Bool, true, false, [], ◌∷◌, ◌++◌, length, Option, Some, None, refl, ap, ◌∙◌, if◌then◌else◌, lookup, remove_entry, is_at, get_or-set_other, tid_cmp, ClientNo, Member, ServerNo, Tid, last_number, same_node, Delivery, answer_of, after_serving, Answer, Reply, Message, is_client, client_of, no_member, is_told_class, class_here, member_of, with_member, is_by_files, MemberPart, Outstanding, Participant, is_other, send}
+use Rattle.qs_world_refine.proofs.Words.{member_here, answer, reply_came, take_reply, answer_issuer, waits_as, enter_serve, lent_to, make_loan, give_reply, serve, Work, here, part_of, with_manager, with_doings, change_server, client_cmp, OpenCommand, server_no}
+use Rattle.std.proofs.lemmas.List.{get_or-set_same}
 use Rattle.qs_book_journal.specs.declared.entry.Act.TheVariants as acts
-use Rattle.qs_ops.specs.Operations.{answer_of}
-use Rattle.qs_ops.specs.Server.{after_serving}
-use Rattle.qs_ops.specs.declared.answer.Answer.{Answer}
-use Rattle.qs_ops.specs.declared.reply.Reply.{Reply}
-use Rattle.qs_packet.specs.declared.message.Message.{Message}
 use Rattle.qs_packet.specs.declared.message.Message.TheVariants as messages
-use Rattle.qs_node_servers.specs.Servers.{is_client, client_of}
 use Rattle.qs_tm.specs.Manager as tm
-use Rattle.qs_tm.specs.Members.{no_member, is_told_class, class_here}
 use Rattle.qs_tm.specs.Participant as participant
-use Rattle.qs_tm.specs.Participant.{member_of, with_member, is_by_files}
-use Rattle.qs_tm.specs.declared.members.MemberPart.{MemberPart}
-use Rattle.qs_tm.specs.declared.participant.Outstanding.{Outstanding}
-use Rattle.qs_tm.specs.declared.participant.Participant.{Participant}
-use Rattle.qs_node_step.specs.Bringing.{is_other, send, member_here, answer}
-use Rattle.qs_node_step.specs.Requests.{reply_came, take_reply, answer_issuer, waiting_at, waits_as}
-use Rattle.qs_node_step.specs.Serving.{enter_serve, lent_to, make_loan, give_reply, serve}
-use Rattle.qs_node_step.specs.State.{Work, here, part_of, with_manager, with_doings, change_server, client_cmp}
-use Rattle.qs_node_step.specs.declared.state.OpenCommand.{OpenCommand}
-use Rattle.qs_world_refine.specs.Sights.{server_no}
+use Rattle.qs_node_step.specs.Requests.{waiting_at}
 use Rattle.qs_world_refine.proofs.Maps.{lookup_changed}
 
 -- its counts stay, and so do its outcome and whom it answers to; nothing is logged

@@ -1,24 +1,8 @@
 -- What waits first at a server: an operation of its own; and another transaction's request, which is served, leaves this one standing.
-use Rattle.std.proofs.Common.{◌≡◌, ℕ, Bool, true, false, List, [], ◌∷◌, Some, refl, sym, subst, ap, arith}
-use Rattle.std.specs.BTreeMap.{is_at}
-use Rattle.std.specs.List.{list_all}
-use Rattle.std.proofs.lemmas.Bool.Decides.{nat_tests}
-use Rattle.qs_base.specs.Order.{same_tid}
-use Rattle.qs_base.specs.declared.identifiers.ServerNo.{ServerNo}
-use Rattle.qs_base.specs.declared.identifiers.Tid.{Tid}
+use Rattle.qs_world_refine.proofs.Words.{◌≡◌, ℕ, Bool, true, false, List, [], ◌∷◌, Some, refl, sym, subst, ap, arith, is_at, list_all, nat_tests, same_tid, ServerNo, Tid, IpcValue, queue_at, server_cmp, first_of, Delivery, serve_next, NodeValue, Work, Face, ShowsFace, Scene, server_no, is_sound_queue, is_sound_delivery, Stands, same_Some}
 use Rattle.qs_ipc.specs.Ipc as ipc
-use Rattle.qs_ipc.specs.Ipc.{IpcValue, queue_at, server_cmp}
-use Rattle.qs_ipc.specs.Queue.{first_of}
-use Rattle.qs_ipc.specs.declared.delivery.Delivery.{Delivery}
-use Rattle.qs_node_step.specs.Serving.{serve_next}
-use Rattle.qs_node_step.specs.State.{NodeValue, Work}
 use Rattle.qs_world_agree.specs.World as machine
 use Rattle.qs_world_agree.specs.World.{World}
-use Rattle.qs_world_refine.specs.Faces.{Face, ShowsFace}
-use Rattle.qs_world_refine.specs.Shows.{Scene}
-use Rattle.qs_world_refine.specs.Sights.{server_no}
-use Rattle.qs_world_refine.specs.Sound.{is_sound_queue, is_sound_delivery}
-use Rattle.qs_world_refine.specs.Stands.{Stands}
 use Rattle.qs_world_refine.proofs.ServeFrames.{next_leaves, next_kinds}
 use Rattle.qs_world_refine.proofs.ServeRoom.{turn_is}
 use Rattle.qs_world_refine.proofs.SettleStands.{stands_left}
@@ -44,10 +28,7 @@ delivery_sound node server d (e ∷ es) next all = by (is_at (server_cmp server)
 
     first_sound : (waiting : List Delivery) → first_of waiting ≡ Some d → list_all (is_sound_delivery node e.0) waiting ≡ true → is_sound_delivery node e.0 d ≡ true
     first_sound [] is so = absurd (cc is)
-    first_sound (x ∷ rest) is so = subst (λ (y : Delivery). is_sound_delivery node e.0 y ≡ true) (some_same x d is) (and_both (is_sound_delivery node e.0 x) (list_all (is_sound_delivery node e.0) rest) so).0
-      where
-        some_same : (a b : Delivery) → Some a ≡ Some b → a ≡ b
-        some_same a b e = cc e
+    first_sound (x ∷ rest) is so = subst (λ (y : Delivery). is_sound_delivery node e.0 y ≡ true) (same_Some x d is) (and_both (is_sound_delivery node e.0 x) (list_all (is_sound_delivery node e.0) rest) so).0
 
     by : (b : Bool) → is_at (server_cmp server) e.0 ≡ b → (ipc.next server es ≡ Some d → list_all (is_sound_queue node) es ≡ true → is_sound_delivery node server d ≡ true) → is_sound_delivery node server d ≡ true
     by true is more = subst (λ (k : ServerNo). is_sound_delivery node k d ≡ true) (key is) (first_sound e.1.waiting (rw is at next) both.0)

@@ -1,35 +1,13 @@
 -- A request that is served leaves every other transaction, and each server of its kind; of its own it changes no outcome.
-use Rattle.std.proofs.Common.{◌≡◌, ℕ, ◌==◌, ◌&&◌, not, Bool, true, false, List, [], ◌∷◌, ◌++◌, length, drop, Option, Some, None, refl, ap, ◌∙◌, if◌then◌else◌}
-use Rattle.std.specs.List.{filter}
-use Rattle.std.specs.Map.{lookup}
-use Rattle.std.specs.BTreeMap.{is_at}
-use Rattle.std.proofs.lemmas.List.Elements.{filter-append}
-use Rattle.qs_base.specs.Order.{same_tid}
-use Rattle.qs_base.specs.declared.identifiers.ClientNo.{ClientNo}
-use Rattle.qs_base.specs.declared.identifiers.Member.{Member}
-use Rattle.qs_base.specs.declared.identifiers.ServerNo.{ServerNo}
-use Rattle.qs_base.specs.declared.identifiers.Tid.{Tid}
-use Rattle.qs_engage.specs.Nodes.{same_node}
+use Rattle.qs_world_refine.proofs.Words.{◌≡◌, ℕ, ◌==◌, ◌&&◌, not, Bool, true, false, List, [], ◌∷◌, ◌++◌, length, drop, Option, Some, None, refl, ap, ◌∙◌, if◌then◌else◌, filter, lookup, is_at, filter-append, same_tid, ClientNo, Member, ServerNo, Tid, same_node, IpcValue, queue_at, first_of, Delivery, is_standing_loan, Lent, answer_of, after_serving, Reply, is_client, client_of, member_of, with_member, is_undecided, is_by_files, Outstanding, member_here, enter, send, answer, reply_came, take_reply}
+use Rattle.qs_world_refine.proofs.Words.{answer_issuer, waits_as, reply_here, enter_serve, lent_to, make_loan, give_reply, serve, serve_or_drop, serve_next, Work, here, with_manager, with_queues, with_doings, change_server, client_cmp, same_Some}
 use Rattle.qs_ipc.specs.Ipc as ipc
-use Rattle.qs_ipc.specs.Ipc.{IpcValue, queue_at}
-use Rattle.qs_ipc.specs.Queue.{first_of}
-use Rattle.qs_ipc.specs.declared.delivery.Delivery.{Delivery}
 use Rattle.qs_book_journal.specs.declared.entry.Act.TheVariants as acts
-use Rattle.qs_node_kept.specs.Loans.{is_standing_loan}
-use Rattle.qs_node_kept.specs.declared.kept.Lent.{Lent}
-use Rattle.qs_ops.specs.Operations.{answer_of}
-use Rattle.qs_ops.specs.Server.{after_serving}
-use Rattle.qs_ops.specs.declared.reply.Reply.{Reply}
 use Rattle.qs_packet.specs.declared.message.Message.TheVariants as messages
-use Rattle.qs_node_servers.specs.Servers.{is_client, client_of}
 use Rattle.qs_tm.specs.Manager as tm
 use Rattle.qs_tm.specs.Participant as participant
-use Rattle.qs_tm.specs.Participant.{member_of, with_member, is_undecided, is_by_files}
-use Rattle.qs_tm.specs.declared.participant.Outstanding.{Outstanding}
-use Rattle.qs_node_step.specs.Bringing.{member_here, enter, send, answer}
-use Rattle.qs_node_step.specs.Requests.{reply_came, take_reply, answer_issuer, waiting_at, waits_as}
-use Rattle.qs_node_step.specs.Serving.{reply_here, enter_serve, lent_to, make_loan, give_reply, serve, may_serve, serve_or_drop, serve_next}
-use Rattle.qs_node_step.specs.State.{Work, here, with_manager, with_queues, with_doings, change_server, client_cmp}
+use Rattle.qs_node_step.specs.Requests.{waiting_at}
+use Rattle.qs_node_step.specs.Serving.{may_serve}
 use Rattle.qs_world_refine.proofs.BorrowerStands.{answer_kinds}
 use Rattle.qs_world_refine.proofs.During.{Leaves, leaves_itself, leaves_on, send_leaves}
 use Rattle.qs_world_refine.proofs.Frames.{out_leaves, part_apart}
@@ -44,10 +22,7 @@ use Rattle.qs_world_refine.proofs.ServerKinds.{serving_kind}
 
 pub first_is : (waiting : List Delivery) (d : Delivery) → first_of waiting ≡ Some d → waiting ≡ d ∷ drop 1 waiting
 first_is [] d is = absurd (cc is)
-first_is (e ∷ rest) d is = ap (λ (x : Delivery). x ∷ rest) (some_same e d is)
-  where
-    some_same : (a b : Delivery) → Some a ≡ Some b → a ≡ b
-    some_same a b e = cc e
+first_is (e ∷ rest) d is = ap (λ (x : Delivery). x ∷ rest) (same_Some e d is)
 
 -- ---- every other transaction
 

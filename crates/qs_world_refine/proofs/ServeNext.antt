@@ -1,51 +1,16 @@
 -- The request that waits first at a server is served: Serve, Serve_told or Lend.
-use Rattle.std.proofs.Common.{◌≡◌, ◌⊎◌, inl, inr, ℕ, ◌+◌, ◌-◌, ◌<◌, ◌≤◌, ◌==◌, ◌||◌, nat_le, Bool, true, false, List, [], ◌∷◌, ◌++◌, length, Option, Some, None, refl, sym, subst, ap, ◌∙◌, arith, length-append, if◌then◌else◌}
-use Rattle.std.specs.Prelude.{slice_index_or}
-use Rattle.std.specs.List.{filter}
-use Rattle.std.specs.BTreeMap.{is_at}
-use Rattle.std.proofs.lemmas.Bool.Decides.{nat_tests}
-use Rattle.std.proofs.lemmas.List.{get_or_past, set_past}
-use Rattle.std.proofs.lemmas.List.Elements.{filter-append}
-use Rattle.qs_base.specs.Order.{tid_cmp}
+use Rattle.qs_world_refine.proofs.Words.{◌≡◌, ◌⊎◌, inl, inr, ℕ, ◌+◌, ◌-◌, ◌<◌, ◌≤◌, ◌==◌, ◌||◌, nat_le, Bool, true, false, List, [], ◌∷◌, ◌++◌, length, Option, Some, None, refl, sym, subst, ap, ◌∙◌, arith, if◌then◌else◌, slice_index_or, filter, is_at, nat_tests, get_or_past, set_past, filter-append, tid_cmp, ClientNo, NodeNo, Tid, last_number, same_node, queue_at, first_of, count_of, Delivery, class_of, after_serving, Op, Reply, no_member, class_here, is_told_class, member_of, is_undecided, Cast}
+use Rattle.qs_world_refine.proofs.Words.{MemberPart, Participant, Lent, member_here, enter, send, reply_came, ServersValue, with_server, is_client, serve_next, serve_or_drop, serve, reply_here, enter_serve, make_loan, lent_to, give_reply, is_standing_loan, Work, here, part_of, with_manager, with_queues, with_doings, change_server, Open, Face, face, uncast_of, loans_at, class_in, SightGoes, served_one, lent_one, sight_faced, Scene, sight_during, ShowsWork, Sight, ShowsSight, server_no}
+use Rattle.qs_world_refine.proofs.Words.{is_covered_vote, IsAt, Goes, or-false, or-true, eqb-self}
+use Rattle.std.proofs.Common.{length-append}
 use Rattle.qs_base.specs.declared.identifiers.Class.TheVariants as classes
-use Rattle.qs_base.specs.declared.identifiers.ClientNo.{ClientNo}
-use Rattle.qs_base.specs.declared.identifiers.NodeNo.{NodeNo}
-use Rattle.qs_base.specs.declared.identifiers.Tid.{Tid}
-use Rattle.qs_engage.specs.Engage.{last_number}
-use Rattle.qs_engage.specs.Nodes.{same_node}
 use Rattle.qs_ipc.specs.Ipc as ipc
-use Rattle.qs_ipc.specs.Ipc.{queue_at}
-use Rattle.qs_ipc.specs.Queue.{first_of, count_of}
-use Rattle.qs_ipc.specs.declared.delivery.Delivery.{Delivery}
-use Rattle.qs_ops.specs.Members.{class_of}
-use Rattle.qs_ops.specs.Server.{after_serving}
-use Rattle.qs_ops.specs.declared.operation.Op.{Op}
-use Rattle.qs_ops.specs.declared.reply.Reply.{Reply}
 use Rattle.qs_book_journal.specs.declared.entry.Act.TheVariants as acts
 use Rattle.qs_packet.specs.declared.message.Message.TheVariants as messages
 use Rattle.qs_tm.specs.Manager as tm
-use Rattle.qs_tm.specs.Members.{no_member, class_here, is_told_class}
 use Rattle.qs_tm.specs.Participant as participant
-use Rattle.qs_tm.specs.Participant.{member_of, is_undecided}
-use Rattle.qs_tm.specs.declared.members.Cast.{Cast}
-use Rattle.qs_tm.specs.declared.members.MemberPart.{MemberPart}
-use Rattle.qs_tm.specs.declared.participant.Participant.{Participant}
-use Rattle.qs_node_kept.specs.declared.kept.Lent.{Lent}
-use Rattle.qs_node_step.specs.Bringing.{member_here, enter, send}
-use Rattle.qs_node_step.specs.Requests.{reply_came}
-use Rattle.qs_node_servers.specs.Servers.{ServersValue, with_server, is_client}
-use Rattle.qs_node_step.specs.Serving.{serve_next, serve_or_drop, serve, reply_here, enter_serve, make_loan, lent_to, give_reply}
-use Rattle.qs_node_kept.specs.Loans.{is_standing_loan}
-use Rattle.qs_node_step.specs.State.{Work, here, part_of, with_manager, with_queues, with_doings, change_server}
-use Rattle.qs_world_agree.specs.World.{World, Open, OnePhase, with_at}
-use Rattle.qs_world_refine.specs.Faces.{Face}
-use Rattle.qs_world_refine.specs.NodeFaces.{face, uncast_of, loans_at}
-use Rattle.qs_world_refine.specs.Places.{class_in}
-use Rattle.qs_world_refine.specs.Seen.{SightGoes, served_one, lent_one, sight_faced}
-use Rattle.qs_world_refine.specs.Shows.{Scene, sight_during, ShowsWork}
-use Rattle.qs_world_refine.specs.Sights.{Sight, ShowsSight, server_no}
-use Rattle.qs_world_refine.specs.Sound.{is_covered_vote}
-use Rattle.qs_world_refine.specs.Steps.{IsAt, Knows, Goes}
+use Rattle.qs_world_agree.specs.World.{World, OnePhase, with_at}
+use Rattle.qs_world_refine.specs.Steps.{Knows}
 use Rattle.qs_world_refine.proofs.Alike.{SameFace, found_itself}
 use Rattle.qs_world_refine.proofs.Arrays.{member_put}
 use Rattle.qs_world_refine.proofs.During.{send_leaves, local_shown, face_here, runs}
@@ -188,14 +153,10 @@ module _ (tid : Tid) (scene : Scene) (n s : ℕ) (from : NodeNo) (number : ℕ) 
       shown = last_shown turn.next (entered_shown turn.next part.involved (not_told class) (subst (λ (f : Face). ShowsSight tid (sight_faced x n (served_one f s left_waiting)) turn.next) face_before turn.shown));
     }
       where
-        or_false : (b : Bool) → (b || false) ≡ b
-        or_false true = refl
-        or_false false = refl
-
         not_told : (class_of s ≡ classes.Recoverable) ⊎ ((class_of s ≡ classes.Volatile) ⊎ (class_of s ≡ classes.Immediate)) → (part.involved || is_told_class (class_of s)) ≡ part.involved
-        not_told (inl is) = rw is (or_false part.involved)
-        not_told (inr (inl is)) = rw is (or_false part.involved)
-        not_told (inr (inr is)) = rw is (or_false part.involved)
+        not_told (inl is) = rw is (or-false part.involved)
+        not_told (inr (inl is)) = rw is (or-false part.involved)
+        not_told (inr (inr is)) = rw is (or-false part.involved)
 
         turn : SightGoes tid (sight_faced x n (served_one (x.face n) s left_waiting)) w
         turn = event.serve tid x w n s left_waiting shown (runs tid scene n work at) open_before one_waits class
@@ -208,13 +169,9 @@ module _ (tid : Tid) (scene : Scene) (n s : ℕ) (from : NodeNo) (number : ℕ) 
       shown = last_shown turn.next (entered_shown turn.next true (is_told class) (subst (λ (f : Face). ShowsSight tid (sight_faced x n (record (served_one f s left_waiting) { involved = true })) turn.next) face_before turn.shown));
     }
       where
-        or_true : (b : Bool) → (b || true) ≡ true
-        or_true true = refl
-        or_true false = refl
-
         is_told : (class_of s ≡ classes.Standard) ⊎ (class_of s ≡ classes.Delayed) → (part.involved || is_told_class (class_of s)) ≡ true
-        is_told (inl is) = rw is (or_true part.involved)
-        is_told (inr is) = rw is (or_true part.involved)
+        is_told (inl is) = rw is (or-true part.involved)
+        is_told (inr is) = rw is (or-true part.involved)
 
         one_phase : (class_of s ≡ classes.Standard) ⊎ (class_of s ≡ classes.Delayed) → class_in (class_of s) ≡ OnePhase
         one_phase (inl is) = rw is refl
@@ -245,11 +202,8 @@ module _ (tid : Tid) (scene : Scene) (n s : ℕ) (from : NodeNo) (number : ℕ) 
     one_more = ap length (filter-append (is_standing_loan tid work.node.setting.inc) work.node.kept.now.loans (lent ∷ []) ∙ ap (λ (l : List Lent). filter (is_standing_loan tid work.node.setting.inc) work.node.kept.now.loans ++ l) stands)
         ∙ length-append (filter (is_standing_loan tid work.node.setting.inc) work.node.kept.now.loans) (lent ∷ [])
       where
-        same_number : (k : ℕ) → (k == k) ≡ true
-        same_number k = grind (arith, nat_tests)
-
         stands : filter (is_standing_loan tid work.node.setting.inc) (lent ∷ []) ≡ lent ∷ []
-        stands = rw (tid_same tid, same_number work.node.setting.inc) refl
+        stands = rw (tid_same tid, eqb-self work.node.setting.inc) refl
 
     face_lent : SameFace (lent_one (face work.node tid part) s left_waiting) (face loaned.node tid (more_part s part))
     face_lent = record {
@@ -264,15 +218,11 @@ module _ (tid : Tid) (scene : Scene) (n s : ℕ) (from : NodeNo) (number : ℕ) 
       loans = one_more;
       asked = refl;
       blocked = refl;
-      involved = rw class (or_false part.involved);
+      involved = rw class (or-false part.involved);
       told = λ m. refl;
       outcome = rw undecided refl;
       tell = λ m. refl;
     }
-      where
-        or_false : (b : Bool) → (b || false) ≡ b
-        or_false true = refl
-        or_false false = refl
 
     pub lend_goes : Goes tid scene n (serve_next work (server_no s)) w
     lend_goes = record {

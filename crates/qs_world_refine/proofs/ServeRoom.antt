@@ -1,28 +1,10 @@
 -- Where what waits can be counted, what is left can be counted once the first of it at a server was served, or dropped.
-use Rattle.std.proofs.Common.{◌≡◌, ℕ, ◌+◌, ◌<◌, ◌≤◌, ◌==◌, Bool, true, false, List, ◌∷◌, drop, length, Option, Some, None, refl, sym, subst, ap, ◌∙◌, arith, if◌then◌else◌}
-use Rattle.std.specs.Prelude.{slice_index_or}
-use Rattle.std.proofs.lemmas.Bool.{eqb-true}
-use Rattle.std.proofs.lemmas.Bool.Decides.{nat_tests}
-use Rattle.qs_base.specs.Order.{same_tid}
-use Rattle.qs_base.specs.declared.identifiers.ServerNo.{ServerNo}
-use Rattle.qs_base.specs.declared.identifiers.Tid.{Tid}
-use Rattle.qs_engage.specs.Engage.{last_number}
+use Rattle.qs_world_refine.proofs.Words.{◌≡◌, ℕ, ◌+◌, ◌<◌, ◌≤◌, ◌==◌, Bool, true, false, List, ◌∷◌, drop, length, Option, Some, None, refl, sym, subst, ap, ◌∙◌, arith, if◌then◌else◌, slice_index_or, eqb-true, nat_tests, same_tid, ServerNo, Tid, last_number, IpcValue, queue_at, count_of, Delivery, Reply, no_member, member_of, MemberPart, Participant, reply_here, serve, serve_or_drop, serve_next, Work, part_of, with_queues, CanCount, server_no, same_Some}
 use Rattle.qs_ipc.specs.Ipc as ipc
-use Rattle.qs_ipc.specs.Ipc.{IpcValue, queue_at}
-use Rattle.qs_ipc.specs.Queue.{count_of}
-use Rattle.qs_ipc.specs.declared.delivery.Delivery.{Delivery}
-use Rattle.qs_ops.specs.declared.reply.Reply.{Reply}
-use Rattle.qs_tm.specs.Members.{no_member}
 use Rattle.qs_tm.specs.Participant as participant
-use Rattle.qs_tm.specs.Participant.{member_of}
-use Rattle.qs_tm.specs.declared.members.MemberPart.{MemberPart}
-use Rattle.qs_tm.specs.declared.participant.Participant.{Participant}
-use Rattle.qs_node_step.specs.Serving.{reply_here, may_serve, serve, serve_or_drop, serve_next}
-use Rattle.qs_node_step.specs.State.{Work, part_of, with_queues}
+use Rattle.qs_node_step.specs.Serving.{may_serve}
 use Rattle.qs_world_agree.specs.World.{with_at}
 use Rattle.qs_world_refine.specs.NodeFaces.{waiting_at}
-use Rattle.qs_world_refine.specs.ServeWhole.{CanCount}
-use Rattle.qs_world_refine.specs.Sights.{server_no}
 use Rattle.qs_world_refine.proofs.During.{Leaves}
 use Rattle.qs_world_refine.proofs.Queues.{waits_next, waits_first}
 use Rattle.qs_world_refine.proofs.Same.{tid_same}
@@ -90,13 +72,10 @@ module _ (server : ServerNo) (d : Delivery) (work : Work) (next : ipc.next serve
           not_last a b c e f = grind (arith, nat_tests, e, f)
 
       served_counts : (reply : Reply) → length part.members ≡ 7 → CanCount d.tid (serve server d reply left)
-      served_counts reply sized p s its_part below waits = subst (λ (q : Participant). (member_of q (server_no s)).served + waiting_at (serve server d reply left).node d.tid s ≤ last_number) (some_same counts.next p (sym counts.known ∙ its_part)) (counted s below waits)
+      served_counts reply sized p s its_part below waits = subst (λ (q : Participant). (member_of q (server_no s)).served + waiting_at (serve server d reply left).node d.tid s ≤ last_number) (same_Some counts.next p (sym counts.known ∙ its_part)) (counted s below waits)
         where
           counts : KeepsCounts d.tid left (serve server d reply left) (participant.served server part)
           counts = serve_counts server d reply left part known
-
-          some_same : (a b : Participant) → Some a ≡ Some b → a ≡ b
-          some_same a b e = cc e
 
           waits_now : (s : ℕ) → waiting_at (serve server d reply left).node d.tid s ≡ with_at (λ k. waiting_at work.node d.tid k) server.0 (count_of d.tid (drop 1 (queue_at work.node.queues server).waiting)) s
           waits_now s = ap (λ (queues : IpcValue). count_of d.tid (queue_at queues (server_no s)).waiting) counts.queues ∙ same_waits s

@@ -1,35 +1,14 @@
 -- All that waits is served, and what stood of a transaction stands.
-use Rattle.std.proofs.Common.{◌≡◌, ◌⊎◌, inl, inr, ℕ, ◌<◌, ◌≤◌, ◌==◌, ◌&&◌, ◌||◌, not, nat_lt, Bool, true, false, List, [], ◌∷◌, drop, Option, Some, None, is_some, fold, refl, sym, subst, ap, ◌∙◌, arith, if◌then◌else◌}
-use Rattle.std.specs.Prelude.{is_none}
-use Rattle.std.proofs.lemmas.Bool.{eqb-true}
-use Rattle.std.proofs.lemmas.Bool.Decides.{nat_tests}
-use Rattle.qs_base.specs.Order.{same_tid}
+use Rattle.qs_world_refine.proofs.Words.{◌≡◌, ◌⊎◌, inl, inr, ℕ, ◌<◌, ◌≤◌, ◌==◌, ◌&&◌, ◌||◌, not, nat_lt, Bool, true, false, List, [], ◌∷◌, drop, Option, Some, None, is_some, fold, refl, sym, subst, ap, ◌∙◌, arith, if◌then◌else◌, is_none, eqb-true, nat_tests, same_tid, ServerNo, Tid, IpcValue, queue_at, server_cmp, is_for, Delivery, class_of, Reply, server_at, is_client, is_abort, member_of, is_undecided, Participant, reply_here, serve_or_drop, serve_next, Work, part_of, with_queues, Face, face}
+use Rattle.qs_world_refine.proofs.Words.{CanCount, Scene, sight_during, Sight, ShowsSight, is_sound_delivery, may_be_served, Stands, GoesOn, Goes, serve, place}
 use Rattle.qs_base.specs.declared.identifiers.Class.TheVariants as classes
 use Rattle.qs_base.specs.declared.identifiers.Outcome.{Outcome}
 use Rattle.qs_base.specs.declared.identifiers.Outcome.TheVariants as outcomes
-use Rattle.qs_base.specs.declared.identifiers.ServerNo.{ServerNo}
-use Rattle.qs_base.specs.declared.identifiers.Tid.{Tid}
 use Rattle.qs_ipc.specs.Ipc as ipc
-use Rattle.qs_ipc.specs.Ipc.{IpcValue, queue_at, server_cmp}
-use Rattle.qs_ipc.specs.Queue.{is_for}
-use Rattle.qs_ipc.specs.declared.delivery.Delivery.{Delivery}
-use Rattle.qs_ops.specs.Members.{class_of}
-use Rattle.qs_ops.specs.declared.reply.Reply.{Reply}
-use Rattle.qs_node_servers.specs.Servers.{server_at, is_client}
-use Rattle.qs_tm.specs.Outcomes.{is_abort}
-use Rattle.qs_tm.specs.Participant.{member_of, is_undecided}
-use Rattle.qs_tm.specs.declared.participant.Participant.{Participant}
-use Rattle.qs_node_step.specs.Serving.{reply_here, may_serve, serve_or_drop, serve_next}
-use Rattle.qs_node_step.specs.State.{Work, part_of, with_queues}
+use Rattle.qs_node_step.specs.Serving.{may_serve}
 use Rattle.qs_world_agree.specs.World.{World}
-use Rattle.qs_world_refine.specs.Faces.{Face}
-use Rattle.qs_world_refine.specs.NodeFaces.{face, waiting_at}
-use Rattle.qs_world_refine.specs.ServeWhole.{CanCount, ServeAllGoes}
-use Rattle.qs_world_refine.specs.Shows.{Scene, sight_during}
-use Rattle.qs_world_refine.specs.Sights.{Sight, ShowsSight}
-use Rattle.qs_world_refine.specs.Sound.{is_sound_delivery, may_be_served}
-use Rattle.qs_world_refine.specs.Stands.{Stands, GoesOn}
-use Rattle.qs_world_refine.specs.Steps.{Goes}
+use Rattle.qs_world_refine.specs.NodeFaces.{waiting_at}
+use Rattle.qs_world_refine.specs.ServeWhole.{ServeAllGoes}
 use Rattle.qs_world_refine.proofs.OwnReplies.{OfServer, OfClient, own_replies}
 use Rattle.qs_world_refine.proofs.ServeFrames.{next_leaves, next_kinds}
 use Rattle.qs_world_refine.proofs.SettleStands.{stands_itself, goes_further, whole_known}
@@ -40,8 +19,6 @@ use Rattle.qs_world_refine.proofs.SoundViews.{seen}
 use Rattle.qs_ops.specs.Server.{reply_of}
 use Rattle.qs_ops.specs.declared.reply.Reply.TheVariants as replies
 use Rattle.qs_tm.specs.Participant as participant
-use Rattle.qs_node_step.specs.Serving.{serve}
-use Rattle.qs_world_refine.specs.Places.{place}
 use Rattle.qs_world_refine.specs.Steps.{Knows}
 use Rattle.qs_world_refine.proofs.Alike.{SameFace, same_itself, found_itself, sight_alike}
 use Rattle.qs_world_refine.proofs.DecidedStands.{KeepOutcomes, decided_stands}

@@ -1,16 +1,9 @@
 -- A server that is changed stays of its kind, and so do the others.
-use Rattle.std.proofs.Common.{◌≡◌, ℕ, ◌==◌, Bool, true, false, refl, if◌then◌else◌}
-use Rattle.qs_base.specs.declared.identifiers.ServerNo.{ServerNo}
-use Rattle.qs_base.specs.declared.identifiers.Tid.{Tid}
-use Rattle.qs_ops.specs.Server.{ServerValue, after_vote, voted_by, after_notice, noted_by, after_serving, served_by}
+use Rattle.qs_world_refine.proofs.Words.{◌≡◌, ℕ, ◌==◌, Bool, true, false, refl, if◌then◌else◌, ServerNo, Tid, ServerValue, after_vote, after_notice, after_serving, Op, Reply, ServerKind, Vote, ServersValue, server_at, with_server}
+use Rattle.qs_ops.specs.Server.{voted_by, noted_by, served_by}
 use Rattle.qs_ops.specs.Servers as numbers
-use Rattle.qs_ops.specs.declared.operation.Op.{Op}
-use Rattle.qs_ops.specs.declared.reply.Reply.{Reply}
-use Rattle.qs_ops.specs.declared.server.ServerKind.{ServerKind}
 use Rattle.qs_ops.specs.declared.server.ServerKind.TheVariants as kinds
 use Rattle.qs_ops.specs.declared.vote.Notice.{Notice}
-use Rattle.qs_ops.specs.declared.vote.Vote.{Vote}
-use Rattle.qs_node_servers.specs.Servers.{ServersValue, server_at, with_server}
 
 module _ (f : ServerValue → ServerValue) (keeps : (value : ServerValue) → (f value).kind ≡ value.kind) where
   here : (t : Bool) (x y : ServerValue) → ◌≡◌ {A = ServerKind} (if t then f x else y).kind (if t then x else y).kind

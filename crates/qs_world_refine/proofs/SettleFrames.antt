@@ -1,47 +1,19 @@
 -- What a node does of itself for one transaction leaves every other one.
-use Rattle.std.proofs.Common.{◌≡◌, ℕ, ◌||◌, Bool, true, false, List, [], ◌∷◌, ◌++◌, Option, Some, None, refl, sym, ap, if◌then◌else◌}
-use Rattle.std.specs.List.{find, list_any}
-use Rattle.qs_base.specs.Order.{same_tid}
-use Rattle.qs_base.specs.declared.identifiers.Member.{Member}
-use Rattle.qs_base.specs.declared.identifiers.NodeNo.{NodeNo}
+use Rattle.qs_world_refine.proofs.Words.{◌≡◌, ℕ, ◌||◌, Bool, true, false, List, [], ◌∷◌, ◌++◌, Option, Some, None, refl, sym, ap, if◌then◌else◌, find, list_any, same_tid, Member, NodeNo, ServerNo, Tid, release_of, same_node, listed, is_outcome_of, Decided, vote_of, Cause, Op, Note, Vote, Record, server_at, audit_no, files_no, told_with_own, is_undecided, is_forgotten, Decision, Outstanding, Participant, is_kept_commit, was_committed, enter, log_if, tid_of, member_here, decide, decide_as}
+use Rattle.qs_world_refine.proofs.Words.{decide_commit, keep_outcome, give_notices, end_members, enter_issue, with_local, issue, issue_as, issue_here, issue_away, next_number, may_answer, is_quiet, is_pass_due, pass_rule, ready_rule, answer_superior, say_yes, refusal_goes_to, send_refusal, refuse_elsewhere, refuse_rule, forget_rule, try, settle_tid, Work, here, part_of, doings_of, with_manager, forget, owes_note, issue_note, note_text, change_count, served_count, enter_vote, vote_with, vote_next}
+use Rattle.qs_world_refine.proofs.Words.{vote_frame, due_votes, vote_pass, began_here, is_past_commit, same_Some}
 use Rattle.qs_base.specs.declared.identifiers.Outcome.{Outcome}
 use Rattle.qs_base.specs.declared.identifiers.Outcome.TheVariants as outcomes
-use Rattle.qs_base.specs.declared.identifiers.ServerNo.{ServerNo}
-use Rattle.qs_base.specs.declared.identifiers.Tid.{Tid}
-use Rattle.qs_engage.specs.Engage.{release_of}
-use Rattle.qs_engage.specs.Nodes.{same_node, listed}
-use Rattle.qs_node_kept.specs.Keeping.{is_outcome_of}
-use Rattle.qs_node_kept.specs.declared.kept.Decided.{Decided}
-use Rattle.qs_ops.specs.Server.{vote_of}
-use Rattle.qs_ops.specs.declared.answer.Cause.{Cause}
 use Rattle.qs_ops.specs.declared.answer.Cause.TheVariants as causes
-use Rattle.qs_ops.specs.declared.operation.Op.{Op}
-use Rattle.qs_ops.specs.declared.operation.Op.TheVariants.{Note}
-use Rattle.qs_ops.specs.declared.vote.Vote.{Vote}
 use Rattle.qs_ops.specs.declared.vote.Vote.TheVariants as votes
 use Rattle.qs_packet.specs.declared.message.Message.TheVariants as messages
-use Rattle.qs_record.specs.declared.record.Record.{Record}
 use Rattle.qs_record.specs.declared.record.Record.TheVariants as records
-use Rattle.qs_node_servers.specs.Servers.{server_at, audit_no}
 use Rattle.qs_tm.specs.Manager as tm
-use Rattle.qs_tm.specs.Members.{files_no}
 use Rattle.qs_tm.specs.Outcomes as outcome_rules
-use Rattle.qs_tm.specs.Outcomes.{told_with_own}
 use Rattle.qs_tm.specs.Participant as participant
-use Rattle.qs_tm.specs.Participant.{is_undecided, is_ready, is_forgotten}
-use Rattle.qs_tm.specs.declared.manager.Decision.{Decision}
-use Rattle.qs_tm.specs.declared.participant.Outstanding.{Outstanding}
-use Rattle.qs_tm.specs.declared.participant.Participant.{Participant}
-use Rattle.qs_node_step.specs.Answering.{is_kept_commit, was_committed}
-use Rattle.qs_node_step.specs.Bringing.{enter, log_if, tid_of, member_here}
-use Rattle.qs_node_step.specs.Deciding.{decide, decide_as, decide_commit, keep_outcome, give_notices, end_members}
-use Rattle.qs_node_step.specs.Requests.{enter_issue, with_local, issue, issue_as, issue_here, issue_away, next_number}
-use Rattle.qs_node_step.specs.Settling.{may_answer, is_quiet, is_pass_due, pass_rule, ready_rule, answer_superior, say_yes, refusal_goes_to, send_refusal, refuse_elsewhere, refuse_rule, forget_rule, try, settle_tid}
-use Rattle.qs_node_step.specs.State.{Work, here, part_of, doings_of, with_manager}
-use Rattle.qs_node_step.specs.Telling.{forget}
-use Rattle.qs_node_step.specs.Voting.{owes_note, issue_note, note_text, change_count, served_count, enter_vote, log_prepare, vote_with, vote_next, vote_frame, due_votes, vote_pass}
+use Rattle.qs_tm.specs.Participant.{is_ready}
+use Rattle.qs_node_step.specs.Voting.{log_prepare}
 use Rattle.qs_book_journal.specs.declared.entry.Act.TheVariants as acts
-use Rattle.qs_world_refine.specs.NodeFaces.{began_here, is_past_commit}
 use Rattle.qs_world_refine.proofs.During.{Leaves, leaves_itself, leaves_on, send_leaves}
 use Rattle.qs_world_refine.proofs.Frames.{out_leaves, part_leaves, part_apart, log_leaves, sends_leave}
 use Rattle.qs_world_refine.proofs.IssueAway.{issue_leaves}
@@ -73,18 +45,12 @@ module _ (t tid : Tid) (apart : Apart t tid) where
   record_apart outcomes.Commit part r is = by (outcome_rules.writes_commit part) is
     where
       by : (b : Bool) → (if b then Some (records.Commit tid (listed part.told)) else None) ≡ Some r → Apart t (tid_of r)
-      by true is = rw (sym (some_same (records.Commit tid (listed part.told)) r is)) apart
-        where
-          some_same : (a b : Record) → Some a ≡ Some b → a ≡ b
-          some_same a b e = cc e
+      by true is = rw (sym (same_Some (records.Commit tid (listed part.told)) r is)) apart
       by false is = absurd (cc is)
   record_apart outcomes.Abort part r is = by part.log.prepared is
     where
       by : (b : Bool) → (if b then Some (records.Aborted tid) else None) ≡ Some r → Apart t (tid_of r)
-      by true is = rw (sym (some_same (records.Aborted tid) r is)) apart
-        where
-          some_same : (a b : Record) → Some a ≡ Some b → a ≡ b
-          some_same a b e = cc e
+      by true is = rw (sym (same_Some (records.Aborted tid) r is)) apart
       by false is = absurd (cc is)
 
   made_leaves : (outcome : Outcome) (cause : Option Cause) (made : Decision) (work : Work) → ((r : Record) → made.rec ≡ Some r → Apart t (tid_of r)) → Leaves t work (decide_as tid outcome cause made work)

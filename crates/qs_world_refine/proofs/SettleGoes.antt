@@ -1,13 +1,7 @@
 -- A node settles at the end of a step: one transaction after the other.
-use Rattle.std.proofs.Common.{◌≡◌, ℕ, Bool, true, false, List, [], ◌∷◌, fold, refl, subst}
-use Rattle.qs_base.specs.Order.{same_tid}
-use Rattle.qs_base.specs.declared.identifiers.Tid.{Tid}
-use Rattle.qs_node_step.specs.Settling.{pass_rule, ready_rule, refuse_rule, forget_rule, try, settle_tid, due_tids}
-use Rattle.qs_node_step.specs.State.{Work}
+use Rattle.qs_world_refine.proofs.Words.{◌≡◌, ℕ, Bool, true, false, List, [], ◌∷◌, fold, refl, subst, same_tid, Tid, pass_rule, ready_rule, refuse_rule, forget_rule, try, settle_tid, due_tids, Work, Scene, Stands, GoesOn}
 use Rattle.qs_world_agree.specs.World.{World}
 use Rattle.qs_world_refine.specs.SettleWhole.{SettleTidGoes, SettleGoes}
-use Rattle.qs_world_refine.specs.Shows.{Scene}
-use Rattle.qs_world_refine.specs.Stands.{Stands, GoesOn}
 use Rattle.qs_world_refine.proofs.KindsKept.{settle_kinds}
 use Rattle.qs_world_refine.proofs.SettleFrames.{settle_leaves}
 use Rattle.qs_world_refine.proofs.SettleHome.{ready_stands, refuse_stands, forget_stands}

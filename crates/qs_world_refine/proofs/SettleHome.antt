@@ -1,26 +1,10 @@
 -- Each rule by which a node settles a transaction leaves standing what stood of it, at the home and elsewhere.
-use Rattle.std.proofs.Common.{◌≡◌, ℕ, ◌==◌, ◌&&◌, ◌||◌, not, Bool, true, false, List, [], ◌∷◌, Option, Some, None, is_some, refl, sym, subst, ap, ◌∙◌, arith, if◌then◌else◌}
-use Rattle.std.specs.Prelude.{is_none}
-use Rattle.std.proofs.lemmas.Bool.{eqb-true}
-use Rattle.std.proofs.lemmas.Bool.Decides.{nat_tests}
+use Rattle.qs_world_refine.proofs.Words.{◌≡◌, ℕ, ◌==◌, ◌&&◌, ◌||◌, not, Bool, true, false, List, [], ◌∷◌, Option, Some, None, is_some, refl, sym, subst, ap, ◌∙◌, arith, if◌then◌else◌, is_none, eqb-true, nat_tests, Tid, same_node, Cause, is_undecided, is_forgotten, Participant, decide, decide_commit, may_answer, is_quiet, ready_rule, answer_superior, refuse_rule, forget_rule, Work, part_of, doings_of, forget, Scene, is_sound, StaysSound, may_doubt, Stands, GoesOn, never_not}
 use Rattle.qs_base.specs.declared.identifiers.Outcome.{Outcome}
 use Rattle.qs_base.specs.declared.identifiers.Outcome.TheVariants as outcomes
-use Rattle.qs_base.specs.declared.identifiers.Tid.{Tid}
-use Rattle.qs_engage.specs.Nodes.{same_node}
-use Rattle.qs_ops.specs.declared.answer.Cause.{Cause}
 use Rattle.qs_ops.specs.declared.answer.Cause.TheVariants as causes
 use Rattle.qs_tm.specs.Manager as tm
-use Rattle.qs_tm.specs.Participant.{is_undecided, is_forgotten}
-use Rattle.qs_tm.specs.declared.participant.Participant.{Participant}
-use Rattle.qs_node_step.specs.Deciding.{decide, decide_commit}
-use Rattle.qs_node_step.specs.Settling.{may_answer, is_quiet, ready_rule, answer_superior, refuse_rule, forget_rule}
-use Rattle.qs_node_step.specs.State.{Work, part_of, doings_of}
-use Rattle.qs_node_step.specs.Telling.{forget}
 use Rattle.qs_world_agree.specs.World.{World}
-use Rattle.qs_world_refine.specs.Shows.{Scene}
-use Rattle.qs_world_refine.specs.Sound.{is_sound}
-use Rattle.qs_world_refine.specs.SoundLaws.{StaysSound}
-use Rattle.qs_world_refine.specs.Stands.{may_doubt, Stands, GoesOn}
 use Rattle.qs_world_refine.proofs.During.{Leaves}
 use Rattle.qs_world_refine.proofs.KindsKept.{ready_kinds, refuse_kinds}
 use Rattle.qs_world_refine.proofs.Known.{is_open}
@@ -99,10 +83,7 @@ module _ (tid : Tid) (scene : Scene) (work : Work) (w : World) (part : Participa
   forget_here = by (is_forgotten part) refl
     where
       never : is_forgotten part ≡ true → ⊥
-      never so = off part.engage.home home (and_both (is_undecided part) (not part.engage.home) (and_both (is_undecided part && not part.engage.home) _ so).0).1
-        where
-          off : (b : Bool) → b ≡ true → not b ≡ true → ⊥
-          off b is never = cc (rw is at never)
+      never so = never_not part.engage.home home (and_both (is_undecided part) (not part.engage.home) (and_both (is_undecided part && not part.engage.home) _ so).0).1
 
       by : (b : Bool) → is_forgotten part ≡ b → GoesOn tid scene tid.home.0 (if b then forget tid work else work) w
       by true so = absurd (never so)

@@ -1,36 +1,11 @@
 -- Each rule by which a node settles a transaction leaves standing what stood of it.
-use Rattle.std.proofs.Common.{◌≡◌, ℕ, ◌+◌, ◌≤◌, ◌==◌, ◌&&◌, ◌||◌, not, Bool, true, false, List, ◌++◌, Option, Some, None, is_some, refl, sym, ap, ◌∙◌, arith, if◌then◌else◌}
-use Rattle.std.specs.List.{filter}
-use Rattle.std.specs.Prelude.{is_none}
-use Rattle.std.specs.BTreeMap.{is_at}
-use Rattle.std.proofs.lemmas.Bool.Decides.{nat_tests}
-use Rattle.qs_base.specs.Order.{tid_cmp}
-use Rattle.qs_base.specs.declared.identifiers.NodeNo.{NodeNo}
+use Rattle.qs_world_refine.proofs.Words.{◌≡◌, ℕ, ◌+◌, ◌≤◌, ◌==◌, ◌&&◌, ◌||◌, not, Bool, true, false, List, ◌++◌, Option, Some, None, is_some, refl, sym, ap, ◌∙◌, arith, if◌then◌else◌, filter, is_none, is_at, nat_tests, tid_cmp, NodeNo, Tid, release_of, listed, is_no_node, Record, recovery, told_with_own, is_undecided, is_forgotten, only_read, Participant, is_forced, decide_commit, may_answer, is_quiet, pass_rule, ready_rule, answer_superior, say_yes, refusal_goes_to, send_refusal, refuse_elsewhere}
+use Rattle.qs_world_refine.proofs.Words.{refuse_rule, forget_rule, try, Work, here, part_of, doings_of, with_manager, forget, node_no, Scene, sight_during, is_in_doubt, where_so, StaysSound, may_doubt, Stands, GoesOn, Goes, or_last, same_Some, not-true}
 use Rattle.qs_base.specs.declared.identifiers.Outcome.{Outcome}
-use Rattle.qs_base.specs.declared.identifiers.Tid.{Tid}
-use Rattle.qs_engage.specs.Engage.{release_of}
-use Rattle.qs_engage.specs.Nodes.{listed, is_no_node}
 use Rattle.qs_packet.specs.declared.message.Message.TheVariants as messages
-use Rattle.qs_record.specs.declared.record.Record.{Record}
-use Rattle.qs_restart.specs.Recovery.{recovery}
 use Rattle.qs_tm.specs.Manager as tm
-use Rattle.qs_tm.specs.Outcomes.{told_with_own}
 use Rattle.qs_tm.specs.Participant as participant
-use Rattle.qs_tm.specs.Participant.{is_undecided, is_forgotten, only_read}
-use Rattle.qs_tm.specs.declared.participant.Participant.{Participant}
-use Rattle.qs_node_step.specs.Bringing.{is_forced}
-use Rattle.qs_node_step.specs.Deciding.{decide_commit}
-use Rattle.qs_node_step.specs.Settling.{may_answer, is_quiet, pass_rule, ready_rule, answer_superior, say_yes, refusal_goes_to, send_refusal, refuse_elsewhere, refuse_rule, forget_rule, try}
-use Rattle.qs_node_step.specs.State.{Work, here, part_of, doings_of, with_manager}
-use Rattle.qs_node_step.specs.Telling.{forget}
 use Rattle.qs_world_agree.specs.World.{World}
-use Rattle.qs_world_refine.specs.Links.{node_no}
-use Rattle.qs_world_refine.specs.Shows.{Scene, sight_during}
-use Rattle.qs_world_refine.specs.Sights.{is_in_doubt}
-use Rattle.qs_world_refine.specs.Sound.{where_so}
-use Rattle.qs_world_refine.specs.SoundLaws.{StaysSound}
-use Rattle.qs_world_refine.specs.Stands.{may_doubt, Stands, GoesOn}
-use Rattle.qs_world_refine.specs.Steps.{Goes}
 use Rattle.qs_world_refine.proofs.During.{Leaves}
 use Rattle.qs_world_refine.proofs.Facts.{lawful_on}
 use Rattle.qs_world_refine.proofs.Forgetting.{forgotten}
@@ -101,20 +76,13 @@ module _ (tid : Tid) (scene : Scene) (n : ℕ) where
     clear_carried none s = same_found ∙ is.clear (rw (known, undecided) (carried.unprepared bare).0) s
       where
         bare : carried.next.log.prepared ≡ false
-        bare = off (is_some carried.next.outcome) carried.next.log.prepared (sym (ap (may_doubt (tid.home.0 == n)) carried.known) ∙ none)
-          where
-            off : (a b : Bool) → (a || b) ≡ false → b ≡ false
-            off true b is = absurd (cc is)
-            off false b is = is
+        bare = or_last (is_some carried.next.outcome) carried.next.log.prepared (sym (ap (may_doubt (tid.home.0 == n)) carried.known) ∙ none)
 
         same_found : is_in_doubt tid s ((sight_during tid scene n new).found n) ≡ is_in_doubt tid s ((sight_during tid scene n work).found n)
         same_found = ap (λ (rs : List Record). is_in_doubt tid s (if n == n then recovery (scene.log n ++ filter is_forced rs) else recovery (scene.log n))) (carried.unprepared bare).1
 
     pub answers_carried : Answers new
-    answers_carried now m its has = is.superior part m known (carried.superior (node_no m) (ap (λ (p : Participant). p.engage.superior) (some_same carried.next now (sym carried.known ∙ its)) ∙ has))
-      where
-        some_same : (a b : Participant) → Some a ≡ Some b → a ≡ b
-        some_same a b e = cc e
+    answers_carried now m its has = is.superior part m known (carried.superior (node_no m) (ap (λ (p : Participant). p.engage.superior) (same_Some carried.next now (sym carried.known ∙ its)) ∙ has))
 
   -- ---- a vote pass
 
@@ -196,11 +164,7 @@ module _ (tid : Tid) (scene : Scene) (n : ℕ) where
     uninvolved so =
         let parts : ((is_undecided part && not part.engage.home) ≡ true) × (((is_none part.engage.superior && not part.involved) && (is_no_node part.told && only_read part)) ≡ true) = and_both (is_undecided part && not part.engage.home) ((is_none part.engage.superior && not part.involved) && (is_no_node part.told && only_read part)) so in
         let idle : ((is_none part.engage.superior && not part.involved) ≡ true) × ((is_no_node part.told && only_read part) ≡ true) = and_both (is_none part.engage.superior && not part.involved) (is_no_node part.told && only_read part) parts.1 in
-        off part.involved (and_both (is_none part.engage.superior) (not part.involved) idle.0).1
-      where
-        off : (a : Bool) → not a ≡ true → a ≡ false
-        off true is = absurd (cc is)
-        off false is = refl
+        not-true part.involved (and_both (is_none part.engage.superior) (not part.involved) idle.0).1
 
     unprepared : is_forgotten part ≡ true → part.log.prepared ≡ false
     unprepared so = by part.log.prepared part.involved (uninvolved so)

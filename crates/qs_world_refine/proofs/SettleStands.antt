@@ -1,26 +1,8 @@
 -- What stands of a transaction stands once its node has settled it, or another one.
-use Rattle.std.proofs.Common.{◌≡◌, ◌≢◌, ℕ, ◌<◌, ◌==◌, ◌&&◌, not, nat_le, nat_lt, Bool, true, false, [], Option, Some, None, refl, sym, subst, ap, ◌∙◌, arith}
-use Rattle.std.proofs.lemmas.Bool.{eqb-true}
-use Rattle.std.proofs.lemmas.Bool.Decides.{nat_tests}
-use Rattle.qs_base.specs.declared.identifiers.NodeNo.{NodeNo}
-use Rattle.qs_base.specs.declared.identifiers.Tid.{Tid}
-use Rattle.qs_engage.specs.Nodes.{same_node}
+use Rattle.qs_world_refine.proofs.Words.{◌≡◌, ◌≢◌, ℕ, ◌<◌, ◌==◌, ◌&&◌, not, nat_le, nat_lt, Bool, true, false, [], Option, Some, None, refl, sym, subst, ap, ◌∙◌, arith, eqb-true, nat_tests, NodeNo, Tid, same_node, is_undecided, Participant, Work, part_of, Leads, leads_on, IsHome, HasNoDoubt, node_no, HasKinds, IsElsewhere, Scene, sight_during, is_in_doubt, is_sound, is_superior, same_flag, where_so, may_doubt, Stands, GoesOn, IsAt, IsKnown, never_not, never_both}
 use Rattle.qs_tm.specs.Manager as tm
-use Rattle.qs_tm.specs.Participant.{is_undecided}
-use Rattle.qs_tm.specs.declared.participant.Participant.{Participant}
-use Rattle.qs_node_step.specs.State.{Work, part_of}
 use Rattle.qs_world_agree.specs.World.{World}
-use Rattle.qs_world_agree.specs.Carry.{Leads}
-use Rattle.qs_world_agree.proofs.Carries.{leads_on}
-use Rattle.qs_world_refine.specs.DecisionLaws.{IsHome, HasNoDoubt}
-use Rattle.qs_world_refine.specs.Links.{node_no}
-use Rattle.qs_world_refine.specs.PassLaws.{HasKinds}
-use Rattle.qs_world_refine.specs.SettleLaws.{IsElsewhere}
-use Rattle.qs_world_refine.specs.Shows.{Scene, sight_during}
-use Rattle.qs_world_refine.specs.Sights.{is_in_doubt}
-use Rattle.qs_world_refine.specs.Sound.{is_sound, is_superior, same_flag, where_so}
-use Rattle.qs_world_refine.specs.Stands.{may_doubt, Stands, GoesOn}
-use Rattle.qs_world_refine.specs.Steps.{IsAt, IsKnown, Knows}
+use Rattle.qs_world_refine.specs.Steps.{Knows}
 use Rattle.qs_world_refine.proofs.During.{Leaves, leaves_shown, found_same}
 use Rattle.qs_world_refine.proofs.Known.{is_open}
 use Rattle.qs_world_refine.proofs.PassGoes.{whole_of}
@@ -96,15 +78,12 @@ module _ (tid : Tid) (scene : Scene) (n : ℕ) (work : Work) (w : World) (is : S
   pub is_elsewhere : (tid.home.0 == n) ≡ false → IsElsewhere tid scene n work part
   is_elsewhere away = record {
     at = is.at;
-    away = λ same. off (tid.home.0 == n) (grind (arith, nat_tests, same)) away;
+    away = λ same. never_both (tid.home.0 == n) (grind (arith, nat_tests, same)) away;
     home_in = is.home_in;
     knows = record { known = known; whole = whole_of part its.whole };
     not_home = elsewhere away;
     undecided = undecided;
   }
-    where
-      off : (b : Bool) → b ≡ true → b ≡ false → ⊥
-      off b is other = cc (is, other)
 
   -- it answers to another node of the run, which is known
   pub superior_known : (m : ℕ) → part.engage.superior ≡ Some (node_no m) → IsKnown scene n m (scene.knows n m)
@@ -123,10 +102,7 @@ module _ (tid : Tid) (scene : Scene) (n : ℕ) (work : Work) (w : World) (is : S
           (and_both (nat_lt m work.node.setting.nodes && not (same_node (node_no m) work.node.setting.node)) _ (and_both (not part.engage.home) (is_superior work.node part.engage.last_superior (node_no m)) sound_one).1).0
 
       apart : m ≢ n
-      apart e = off (same_node (node_no m) work.node.setting.node) (rw is.at.node (grind (arith, nat_tests, e))) tests.1
-        where
-          off : (b : Bool) → b ≡ true → not b ≡ true → ⊥
-          off b is never = cc (rw is at never)
+      apart e = never_not (same_node (node_no m) work.node.setting.node) (rw is.at.node (grind (arith, nat_tests, e))) tests.1
 
 module _ (tid : Tid) (scene : Scene) (work : Work) (w : World) (is : Stands tid scene tid.home.0 work w) (part : Participant) (known : part_of tid work ≡ Some part) (undecided : part.outcome ≡ None) where
   here_is : (tid.home.0 == tid.home.0) ≡ true

@@ -1,23 +1,11 @@
 -- What a node does of itself for one transaction: readiness, refusals and forgetting.
-use Rattle.std.proofs.Common.{◌≡◌, ℕ, ◌&&◌, not, Bool, true, false, List, [], ◌∷◌, Option, Some, None, refl, sym, subst, ap, if◌then◌else◌}
-use Rattle.qs_base.specs.declared.identifiers.NodeNo.{NodeNo}
+use Rattle.qs_world_refine.proofs.Words.{◌≡◌, ℕ, ◌&&◌, not, Bool, true, false, List, [], ◌∷◌, Option, Some, None, refl, sym, subst, ap, if◌then◌else◌, NodeNo, Tid, peer_of, Cause, is_undecided, only_read, needs_pass, Participant, decide, decide_commit, is_busy, may_answer, is_quiet, ready_rule, answer_superior, say_yes, refusal_goes_to, send_refusal, refuse_elsewhere, Work, doings_of, with_manager, forget, face, Goes, and_parts}
 use Rattle.qs_base.specs.declared.identifiers.Outcome.TheVariants as outcomes
-use Rattle.qs_base.specs.declared.identifiers.Tid.{Tid}
-use Rattle.qs_engage.specs.Engage.{peer_of}
-use Rattle.qs_ops.specs.declared.answer.Cause.{Cause}
 use Rattle.qs_ops.specs.declared.answer.Cause.TheVariants as causes
 use Rattle.qs_packet.specs.declared.message.Message.TheVariants as messages
 use Rattle.qs_tm.specs.Manager as tm
 use Rattle.qs_tm.specs.Participant as participant
-use Rattle.qs_tm.specs.Participant.{is_undecided, only_read, needs_pass}
-use Rattle.qs_tm.specs.declared.participant.Participant.{Participant}
-use Rattle.qs_node_step.specs.Deciding.{decide, decide_commit}
-use Rattle.qs_node_step.specs.Settling.{is_busy, may_answer, is_quiet, ready_rule, answer_superior, say_yes, refusal_goes_to, send_refusal, refuse_elsewhere}
-use Rattle.qs_node_step.specs.State.{Work, doings_of, with_manager}
-use Rattle.qs_node_step.specs.Telling.{forget}
-use Rattle.qs_world_refine.specs.NodeFaces.{face}
 use Rattle.qs_world_refine.specs.SettleLaws.{ReadyHomeGoes, ReadyElsewhereGoes, RefuseHomeGoes, RefuseElsewhereGoes, ForgetRuleGoes}
-use Rattle.qs_world_refine.specs.Steps.{Goes}
 use Rattle.qs_world_refine.proofs.Alike.{SameFace}
 use Rattle.qs_world_refine.proofs.DecideAbort as abort
 use Rattle.qs_world_refine.proofs.DecideCommit as commit
@@ -27,15 +15,10 @@ use Rattle.qs_world_refine.proofs.Keeping.{keeps_on, keeps_goes, leaves_keeps, p
 use Rattle.qs_world_refine.proofs.Others.{fold_leaves}
 use Rattle.qs_world_refine.proofs.SayYes.{yes_goes}
 
-both : (a b : Bool) → (a && b) ≡ true → (a ≡ true) × (b ≡ true)
-both true true is = (refl, refl)
-both true false is = absurd (cc is)
-both false b is = absurd (cc is)
-
 -- ---- readiness
 
 may_ready : (tid : Tid) (part : Participant) (work : Work) → may_answer tid part work ≡ true → participant.is_ready (is_busy tid work.node part) part ≡ true
-may_ready tid part work may = (both (participant.is_ready (is_busy tid work.node part) part) (not (needs_pass part) && not (doings_of tid work).prepared) may).0
+may_ready tid part work may = (and_parts (participant.is_ready (is_busy tid work.node part) part) (not (needs_pass part) && not (doings_of tid work).prepared) may).0
 
 pub ready_home : ReadyHomeGoes
 ready_home tid scene work part w lawful shown is_home clear = by (may_answer tid part work) refl

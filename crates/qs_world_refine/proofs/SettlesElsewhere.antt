@@ -1,27 +1,11 @@
 -- What another node than the home does of itself for one transaction behind its vote pass: readiness, then refusals, then forgetting.
-use Rattle.std.proofs.Common.{◌≡◌, ℕ, Bool, true, false, List, [], ◌∷◌, Option, Some, None, fold, refl, sym, subst, ap, ◌∙◌, if◌then◌else◌}
-use Rattle.std.specs.BTreeMap.{is_at}
-use Rattle.qs_base.specs.Order.{tid_cmp}
-use Rattle.qs_base.specs.declared.identifiers.NodeNo.{NodeNo}
-use Rattle.qs_base.specs.declared.identifiers.Tid.{Tid}
-use Rattle.qs_engage.specs.Engage.{release_of}
-use Rattle.qs_engage.specs.Nodes.{listed}
-use Rattle.qs_ops.specs.declared.answer.Cause.{Cause}
+use Rattle.qs_world_refine.proofs.Words.{◌≡◌, ℕ, Bool, true, false, List, [], ◌∷◌, Option, Some, None, fold, refl, sym, subst, ap, ◌∙◌, if◌then◌else◌, is_at, tid_cmp, NodeNo, Tid, release_of, listed, Cause, told_with_own, Participant, may_answer, ready_rule, say_yes, refusal_goes_to, send_refusal, refuse_rule, refuse_elsewhere, forget_rule, try, NodeValue, Work, here, with_manager, IsLawful, leads_on, node_no, IsElsewhere, Scene, ShowsWork, in_order, IsWhole, IsKnown, Goes}
 use Rattle.qs_packet.specs.declared.message.Message.TheVariants as messages
 use Rattle.qs_tm.specs.Manager as tm
-use Rattle.qs_tm.specs.Outcomes.{told_with_own}
 use Rattle.qs_tm.specs.Participant as participant
-use Rattle.qs_tm.specs.declared.participant.Participant.{Participant}
-use Rattle.qs_node_step.specs.Settling.{may_answer, ready, ready_rule, say_yes, refusal_goes_to, send_refusal, refuse_rule, refuse_elsewhere, forget_rule, try}
-use Rattle.qs_node_step.specs.State.{NodeValue, Work, here, with_manager}
+use Rattle.qs_node_step.specs.Settling.{ready}
 use Rattle.qs_world_agree.specs.World.{World}
-use Rattle.qs_world_agree.specs.Carry.{IsLawful}
-use Rattle.qs_world_agree.proofs.Carries.{leads_on}
-use Rattle.qs_world_refine.specs.Links.{node_no}
-use Rattle.qs_world_refine.specs.SettleLaws.{IsElsewhere, SettleElsewhereGoes}
-use Rattle.qs_world_refine.specs.Shows.{Scene, ShowsWork}
-use Rattle.qs_world_refine.specs.Sound.{in_order}
-use Rattle.qs_world_refine.specs.Steps.{IsWhole, IsKnown, Goes}
+use Rattle.qs_world_refine.specs.SettleLaws.{SettleElsewhereGoes}
 use Rattle.qs_world_refine.proofs.Facts.{lawful_on}
 use Rattle.qs_world_refine.proofs.Forgetting.{order_changed}
 use Rattle.qs_world_refine.proofs.Known.{undecided_is}

@@ -1,36 +1,15 @@
 -- What a node does of itself for one transaction behind its vote pass: readiness, then refusals, then forgetting.
-use Rattle.std.proofs.Common.{◌≡◌, ℕ, ◌&&◌, not, Bool, true, false, List, [], ◌∷◌, Option, Some, None, fold, refl, sym, subst, ap, ◌∙◌, if◌then◌else◌}
-use Rattle.std.specs.Prelude.{is_none}
-use Rattle.std.specs.BTreeMap.{is_at}
-use Rattle.qs_base.specs.Order.{tid_cmp}
-use Rattle.qs_base.specs.declared.identifiers.NodeNo.{NodeNo}
+use Rattle.qs_world_refine.proofs.Words.{◌≡◌, ℕ, ◌&&◌, not, Bool, true, false, List, [], ◌∷◌, Option, Some, None, fold, refl, sym, subst, ap, ◌∙◌, if◌then◌else◌, is_none, is_at, tid_cmp, NodeNo, ServerNo, Tid, listed, is_no_node, Cause, Message, Record, is_undecided, only_read, Participant, where_undecided, send, send_each, decide, decide_commit, end_member, end_members, due_endings, learn_member, learners_at, give_notices, may_answer, is_quiet, ready_rule, refuse_rule, refuse_elsewhere}
+use Rattle.qs_world_refine.proofs.Words.{forget_rule, try, Work, doings_of, part_of, with_manager, forget, IsLawful, IsHome, HasNoDoubt, Scene, ShowsWork, Goes}
 use Rattle.qs_base.specs.declared.identifiers.Outcome.{Outcome}
 use Rattle.qs_base.specs.declared.identifiers.Outcome.TheVariants as outcomes
-use Rattle.qs_base.specs.declared.identifiers.ServerNo.{ServerNo}
-use Rattle.qs_base.specs.declared.identifiers.Tid.{Tid}
-use Rattle.qs_engage.specs.Nodes.{listed, is_no_node}
-use Rattle.qs_ops.specs.declared.answer.Cause.{Cause}
 use Rattle.qs_ops.specs.declared.answer.Cause.TheVariants as causes
-use Rattle.qs_packet.specs.declared.message.Message.{Message}
 use Rattle.qs_packet.specs.declared.message.Message.TheVariants as messages
-use Rattle.qs_record.specs.declared.record.Record.{Record}
 use Rattle.qs_tm.specs.Manager as tm
 use Rattle.qs_tm.specs.Outcomes as outcome_rules
-use Rattle.qs_tm.specs.Participant.{is_undecided, only_read}
-use Rattle.qs_tm.specs.declared.participant.Participant.{Participant}
-use Rattle.qs_node_step.specs.Asking.{where_undecided}
-use Rattle.qs_node_step.specs.Bringing.{send, send_each}
-use Rattle.qs_node_step.specs.Deciding.{decide, decide_commit, end_member, end_members, due_endings, learn_member, learners_at, give_notices}
-use Rattle.qs_node_step.specs.Settling.{may_answer, is_quiet, ready_rule, refuse_rule, refuse_elsewhere, forget_rule, try}
 use Rattle.qs_node_step.specs.Settling.{refuse_home as refuse_at_home}
-use Rattle.qs_node_step.specs.State.{Work, doings_of, part_of, with_manager}
-use Rattle.qs_node_step.specs.Telling.{forget}
 use Rattle.qs_world_agree.specs.World.{World}
-use Rattle.qs_world_agree.specs.Carry.{IsLawful}
-use Rattle.qs_world_refine.specs.DecisionLaws.{IsHome, HasNoDoubt}
 use Rattle.qs_world_refine.specs.SettleLaws.{SettleHomeGoes}
-use Rattle.qs_world_refine.specs.Shows.{Scene, ShowsWork}
-use Rattle.qs_world_refine.specs.Steps.{Goes}
 use Rattle.qs_world_refine.proofs.Deciding as deciding
 use Rattle.qs_world_refine.proofs.Deciding.{IsOwn}
 use Rattle.qs_world_refine.proofs.Keeping.{nothing_goes}

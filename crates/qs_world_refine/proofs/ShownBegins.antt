@@ -1,25 +1,12 @@
 -- Those that begin in a move of a world in which all are shown are shown after it; and as a world begins all are shown.
-use Rattle.std.proofs.Common.{◌≡◌, inl, inr, ℕ, ◌<◌, ◌==◌, ◌&&◌, ◌||◌, not, nat_lt, nat_le, Bool, true, false, Option, Some, None, refl, sym, subst, arith}
-use Rattle.std.proofs.lemmas.Bool.Decides.{nat_tests}
-use Rattle.qs_base.specs.declared.identifiers.NodeNo.{NodeNo}
-use Rattle.qs_base.specs.declared.identifiers.Tid.{Tid}
-use Rattle.qs_restart.specs.Recovery.{recovery, names_transaction}
-use Rattle.qs_node_step.specs.Opening.{opened_manager, recovered_of}
+use Rattle.qs_world_refine.proofs.Words.{◌≡◌, inl, inr, ℕ, ◌<◌, ◌==◌, ◌&&◌, ◌||◌, not, nat_lt, nat_le, Bool, true, false, Option, Some, None, refl, sym, subst, arith, nat_tests, NodeNo, Tid, recovery, names_transaction, opened_manager, recovered_of, Move, Cut, Stop, Rise, event_of, step_with, cut_with, moved, IsOpening, Opening, start, Begins, inc_in, count_in, may_be_known, IsUnbegun, ShowsAll, reopening_seen, node_no, IsShown, scene_of, sight, Stage}
 use Rattle.qs_node_step.specs.declared.event.Event.{Event}
-use Rattle.qs_world.specs.Moves.{Move, Step, Cut, Stop, Rise, Meet, event_of, step_with, cut_with, moved}
-use Rattle.qs_world.specs.Openings.{IsOpening}
-use Rattle.qs_world.specs.World.{Opening, World, start}
-use Rattle.qs_world_agree.specs.Carry.{Begins}
+use Rattle.qs_world.specs.Moves.{Step, Meet}
+use Rattle.qs_world.specs.World.{World}
 use Rattle.qs_world_agree.specs.Origins as origins
-use Rattle.qs_world_refine.specs.Begun.{inc_in, count_in, has_begun, may_be_known}
-use Rattle.qs_world_refine.specs.BeginLaws.{IsUnbegun}
-use Rattle.qs_world_refine.specs.EachMove.{ShowsAll}
-use Rattle.qs_world_refine.specs.Lefts.{reopening_seen}
+use Rattle.qs_world_refine.specs.Begun.{has_begun}
 use Rattle.qs_world_refine.specs.LeftLaws.{StartAllShown}
-use Rattle.qs_world_refine.specs.Links.{node_no}
-use Rattle.qs_world_refine.specs.ShownWorlds.{IsShown, EachBegunShown}
-use Rattle.qs_world_refine.specs.Shows.{scene_of, sight}
-use Rattle.qs_world_refine.specs.Tidy.{Stage}
+use Rattle.qs_world_refine.specs.ShownWorlds.{EachBegunShown}
 use Rattle.qs_world_refine.proofs.EachBeginning.{each_begins}
 use Rattle.qs_world_refine.proofs.LeftLogs.{log_said}
 use Rattle.qs_world_refine.proofs.LeftOpenings.{opening_shows_all, placed}

@@ -1,25 +1,14 @@
 -- Where each transaction that has begun is shown, a move asks nothing, and all go on to be shown.
-use Rattle.std.proofs.Common.{◌≡◌, ℕ, ◌<◌, ◌||◌, not, nat_lt, Bool, true, false, [], ◌∷◌, length, Option, Some, None, refl, sym, subst, arith}
-use Rattle.std.proofs.lemmas.Bool.{eqb-true}
-use Rattle.std.proofs.lemmas.Bool.Decides.{nat_tests}
-use Rattle.qs_base.specs.declared.identifiers.Tid.{Tid}
-use Rattle.qs_engage.specs.Nodes.{same_node}
-use Rattle.qs_book_machine.specs.Clauses.{is_crash}
-use Rattle.qs_packet.specs.declared.message.Message.{Message}
+use Rattle.qs_world_refine.proofs.Words.{◌≡◌, ℕ, ◌<◌, ◌||◌, not, nat_lt, Bool, true, false, [], ◌∷◌, length, Option, Some, None, refl, sym, subst, arith, eqb-true, nat_tests, Tid, same_node, is_crash, Message, names_transaction, Source, Commanded, Handed, Queues, Clock, Noticed, Cut, Stop, Rise, event_of, may_step, moved, leads_on, may_be_known, inc_in, count_in, begun_among, fits, AllGoes, MessagesFit, node_no, IsShown, IsShownWorld, FitsMessage, begun, MachineMoves, MachineGives, GivesAt}
+use Rattle.qs_world_refine.proofs.Words.{is_steady_parcel, are_two, IsSteady, same_Some}
 use Rattle.qs_packet.specs.declared.message.Message.TheVariants as messages
-use Rattle.qs_restart.specs.Recovery.{names_transaction}
 use Rattle.qs_node_step.specs.declared.event.Event.{Event}
 use Rattle.qs_node_step.specs.declared.event.Event.TheVariants as events
-use Rattle.qs_world.specs.Moves.{Source, Commanded, Handed, Queues, Clock, Noticed, Step, Cut, Stop, Rise, Meet, event_of, may_step, moved}
+use Rattle.qs_world.specs.Moves.{Step, Meet}
 use Rattle.qs_world.specs.World.{World}
-use Rattle.qs_world_agree.proofs.Carries.{leads_on}
-use Rattle.qs_world_refine.specs.Begun.{has_begun, may_be_known, inc_in, count_in, begun_among, fits}
-use Rattle.qs_world_refine.specs.EachMove.{AllGoes, IsAbout, MessagesFit}
-use Rattle.qs_world_refine.specs.Links.{node_no}
-use Rattle.qs_world_refine.specs.ShownWorlds.{IsShown, IsShownWorld, ShownFit, ShownGives, ShownGoes, MoveShown, RunShown, ShownRunGoes}
-use Rattle.qs_world_refine.specs.SoundSteps.{FitsMessage, begun}
-use Rattle.qs_world_refine.specs.Steadies.{MachineMoves, MachineGives, GivesAt, is_steady_parcel, are_two}
-use Rattle.qs_world_refine.specs.Steady.{IsSteady}
+use Rattle.qs_world_refine.specs.Begun.{has_begun}
+use Rattle.qs_world_refine.specs.EachMove.{IsAbout}
+use Rattle.qs_world_refine.specs.ShownWorlds.{ShownFit, ShownGives, ShownGoes, MoveShown, RunShown, ShownRunGoes}
 use Rattle.qs_world_refine.proofs.BegunStays.{begun_stays}
 use Rattle.qs_world_refine.proofs.EachMay.{all_get, from_client, from_node, from_notice}
 use Rattle.qs_world_refine.proofs.EachMoveGoes.{each_move_goes, shown_fits}
@@ -97,14 +86,8 @@ module _ (world : World) (is : IsShownWorld world) where
   event_gives n stamp free (Commanded k) event n_in on came = let from = from_client world n k event steady came in subst (λ (e : Event). MachineGives e (begun (world.hosts n).node free)) (sym from.is) tt
   event_gives n stamp free (Handed m) event n_in on came = let from = from_node world n stamp m event came in
       subst (λ (e : Event). MachineGives e (begun (world.hosts n).node free)) (sym from.is) (fit_gives n m free from.parcel.message (messages_fit n m free from.parcel n_in on from.found))
-  event_gives n stamp free Queues event n_in on came = subst (λ (e : Event). MachineGives e (begun (world.hosts n).node free)) (one events.ServeAll event came) tt
-    where
-      one : (a b : Event) → Some a ≡ Some b → a ≡ b
-      one a b same = cc (same)
-  event_gives n stamp free Clock event n_in on came = subst (λ (e : Event). MachineGives e (begun (world.hosts n).node free)) (one events.Tick event came) tt
-    where
-      one : (a b : Event) → Some a ≡ Some b → a ≡ b
-      one a b same = cc (same)
+  event_gives n stamp free Queues event n_in on came = subst (λ (e : Event). MachineGives e (begun (world.hosts n).node free)) (same_Some events.ServeAll event came) tt
+  event_gives n stamp free Clock event n_in on came = subst (λ (e : Event). MachineGives e (begun (world.hosts n).node free)) (same_Some events.Tick event came) tt
   event_gives n stamp free (Noticed m new) event n_in on came = let from = from_notice world n stamp m new event came in subst (λ (e : Event). MachineGives e (begun (world.hosts n).node free)) (sym from.is) tt
 
   source_gives : (n stamp free : ℕ) (source : Source) → n < world.size → world.channels.up n ≡ true → GivesAt world n free (event_of world n stamp source)

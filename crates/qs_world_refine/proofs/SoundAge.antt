@@ -1,33 +1,17 @@
 -- A home that aborts what is older than its age limit stays sound.
-use Rattle.std.proofs.Common.{◌≡◌, ℕ, ◌&&◌, Bool, true, false, List, [], ◌∷◌, ◌++◌, cond, fold, Option, Some, None, refl, sym, ap, subst, ◌∙◌, append_assoc, append-nil, arith, if◌then◌else◌}
-use Rattle.std.specs.List.{list_all}
-use Rattle.std.specs.Map.{lookup}
-use Rattle.std.specs.BTreeMap.{is_at}
-use Rattle.std.proofs.lemmas.Bool.Decides.{nat_tests}
-use Rattle.qs_base.specs.Order.{tid_cmp, same_tid}
+use Rattle.qs_world_refine.proofs.Words.{◌≡◌, ℕ, ◌&&◌, Bool, true, false, List, [], ◌∷◌, ◌++◌, cond, fold, Option, Some, None, refl, sym, ap, subst, ◌∙◌, append_assoc, arith, if◌then◌else◌, list_all, lookup, is_at, nat_tests, tid_cmp, same_tid, ServerNo, Tid, Cause, listed, is_one, is_undecided, Decision, Which, Participant, send_each, log_if, decide, decide_as, keep_outcome, give_notices, end_member, end_members, due_endings, learn_member, learners_at, Work, part_of, with_manager, abort_old}
+use Rattle.qs_world_refine.proofs.Words.{age_rule, is_sound, in_order, where_so}
+use Rattle.std.proofs.Common.{append-nil}
 use Rattle.qs_base.specs.declared.identifiers.Outcome.{Outcome}
 use Rattle.qs_base.specs.declared.identifiers.Outcome.TheVariants as outcomes
-use Rattle.qs_base.specs.declared.identifiers.ServerNo.{ServerNo}
-use Rattle.qs_base.specs.declared.identifiers.Tid.{Tid}
-use Rattle.qs_ops.specs.declared.answer.Cause.{Cause}
 use Rattle.qs_ops.specs.declared.answer.Cause.TheVariants as causes
 use Rattle.qs_packet.specs.declared.message.Message.TheVariants as messages
 use Rattle.qs_record.specs.declared.record.Record.TheVariants as records
-use Rattle.qs_engage.specs.Nodes.{listed}
 use Rattle.qs_tm.specs.Manager as tm
-use Rattle.qs_tm.specs.Manager.{is_one, put_tid, no_decision}
+use Rattle.qs_tm.specs.Manager.{put_tid, no_decision}
 use Rattle.qs_tm.specs.Outcomes as outcome_rules
 use Rattle.qs_tm.specs.Outcomes.{settled, tell_of}
-use Rattle.qs_tm.specs.Participant.{is_undecided}
-use Rattle.qs_tm.specs.declared.manager.Decision.{Decision}
-use Rattle.qs_tm.specs.declared.manager.Which.{Which}
 use Rattle.qs_tm.specs.declared.manager.Which.TheVariants as whiches
-use Rattle.qs_tm.specs.declared.participant.Participant.{Participant}
-use Rattle.qs_node_step.specs.Bringing.{send_each, log_if}
-use Rattle.qs_node_step.specs.Deciding.{decide, decide_as, keep_outcome, give_notices, end_member, end_members, due_endings, learn_member, learners_at}
-use Rattle.qs_node_step.specs.State.{Work, part_of, with_manager}
-use Rattle.qs_node_step.specs.Step.{abort_old, age_rule}
-use Rattle.qs_world_refine.specs.Sound.{is_sound, in_order, where_so}
 use Rattle.qs_world_refine.proofs.Frames.{part_apart}
 use Rattle.qs_world_refine.proofs.SoundParts.{and_both, both_and}
 use Rattle.qs_world_refine.proofs.SoundRules.{sends_node}

@@ -1,58 +1,35 @@
 -- A node stays sound where it answers its superior, sends refusals on, and forgets what it only read.
-use Rattle.std.proofs.Common.{◌≡◌, ℕ, ◌&&◌, ◌||◌, not, Bool, true, false, List, [], ◌∷◌, Option, Some, None, is_none, refl, sym, ap, subst, fold, if◌then◌else◌}
-use Rattle.qs_base.specs.declared.identifiers.NodeNo.{NodeNo}
-use Rattle.qs_base.specs.declared.identifiers.Tid.{Tid}
-use Rattle.qs_engage.specs.Engage.{is_passive, release_of}
-use Rattle.qs_engage.specs.Nodes.{listed, same_node, is_no_node}
+use Rattle.qs_world_refine.proofs.Words.{◌≡◌, ℕ, ◌&&◌, not, Bool, true, false, List, [], ◌∷◌, Option, Some, None, is_none, refl, sym, ap, subst, fold, if◌then◌else◌, NodeNo, Tid, release_of, listed, same_node, is_no_node, Cause, told_with_own, needs_pass, is_undecided, is_forgotten, only_read, Participant, was_committed, is_lent, is_busy, may_answer, say_yes, send_refusal, refusal_goes_to, forget, Work, here, with_manager, doings_of, began_here, is_sound, where_so, same_flag, StaysSound, not-true}
+use Rattle.qs_world_refine.proofs.Words.{or_first, or_last}
+use Rattle.qs_engage.specs.Engage.{is_passive}
 use Rattle.qs_ipc.specs.Ipc as ipc
-use Rattle.qs_ops.specs.declared.answer.Cause.{Cause}
 use Rattle.qs_packet.specs.declared.message.Message.TheVariants as messages
-use Rattle.qs_tm.specs.Outcomes.{told_with_own}
 use Rattle.qs_tm.specs.Participant as participant
-use Rattle.qs_tm.specs.Participant.{awaits_note, needs_pass, is_ready, is_undecided, is_forgotten, only_read, all_agree}
-use Rattle.qs_tm.specs.declared.participant.Participant.{Participant}
-use Rattle.qs_node_step.specs.Answering.{was_committed}
-use Rattle.qs_node_step.specs.Settling.{is_lent, is_busy, may_answer, say_yes, send_refusal, refusal_goes_to}
-use Rattle.qs_node_step.specs.Telling.{forget}
-use Rattle.qs_node_step.specs.State.{Work, here, with_manager, doings_of}
+use Rattle.qs_tm.specs.Participant.{awaits_note, is_ready, all_agree}
 use Rattle.qs_tm.specs.Manager as tm
-use Rattle.qs_world_refine.specs.NodeFaces.{began_here}
-use Rattle.qs_world_refine.specs.Sound.{is_sound, where_so, same_flag}
-use Rattle.qs_world_refine.specs.SoundLaws.{StaysSound, AnswerSuperiorSound, RefuseElsewhereSound, ForgetRuleSound}
+use Rattle.qs_world_refine.specs.SoundLaws.{AnswerSuperiorSound, RefuseElsewhereSound, ForgetRuleSound}
 use Rattle.qs_world_refine.proofs.SoundParts.{and_both, part_sound}
 use Rattle.qs_world_refine.proofs.SoundRules.{send_node}
 use Rattle.qs_world_refine.proofs.SoundEnds.{forget_sound}
 use Rattle.qs_world_refine.proofs.SoundHolds.{known_sound, part_step}
 use Rattle.qs_world_refine.proofs.SoundViews.{PartSound, is_apart, part_as}
 
-not_is : (b : Bool) → not b ≡ true → b ≡ false
-not_is true is = absurd (cc (is))
-not_is false is = refl
-
-off_first : (a b : Bool) → (a || b) ≡ false → a ≡ false
-off_first true b is = absurd (cc (is))
-off_first false b is = refl
-
-off_last : (a b : Bool) → (a || b) ≡ false → b ≡ false
-off_last true b is = absurd (cc (is))
-off_last false b is = is
-
 -- ---- where it may answer, nothing waits, no loan stands, and no pass is due
 
 module _ (tid : Tid) (part : Participant) (work : Work) (may : may_answer tid part work ≡ true) where
   not_busy : is_busy tid work.node part ≡ false
-  not_busy = not_is (is_busy tid work.node part) (and_both (not (is_busy tid work.node part)) (is_passive part.engage)
+  not_busy = not-true (is_busy tid work.node part) (and_both (not (is_busy tid work.node part)) (is_passive part.engage)
       (and_both (not (is_busy tid work.node part) && is_passive part.engage) (all_agree part)
       (and_both (part.asked && not part.blocked) _ (and_both (is_ready (is_busy tid work.node part) part) _ may).0).1).0).0
 
   pub none_waits : ipc.waits tid work.node.queues ≡ false
-  none_waits = off_first (ipc.waits tid work.node.queues) _ not_busy
+  none_waits = or_first (ipc.waits tid work.node.queues) _ not_busy
 
   pub none_lent : is_lent tid work.node ≡ false
-  none_lent = off_first (is_lent tid work.node) (awaits_note part) (off_last (ipc.waits tid work.node.queues) _ not_busy)
+  none_lent = or_first (is_lent tid work.node) (awaits_note part) (or_last (ipc.waits tid work.node.queues) _ not_busy)
 
   no_pass : needs_pass part ≡ false
-  no_pass = not_is (needs_pass part) (and_both (not (needs_pass part)) (not (doings_of tid work).prepared) (and_both (is_ready (is_busy tid work.node part) part) _ may).1).0
+  no_pass = not-true (needs_pass part) (and_both (not (needs_pass part)) (not (doings_of tid work).prepared) (and_both (is_ready (is_busy tid work.node part) part) _ may).1).0
 
 -- ---- the superior is answered
 
@@ -110,7 +87,7 @@ forget_rule_sound tid part work known sound = by (is_forgotten part) refl
         (and_both (is_undecided part) (not part.engage.home) both.0, (and_both (is_none part.engage.superior) (not part.involved) (and_both (is_none part.engage.superior && not part.involved) (is_no_node part.told && only_read part) both.1).0).0)
 
     apart_is : is_forgotten part ≡ true → is_apart part ≡ true
-    apart_is is = let m = module_parts is in both (part.engage.home) (is_undecided part) (Rattle.std.proofs.Common.is_some part.engage.superior) (not_is part.engage.home m.0.1) m.0.0 (none_is part.engage.superior m.1)
+    apart_is is = let m = module_parts is in both (part.engage.home) (is_undecided part) (Rattle.std.proofs.Common.is_some part.engage.superior) (not-true part.engage.home m.0.1) m.0.0 (none_is part.engage.superior m.1)
       where
         none_is : (o : Option NodeNo) → is_none o ≡ true → Rattle.std.proofs.Common.is_some o ≡ false
         none_is None so = refl
@@ -126,7 +103,7 @@ forget_rule_sound tid part work known sound = by (is_forgotten part) refl
     idle false a b r is so = absurd (cc (is))
 
     away : is_forgotten part ≡ true → where_so (began_here work.node tid) (was_committed tid work.node) ≡ true
-    away is = off part.engage.home (same_node tid.home work.node.setting.node) _ (not_is part.engage.home (module_parts is).0.1) s.homed
+    away is = off part.engage.home (same_node tid.home work.node.setting.node) _ (not-true part.engage.home (module_parts is).0.1) s.homed
       where
         off : (h n b : Bool) → h ≡ false → same_flag h n ≡ true → where_so (n && b) (was_committed tid work.node) ≡ true
         off true n b x so = absurd (cc (x))

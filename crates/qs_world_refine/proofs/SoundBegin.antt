@@ -1,34 +1,15 @@
 -- A node stays sound where a client begins a transaction there.
-use Rattle.std.proofs.Common.{◌≡◌, ℕ, ◌+◌, ◌==◌, ◌&&◌, ◌||◌, not, Bool, true, false, List, [], ◌∷◌, ◌++◌, Option, Some, None, nat_le, refl, ap, subst, ◌∙◌, arith}
-use Rattle.std.specs.List.{list_all}
-use Rattle.std.specs.Map.{lookup}
-use Rattle.std.specs.BTreeMap.{insert_entry, is_at}
-use Rattle.std.specs.declared.cmp.Ordering.{Ordering}
-use Rattle.std.specs.declared.cmp.Ordering.TheVariants.{Less, Equal, Greater}
-use Rattle.std.proofs.lemmas.Bool.Decides.{nat_tests}
-use Rattle.qs_base.proofs.TidOrder.{tid_exact}
-use Rattle.qs_base.specs.Order.{tid_cmp, same_tid}
-use Rattle.qs_base.specs.declared.identifiers.Tid.{Tid}
-use Rattle.qs_engage.specs.Nodes.{all_nodes, same_node, has_node}
+use Rattle.qs_world_refine.proofs.Words.{◌≡◌, ℕ, ◌+◌, ◌==◌, ◌&&◌, ◌||◌, not, Bool, true, false, List, [], ◌∷◌, ◌++◌, Option, Some, None, nat_le, refl, ap, subst, ◌∙◌, arith, list_all, lookup, insert_entry, is_at, Ordering, Less, Equal, Greater, nat_tests, tid_exact, tid_cmp, same_tid, Tid, same_node, ScriptLine, is_abort, begun_participant, is_undecided, BeginFault, Participant, was_committed, enter, refuse_begin, begin_or_refuse, put_label, NodeValue, Work, with_manager, is_sound, fits_setting}
+use Rattle.qs_world_refine.proofs.Words.{in_order, is_less, is_sound_part, is_sound_queue, is_sound_delivery, is_sound_loan, is_sound_label, may_be_served, is_past, where_so, is_sound_home, is_whole, is_sound_peer, is_sound_member, same_flag, is_sound_superior, is_engaged, tells_nobody, StaysSound, began_here}
+use Rattle.qs_engage.specs.Nodes.{all_nodes, has_node}
 use Rattle.qs_book_journal.specs.declared.entry.Act.TheVariants as acts
-use Rattle.qs_book_journal.specs.declared.script_line.ScriptLine.{ScriptLine}
 use Rattle.qs_node_kept.specs.declared.kept.KeptLabel.{KeptLabel}
 use Rattle.qs_ops.specs.declared.answer.Answer.TheVariants as answers
 use Rattle.qs_tm.specs.Manager as tm
 use Rattle.qs_tm.specs.Members.{all_servers}
-use Rattle.qs_tm.specs.Outcomes.{is_abort}
-use Rattle.qs_tm.specs.Participant.{begun_participant, is_undecided}
-use Rattle.qs_tm.specs.declared.manager.BeginFault.{BeginFault}
 use Rattle.qs_tm.specs.declared.manager.BeginFault.TheVariants as faults
-use Rattle.qs_tm.specs.declared.participant.Participant.{Participant}
-use Rattle.qs_node_step.specs.Answering.{was_committed}
-use Rattle.qs_node_step.specs.Bringing.{enter}
-use Rattle.qs_node_step.specs.Commands.{refuse_begin, begin_or_refuse}
-use Rattle.qs_node_step.specs.Serving.{put_label}
-use Rattle.qs_node_step.specs.State.{NodeValue, Work, with_manager}
-use Rattle.qs_world_refine.specs.Sound.{is_sound, fits_setting, in_order, is_less, is_sound_part, is_sound_queue, is_sound_delivery, is_sound_loan, is_sound_label, may_be_served, is_past, where_so, is_sound_home, is_whole, is_sound_peer, is_sound_member, same_flag, is_sound_superior, is_engaged, is_idle, is_sound_log, tells_nobody}
-use Rattle.qs_world_refine.specs.SoundLaws.{StaysSound, BeginSound, BeginCommandSound}
-use Rattle.qs_world_refine.specs.NodeFaces.{began_here}
+use Rattle.qs_world_refine.specs.Sound.{is_idle, is_sound_log}
+use Rattle.qs_world_refine.specs.SoundLaws.{BeginSound, BeginCommandSound}
 use Rattle.qs_world_refine.proofs.Maps.{lookup_put}
 use Rattle.qs_world_refine.proofs.Others.{put_apart}
 use Rattle.qs_world_refine.proofs.SoundParts.{and_both, both_and}

@@ -1,35 +1,13 @@
 -- A node stays sound where a client commands.
-use Rattle.std.proofs.Common.{◌≡◌, ℕ, ◌==◌, ◌&&◌, ◌||◌, not, nat_lt, Bool, true, false, List, [], ◌∷◌, Option, Some, None, is_some, refl, sym, ap, subst, ◌∙◌, arith, if◌then◌else◌}
-use Rattle.std.specs.List.{list_any}
-use Rattle.std.proofs.lemmas.Bool.Decides.{nat_tests}
-use Rattle.qs_base.specs.Order.{same_tid}
-use Rattle.qs_base.specs.declared.identifiers.ClientNo.{ClientNo}
-use Rattle.qs_base.specs.declared.identifiers.Member.{Member}
+use Rattle.qs_world_refine.proofs.Words.{◌≡◌, ℕ, ◌==◌, ◌&&◌, ◌||◌, not, nat_lt, Bool, true, false, List, [], ◌∷◌, Option, Some, None, is_some, refl, sym, ap, subst, ◌∙◌, arith, if◌then◌else◌, list_any, nat_tests, same_tid, ClientNo, Member, Tid, Command, first_untaken, last_taken, is_taken, is_standing_loan, Decided, Lent, Op, client_server, is_abort, is_undecided, Participant, kept_outcome, is_void, take, lent_command, with_loan, loan_command, answer, ask, request_as, request_command, with_issued}
+use Rattle.qs_world_refine.proofs.Words.{open_command, decided_answer, decide, next_number, is_lent, Work, part_of, is_sound, may_be_served, goes_in_run, StaysSound, or_left, or_right}
 use Rattle.qs_base.specs.declared.identifiers.Outcome.TheVariants as outcomes
-use Rattle.qs_base.specs.declared.identifiers.Tid.{Tid}
-use Rattle.qs_book_journal.specs.declared.script_line.Command.{Command}
 use Rattle.qs_book_journal.specs.declared.script_line.Command.TheVariants as commands
-use Rattle.qs_node_kept.specs.Loans.{first_untaken, last_taken, is_taken, is_standing_loan}
-use Rattle.qs_node_kept.specs.declared.kept.Decided.{Decided}
-use Rattle.qs_node_kept.specs.declared.kept.Lent.{Lent}
 use Rattle.qs_ops.specs.declared.answer.Answer.TheVariants as answers
 use Rattle.qs_ops.specs.declared.answer.Cause.TheVariants as causes
-use Rattle.qs_ops.specs.declared.operation.Op.{Op}
-use Rattle.qs_node_servers.specs.Servers.{client_server}
 use Rattle.qs_tm.specs.Manager as tm
-use Rattle.qs_tm.specs.Outcomes.{is_abort}
-use Rattle.qs_tm.specs.Participant.{is_undecided}
-use Rattle.qs_tm.specs.declared.participant.Participant.{Participant}
-use Rattle.qs_node_step.specs.Answering.{kept_outcome}
-use Rattle.qs_node_step.specs.Borrowing.{is_aborted, is_void, take, lent_command, with_loan, loan_command}
-use Rattle.qs_node_step.specs.Bringing.{answer}
-use Rattle.qs_node_step.specs.Commands.{ask, request_as, request_command, with_issued, open_command, decided_answer}
-use Rattle.qs_node_step.specs.Deciding.{decide}
-use Rattle.qs_node_step.specs.Requests.{next_number}
-use Rattle.qs_node_step.specs.Settling.{is_lent}
-use Rattle.qs_node_step.specs.State.{Work, part_of}
-use Rattle.qs_world_refine.specs.Sound.{is_sound, may_be_served, goes_in_run}
-use Rattle.qs_world_refine.specs.SoundLaws.{StaysSound, BorrowerCommandSound, OwnerCommandSound}
+use Rattle.qs_node_step.specs.Borrowing.{is_aborted}
+use Rattle.qs_world_refine.specs.SoundLaws.{BorrowerCommandSound, OwnerCommandSound}
 use Rattle.qs_world_refine.proofs.SoundParts.{and_both, both_and}
 use Rattle.qs_world_refine.proofs.SoundRules.{answer_sound, owner_asks_sound}
 use Rattle.qs_world_refine.proofs.SoundDecide.{decide_abort_sound}
@@ -37,10 +15,10 @@ use Rattle.qs_world_refine.proofs.SoundHolds.{told_part, told_as, known_sound, i
 use Rattle.qs_world_refine.proofs.SoundIssue.{issue_as_holds}
 use Rattle.qs_world_refine.proofs.SoundKnown.{lent_served}
 use Rattle.qs_world_refine.proofs.SoundLoans.{take_sound, yield_sound}
-use Rattle.qs_world_refine.proofs.SoundQueued.{either_first, either_last}
 use Rattle.qs_world_refine.proofs.SoundServe.{lent_busy}
 use Rattle.qs_world_refine.proofs.SoundSettle.{undecided_known}
 use Rattle.qs_world_refine.proofs.SoundViews.{seen}
+use Rattle.qs_base_lemmas.proofs.Tests.{not_implied}
 
 -- ---- a request is issued, of a transaction that is open here
 
@@ -72,21 +50,17 @@ last_stands client tid inc loan (first ∷ loans) found given now = by (last_tak
 
     picked : (b : Bool) → is_taken client tid first ≡ b → ◌≡◌ {A = Option Lent} (if b then Some first else None) (Some loan) → (is_standing_loan tid inc first || list_any (is_standing_loan tid inc) loans) ≡ true
     picked true is it = let value : first ≡ loan = cc (it) in
-        either_first (is_standing_loan tid inc first) (list_any (is_standing_loan tid inc) loans) (stands value (turned (same (first.client.0 == client.0) (same_tid first.tid tid) first.taken is)))
+        or_left (is_standing_loan tid inc first) (list_any (is_standing_loan tid inc) loans) (stands value (turned (same (first.client.0 == client.0) (same_tid first.tid tid) first.taken is)))
     picked false is it = absurd (cc (it))
 
     by : (o : Option Lent) → last_taken client tid loans ≡ o → last_taken client tid (first ∷ loans) ≡ Some loan
         → (last_taken client tid loans ≡ Some loan → loan.yielded ≡ false → (loan.inc == inc) ≡ true → list_any (is_standing_loan tid inc) loans ≡ true) → (is_standing_loan tid inc first || list_any (is_standing_loan tid inc) loans) ≡ true
     by None none it more = picked (is_taken client tid first) refl (rw none at it)
-    by (Some other) is it more = either_last (is_standing_loan tid inc first) (list_any (is_standing_loan tid inc) loans) (more (is ∙ rw is at it) given now)
+    by (Some other) is it more = or_right (is_standing_loan tid inc first) (list_any (is_standing_loan tid inc) loans) (more (is ∙ rw is at it) given now)
 
 module _ (client : ClientNo) (tid : Tid) (loan : Lent) (work : Work) (found : last_taken client tid work.node.kept.now.loans ≡ Some loan) (given : loan.yielded ≡ false) (valid : is_void tid loan work.node ≡ false) (sound : is_sound work.node ≡ true) where
   present : (loan.inc == work.node.setting.inc) ≡ true
-  present = by (loan.inc == work.node.setting.inc) (is_aborted tid work.node) valid
-    where
-      by : (a b : Bool) → (not a || b) ≡ false → a ≡ true
-      by true b is = refl
-      by false b is = absurd (cc (is))
+  present = not_implied (loan.inc == work.node.setting.inc) (is_aborted tid work.node) valid
 
   not_aborted : is_aborted tid work.node ≡ false
   not_aborted = by (loan.inc == work.node.setting.inc) (is_aborted tid work.node) valid

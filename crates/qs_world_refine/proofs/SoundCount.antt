@@ -1,23 +1,8 @@
 -- A node stays sound where it counts what answers for requests that it sent.
-use Rattle.std.proofs.Common.{◌≡◌, ℕ, ◌<◌, ◌≤◌, ◌==◌, ◌&&◌, ◌||◌, not, max, Bool, true, false, List, [], ◌∷◌, length, Option, Some, None, nat_le, nat_lt, refl, sym, ap, subst, ◌∙◌, arith, if◌then◌else◌}
-use Rattle.std.specs.List.{list_all}
-use Rattle.std.proofs.lemmas.Bool.{eqb-true}
-use Rattle.std.proofs.lemmas.Bool.Decides.{nat_tests}
-use Rattle.std.proofs.lemmas.List.{length-set}
-use Rattle.qs_base.specs.declared.identifiers.NodeNo.{NodeNo}
-use Rattle.qs_base.specs.declared.identifiers.Tid.{Tid}
-use Rattle.qs_engage.specs.Engage.{peer_of}
-use Rattle.qs_engage.specs.Nodes.{all_nodes, same_node, has_node, joined}
-use Rattle.qs_engage.specs.declared.engage.PeerPart.{PeerPart}
+use Rattle.qs_world_refine.proofs.Words.{◌≡◌, ℕ, ◌<◌, ◌≤◌, ◌==◌, ◌&&◌, ◌||◌, not, max, Bool, true, false, List, [], ◌∷◌, length, Option, Some, None, nat_le, nat_lt, refl, sym, ap, subst, ◌∙◌, arith, if◌then◌else◌, list_all, eqb-true, nat_tests, length-set, NodeNo, Tid, peer_of, same_node, joined, PeerPart, is_undecided, Participant, count, NodeValue, part_of, is_audit, names_node, node_no, is_sound, fits_setting, is_sound_part, where_so, is_whole, is_sound_peer, StaysSound}
+use Rattle.qs_engage.specs.Nodes.{all_nodes, has_node}
 use Rattle.qs_tm.specs.Participant as participant
-use Rattle.qs_tm.specs.Participant.{is_undecided}
-use Rattle.qs_tm.specs.declared.participant.Participant.{Participant}
-use Rattle.qs_node_step.specs.Asking.{count}
-use Rattle.qs_node_step.specs.State.{NodeValue, part_of}
-use Rattle.qs_world.specs.Openings.{is_audit}
-use Rattle.qs_world_refine.specs.Links.{names_node, node_no}
-use Rattle.qs_world_refine.specs.Sound.{is_sound, fits_setting, is_sound_part, where_so, is_whole, is_sound_peer}
-use Rattle.qs_world_refine.specs.SoundLaws.{StaysSound, CloserCameSound}
+use Rattle.qs_world_refine.specs.SoundLaws.{CloserCameSound}
 use Rattle.qs_world_refine.proofs.Arrays.{peer_put, node_dropped}
 use Rattle.qs_world_refine.proofs.NodeSets.{joined_length, joined_has}
 use Rattle.qs_world_refine.proofs.SoundParts.{and_both, all_found, part_sound}

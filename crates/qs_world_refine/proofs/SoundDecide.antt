@@ -1,34 +1,17 @@
 -- A home stays sound where it decides, and records and tells what it decided.
-use Rattle.std.proofs.Common.{◌≡◌, ◌==◌, ◌&&◌, ◌||◌, not, Bool, true, false, List, [], ◌∷◌, length, Option, Some, None, is_some, refl, sym, ap, subst, ◌∙◌, fold, if◌then◌else◌}
-use Rattle.std.specs.Map.{lookup, set_value}
-use Rattle.std.specs.BTreeMap.{is_at}
-use Rattle.std.proofs.lemmas.Bool.{eqb-true}
-use Rattle.std.proofs.lemmas.List.{length-set}
-use Rattle.qs_base.specs.Order.{tid_cmp}
-use Rattle.qs_base.specs.declared.identifiers.NodeNo.{NodeNo}
+use Rattle.qs_world_refine.proofs.Words.{◌≡◌, ◌==◌, ◌&&◌, ◌||◌, not, Bool, true, false, List, [], ◌∷◌, length, Option, Some, None, is_some, refl, sym, ap, subst, ◌∙◌, fold, if◌then◌else◌, lookup, set_value, is_at, eqb-true, length-set, tid_cmp, NodeNo, Tid, listed, is_no_node, no_nodes, put_where, put_node, Nodes, Cause, changed_value, is_abort, writes_commit, is_undecided, Decision, InLog, Participant, send_each, log_if, decide, decide_as, keep_outcome, give_notices, is_lent, NodeValue, Work}
+use Rattle.qs_world_refine.proofs.Words.{part_of, with_manager, is_sound, where_so, is_whole, or_first}
 use Rattle.qs_base.specs.declared.identifiers.Outcome.{Outcome}
 use Rattle.qs_base.specs.declared.identifiers.Outcome.TheVariants as outcomes
-use Rattle.qs_base.specs.declared.identifiers.Tid.{Tid}
 use Rattle.qs_engage.specs.Engage.{sent_to}
-use Rattle.qs_engage.specs.Nodes.{all_nodes, listed, is_no_node, has_node, no_nodes, put_where, nodes_where, put_node}
-use Rattle.qs_engage.specs.declared.nodes.Nodes.{Nodes}
+use Rattle.qs_engage.specs.Nodes.{all_nodes, has_node, nodes_where}
 use Rattle.qs_ipc.specs.Ipc as ipc
-use Rattle.qs_ops.specs.declared.answer.Cause.{Cause}
 use Rattle.qs_packet.specs.declared.message.Message.TheVariants as messages
 use Rattle.qs_record.specs.declared.record.Record.TheVariants as records
 use Rattle.qs_tm.specs.Manager as tm
-use Rattle.qs_tm.specs.Manager.{changed_value, no_decision}
+use Rattle.qs_tm.specs.Manager.{no_decision}
 use Rattle.qs_tm.specs.Outcomes as outcome_rules
-use Rattle.qs_tm.specs.Outcomes.{is_abort, tell_of, writes_commit}
-use Rattle.qs_tm.specs.Participant.{is_undecided}
-use Rattle.qs_tm.specs.declared.manager.Decision.{Decision}
-use Rattle.qs_tm.specs.declared.participant.InLog.{InLog}
-use Rattle.qs_tm.specs.declared.participant.Participant.{Participant}
-use Rattle.qs_node_step.specs.Bringing.{send_each, log_if}
-use Rattle.qs_node_step.specs.Deciding.{decide, decide_as, keep_outcome, give_notices}
-use Rattle.qs_node_step.specs.Settling.{is_lent}
-use Rattle.qs_node_step.specs.State.{NodeValue, Work, part_of, with_manager}
-use Rattle.qs_world_refine.specs.Sound.{is_sound, where_so, is_whole}
+use Rattle.qs_tm.specs.Outcomes.{tell_of}
 use Rattle.qs_world_refine.specs.SoundLaws.{DecideAbortSound, DecideCommitSound}
 use Rattle.qs_world_refine.proofs.Maps.{lookup_changed}
 use Rattle.qs_world_refine.proofs.SoundParts.{and_both, both_and}
@@ -179,11 +162,7 @@ module _ (tid : Tid) (part : Participant) (work : Work) (known : part_of tid wor
       by : (b : Bool) → (where_so (false || not b) (not b) && (true && (where_so (not b) true && true))) ≡ true
       by true = refl
       by false = refl
-  commit_holds still false is = decided_holds outcomes.Commit (λ l. l) (λ so. still) (rw (none part.log.prepared (not (is_no_node part.told)) is, not_listed) refl)
-    where
-      none : (a b : Bool) → (a || b) ≡ false → a ≡ false
-      none true b so = absurd (cc (so))
-      none false b so = refl
+  commit_holds still false is = decided_holds outcomes.Commit (λ l. l) (λ so. still) (rw (or_first part.log.prepared (not (is_no_node part.told)) is, not_listed) refl)
 
   -- the rest of the rule
   told_sound : (outcome : Outcome) (cause : Option Cause) (made : Decision) → Holds is_held tid (log_if made.rec (decided_work outcome)).node → is_sound (decide_as tid outcome cause made work).node ≡ true

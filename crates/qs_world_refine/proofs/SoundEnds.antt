@@ -1,34 +1,10 @@
 -- A node stays sound where the outcome of a transaction gets known, and where the transaction is forgotten.
-use Rattle.std.proofs.Common.{◌≡◌, ◌&&◌, ◌||◌, not, Bool, true, false, List, [], ◌∷◌, ◌++◌, Option, Some, None, is_some, refl, sym, ap, subst, ◌∙◌, arith, if◌then◌else◌}
-use Rattle.std.specs.List.{list_all, list_any, find}
-use Rattle.std.specs.Map.{set_value, remove_entry}
-use Rattle.std.specs.BTreeMap.{is_at}
-use Rattle.std.proofs.lemmas.Bool.Decides.{nat_tests}
-use Rattle.qs_base.specs.Order.{tid_cmp, same_tid}
+use Rattle.qs_world_refine.proofs.Words.{◌≡◌, ◌&&◌, ◌||◌, not, Bool, true, false, List, [], ◌∷◌, ◌++◌, Option, Some, None, is_some, refl, sym, ap, subst, ◌∙◌, arith, if◌then◌else◌, list_all, list_any, find, set_value, remove_entry, is_at, nat_tests, tid_cmp, same_tid, ServerNo, Tid, IpcValue, waits_in, is_for, Delivery, is_outcome_of, is_standing_loan, Decided, Lent, Cause, changed_value, is_abort, is_undecided, Participant, was_committed, is_kept_commit, keep_outcome, is_lent, forget, NodeValue}
+use Rattle.qs_world_refine.proofs.Words.{Work, began_here, is_sound, in_order, is_less, is_sound_part, is_sound_queue, is_sound_delivery, is_sound_loan, may_be_served, is_past, where_so, or_parts}
 use Rattle.qs_base.specs.declared.identifiers.Outcome.{Outcome}
-use Rattle.qs_base.specs.declared.identifiers.ServerNo.{ServerNo}
-use Rattle.qs_base.specs.declared.identifiers.Tid.{Tid}
 use Rattle.qs_ipc.specs.Ipc as ipc
-use Rattle.qs_ipc.specs.Ipc.{IpcValue, waits_in}
-use Rattle.qs_ipc.specs.Queue.{is_of, is_for}
-use Rattle.qs_ipc.specs.declared.delivery.Delivery.{Delivery}
-use Rattle.qs_node_kept.specs.Keeping.{is_outcome_of}
-use Rattle.qs_node_kept.specs.Loans.{is_standing_loan}
-use Rattle.qs_node_kept.specs.declared.kept.Decided.{Decided}
-use Rattle.qs_node_kept.specs.declared.kept.Lent.{Lent}
-use Rattle.qs_ops.specs.declared.answer.Cause.{Cause}
+use Rattle.qs_ipc.specs.Queue.{is_of}
 use Rattle.qs_tm.specs.Manager as tm
-use Rattle.qs_tm.specs.Manager.{changed_value}
-use Rattle.qs_tm.specs.Outcomes.{is_abort}
-use Rattle.qs_tm.specs.Participant.{is_undecided}
-use Rattle.qs_tm.specs.declared.participant.Participant.{Participant}
-use Rattle.qs_node_step.specs.Answering.{was_committed, is_kept_commit}
-use Rattle.qs_node_step.specs.Deciding.{keep_outcome}
-use Rattle.qs_node_step.specs.Settling.{is_lent}
-use Rattle.qs_node_step.specs.Telling.{forget}
-use Rattle.qs_node_step.specs.State.{NodeValue, Work}
-use Rattle.qs_world_refine.specs.NodeFaces.{began_here}
-use Rattle.qs_world_refine.specs.Sound.{is_sound, in_order, is_less, is_sound_part, is_sound_queue, is_sound_delivery, is_sound_loan, may_be_served, is_past, where_so}
 use Rattle.qs_world_refine.proofs.Frames.{part_apart}
 use Rattle.qs_world_refine.proofs.Maps.{lookup_changed}
 use Rattle.qs_world_refine.proofs.Others.{forget_apart}
@@ -44,12 +20,8 @@ all_without : {X : Type 0} (p q r : X → Bool) → ((x : X) → p x ≡ true �
 all_without p q r each [] all none = refl
 all_without p q r each (x ∷ xs) all none =
     let both : (p x ≡ true) × (list_all p xs ≡ true) = and_both (p x) (list_all p xs) all in
-    let neither : (r x ≡ false) × (list_any r xs ≡ false) = off_both (r x) (list_any r xs) none in
+    let neither : (r x ≡ false) × (list_any r xs ≡ false) = or_parts (r x) (list_any r xs) none in
     both_and (q x) (list_all q xs) (each x both.0 neither.0) (all_without p q r each xs both.1 neither.1)
-  where
-    off_both : (a b : Bool) → (a || b) ≡ false → (a ≡ false) × (b ≡ false)
-    off_both true b is = absurd (cc (is))
-    off_both false b is = (refl, is)
 
 module _ (tid : Tid) (node : NodeValue) (known : List (Tid × Participant)) (serves : (t : Tid) → same_tid t tid ≡ false → may_be_served node t ≡ true → may_be_served (moved node known node.queues node.kept) t ≡ true) where
   delivery_moved : (server : ServerNo) (d : Delivery) → is_sound_delivery node server d ≡ true → is_of tid d ≡ false → is_sound_delivery (moved node known node.queues node.kept) server d ≡ true

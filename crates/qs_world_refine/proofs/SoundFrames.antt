@@ -1,26 +1,9 @@
 -- A change at one participant, in the queues or in what is kept leaves every other part of what is said of a sound node.
-use Rattle.std.proofs.Common.{◌≡◌, ◌&&◌, not, Bool, true, false, List, [], ◌∷◌, Option, Some, None, refl, sym, subst, arith}
-use Rattle.std.specs.List.{list_all}
-use Rattle.std.specs.Map.{lookup}
-use Rattle.std.specs.BTreeMap.{is_at}
+use Rattle.qs_world_refine.proofs.Words.{◌≡◌, ◌&&◌, not, Bool, true, false, List, [], ◌∷◌, Option, Some, None, refl, sym, subst, arith, list_all, lookup, is_at, Ordering, Less, Equal, Greater, nat_tests, tid_exact, tid_cmp, Tid, IpcValue, is_standing_loan, Lent, needs_pass, Participant, is_lent, NodeValue, in_order, is_less, is_sound_part, is_sound_queue, is_sound_delivery, is_sound_loan, is_sound_label, may_be_served, is_past, where_so}
 use Rattle.std.specs.Ordering.{is_eq}
-use Rattle.std.specs.declared.cmp.Ordering.{Ordering}
-use Rattle.std.specs.declared.cmp.Ordering.TheVariants.{Less, Equal, Greater}
-use Rattle.std.proofs.lemmas.Bool.Decides.{nat_tests}
-use Rattle.qs_base.proofs.TidOrder.{tid_exact}
-use Rattle.qs_base.specs.Order.{tid_cmp}
-use Rattle.qs_base.specs.declared.identifiers.Tid.{Tid}
 use Rattle.qs_ipc.specs.Ipc as ipc
-use Rattle.qs_ipc.specs.Ipc.{IpcValue}
 use Rattle.qs_node_kept.specs.Keeping.{KeepingValue}
-use Rattle.qs_node_kept.specs.Loans.{is_standing_loan}
 use Rattle.qs_node_kept.specs.declared.kept.KeptLabel.{KeptLabel}
-use Rattle.qs_node_kept.specs.declared.kept.Lent.{Lent}
-use Rattle.qs_tm.specs.Participant.{needs_pass}
-use Rattle.qs_tm.specs.declared.participant.Participant.{Participant}
-use Rattle.qs_node_step.specs.Settling.{is_lent}
-use Rattle.qs_node_step.specs.State.{NodeValue}
-use Rattle.qs_world_refine.specs.Sound.{in_order, is_less, is_sound_part, is_sound_queue, is_sound_delivery, is_sound_loan, is_sound_label, may_be_served, is_past, where_so}
 use Rattle.qs_world_refine.proofs.SoundParts.{and_both, both_and}
 use Rattle.qs_world_refine.proofs.SoundBegin.{all_implied}
 use Rattle.qs_world_refine.proofs.SoundViews.{PartSound, is_apart, part_seen, part_as}

@@ -1,32 +1,13 @@
 -- A node stays sound where what comes to it is done.
-use Rattle.std.proofs.Common.{◌≡◌, ◌<◌, ◌||◌, not, nat_lt, nat_le, Bool, true, false, List, [], ◌∷◌, Option, Some, None, is_some, refl, subst, arith, if◌then◌else◌}
-use Rattle.std.specs.List.{list_all, find}
-use Rattle.std.proofs.lemmas.Bool.Decides.{nat_tests}
-use Rattle.qs_base.specs.declared.identifiers.ClientNo.{ClientNo}
-use Rattle.qs_base.specs.declared.identifiers.NodeNo.{NodeNo}
-use Rattle.qs_base.specs.declared.identifiers.Tid.{Tid}
-use Rattle.qs_engage.specs.Nodes.{same_node}
-use Rattle.qs_book_journal.specs.declared.script_line.Command.{Command}
+use Rattle.qs_world_refine.proofs.Words.{◌≡◌, ◌<◌, nat_lt, nat_le, Bool, true, false, List, [], ◌∷◌, Option, Some, None, is_some, refl, subst, arith, if◌then◌else◌, list_all, find, nat_tests, ClientNo, NodeNo, Tid, same_node, Command, ScriptLine, has_label, Message, enter, borrower_command, owner_command, label_at, timers_no, ticked, Work, with_manager, change_server, is_owner, labelled, obey, with_command, message_came, is_sound, goes_in_run, is_owned, is_owned_label, keeps_owned, StaysSound}
+use Rattle.qs_world_refine.proofs.Words.{FitsMessage, implied}
 use Rattle.qs_book_journal.specs.declared.script_line.Command.TheVariants as commands
-use Rattle.qs_book_journal.specs.declared.script_line.ScriptLine.{ScriptLine}
-use Rattle.qs_node_kept.specs.Keeping.{has_label}
 use Rattle.qs_node_kept.specs.declared.kept.KeptLabel.{KeptLabel}
 use Rattle.qs_ops.specs.declared.answer.Answer.TheVariants as answers
-use Rattle.qs_packet.specs.declared.message.Message.{Message}
 use Rattle.qs_packet.specs.declared.message.Message.TheVariants as messages
-use Rattle.qs_node_step.specs.Bringing.{enter}
-use Rattle.qs_node_step.specs.Borrowing.{borrower_command}
-use Rattle.qs_node_step.specs.Commands.{owner_command}
-use Rattle.qs_node_step.specs.Serving.{label_at}
-use Rattle.qs_node_servers.specs.Servers.{timers_no}
 use Rattle.qs_tm.specs.Manager as tm
-use Rattle.qs_ops.specs.Timers.{ticked}
-use Rattle.qs_node_step.specs.State.{Work, with_manager, change_server}
-use Rattle.qs_node_step.specs.Step.{is_owner, labelled, obey, with_command, message_came}
 use Rattle.qs_node_step.specs.declared.event.Event.TheVariants as events
-use Rattle.qs_world_refine.specs.Sound.{is_sound, goes_in_run, is_owned, is_owned_label, keeps_owned}
-use Rattle.qs_world_refine.specs.SoundLaws.{StaysSound}
-use Rattle.qs_world_refine.specs.SoundSteps.{FitsMessage, HappenSound}
+use Rattle.qs_world_refine.specs.SoundSteps.{HappenSound}
 use Rattle.qs_world_refine.proofs.SoundParts.{and_both}
 use Rattle.qs_world_refine.proofs.SoundRules.{answer_sound, ask_came_sound, refusal_came_sound, reply_came_sound}
 use Rattle.qs_world_refine.proofs.SoundBegin.{begin_command_sound}
@@ -64,14 +45,10 @@ labelled_sound client begun command work in_run owned = by begun.owner refl
     borrower_by None = λ sound. sound
     borrower_by (Some tid) = borrower_command_sound client tid command work in_run
 
-    owns : (a b : Bool) → a ≡ true → (not a || b) ≡ true → b ≡ true
-    owns true b is so = so
-    owns false b is so = absurd (cc (is))
-
     picked : (o : Option ClientNo) → begun.owner ≡ o → (b : Bool) → is_owner client o ≡ b → StaysSound work (if b then owner_command client begun.tid command work else elim begun.tid [ None ↦ work | Some tid ↦ borrower_command client tid command work ])
     picked o at false is = borrower_by begun.tid
     picked None at true is = absurd (cc (is))
-    picked (Some owner) at true is = owner_by begun.tid (owns (is_some begun.owner) _ (rw at refl) owned)
+    picked (Some owner) at true is = owner_by begun.tid (implied (is_some begun.owner) _ (rw at refl) owned)
 
     by : (o : Option ClientNo) → begun.owner ≡ o → StaysSound work (if is_owner client o then owner_command client begun.tid command work else elim begun.tid [ None ↦ work | Some tid ↦ borrower_command client tid command work ])
     by o at = picked o at (is_owner client o) refl

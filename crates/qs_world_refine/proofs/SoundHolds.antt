@@ -1,15 +1,6 @@
 -- A rule that changes one participant several times: what it knows of it stands from change to change.
-use Rattle.std.proofs.Common.{◌≡◌, ◌&&◌, not, Bool, true, false, Option, Some, None, refl, sym, ap, ◌∙◌}
-use Rattle.std.specs.Map.{lookup}
-use Rattle.std.specs.BTreeMap.{is_at}
-use Rattle.qs_base.specs.Order.{tid_cmp}
-use Rattle.qs_base.specs.declared.identifiers.Tid.{Tid}
+use Rattle.qs_world_refine.proofs.Words.{◌≡◌, ◌&&◌, not, Bool, true, false, Option, Some, None, refl, sym, ap, ◌∙◌, lookup, is_at, tid_cmp, Tid, is_undecided, Manager, Participant, NodeValue, is_sound, is_sound_part, not-true}
 use Rattle.qs_tm.specs.Manager as tm
-use Rattle.qs_tm.specs.Participant.{is_undecided}
-use Rattle.qs_tm.specs.declared.manager.Manager.{Manager}
-use Rattle.qs_tm.specs.declared.participant.Participant.{Participant}
-use Rattle.qs_node_step.specs.State.{NodeValue}
-use Rattle.qs_world_refine.specs.Sound.{is_sound, is_sound_part}
 use Rattle.qs_world_refine.proofs.Maps.{lookup_changed, changed_none}
 use Rattle.qs_world_refine.proofs.SoundParts.{and_both, all_found, part_sound}
 use Rattle.qs_world_refine.proofs.SoundViews.{PartSound, is_apart, seen, part_seen, part_as}
@@ -78,11 +69,7 @@ abbrev pub is_held : Participant → Bool
 is_held part = not (is_apart part)
 
 pub held_is : (part : Participant) → is_held part ≡ true → is_apart part ≡ false
-held_is part is = by (is_apart part) is
-  where
-    by : (b : Bool) → not b ≡ true → b ≡ false
-    by true so = absurd (cc (so))
-    by false so = refl
+held_is part is = not-true (is_apart part) is
 
 pub held_as : (part : Participant) → is_apart part ≡ false → is_held part ≡ true
 held_as part is = ap (λ (b : Bool). not b) is

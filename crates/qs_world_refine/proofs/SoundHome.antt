@@ -1,34 +1,15 @@
 -- A home stays sound where it is asked for an outcome, and where it is told who took one in.
-use Rattle.std.proofs.Common.{◌≡◌, ℕ, ◌==◌, ◌&&◌, ◌||◌, not, nat_lt, nat_le, Bool, true, false, List, [], ◌∷◌, length, Option, Some, None, is_some, refl, sym, ap, subst, ◌∙◌, arith, if◌then◌else◌}
-use Rattle.std.specs.List.{list_any}
-use Rattle.std.specs.BTreeMap.{is_at}
-use Rattle.std.proofs.lemmas.Bool.{eqb-true}
-use Rattle.std.proofs.lemmas.Bool.Decides.{nat_tests}
-use Rattle.std.proofs.lemmas.List.{length-set}
-use Rattle.qs_base.specs.Order.{tid_cmp}
-use Rattle.qs_base.specs.declared.identifiers.NodeNo.{NodeNo}
+use Rattle.qs_world_refine.proofs.Words.{◌≡◌, ℕ, ◌==◌, ◌&&◌, ◌||◌, not, nat_lt, nat_le, Bool, true, false, List, [], ◌∷◌, length, Option, Some, None, is_some, refl, sym, ap, subst, ◌∙◌, arith, if◌then◌else◌, list_any, is_at, eqb-true, nat_tests, length-set, tid_cmp, NodeNo, Tid, peer_of, same_node, put_node, listed, Nodes, is_abort, new_names, is_undecided, Participant, was_committed, answer_unknown, answer_known, inquiry_came, send, log, NodeValue, Work, here, part_of, with_manager}
+use Rattle.qs_world_refine.proofs.Words.{keep_abort_told, is_other_node, told_unknown, told_known, told_came, take_told, take_names, end_told, forget, node_no, began_here, is_sound, where_so, same_flag, is_whole, is_sound_peer, may_be_served, is_kept_part, keeps_commits, StaysSound}
 use Rattle.qs_base.specs.declared.identifiers.Outcome.{Outcome}
 use Rattle.qs_base.specs.declared.identifiers.Outcome.TheVariants as outcomes
-use Rattle.qs_base.specs.declared.identifiers.Tid.{Tid}
-use Rattle.qs_engage.specs.Engage.{peer_of}
-use Rattle.qs_engage.specs.Nodes.{all_nodes, same_node, has_node, put_node, listed}
-use Rattle.qs_engage.specs.declared.nodes.Nodes.{Nodes}
+use Rattle.qs_engage.specs.Nodes.{all_nodes, has_node}
 use Rattle.qs_packet.specs.declared.message.Message.TheVariants as messages
 use Rattle.qs_record.specs.declared.record.Record.TheVariants as records
 use Rattle.qs_tm.specs.Manager as tm
 use Rattle.qs_tm.specs.Outcomes as outcome_rules
-use Rattle.qs_tm.specs.Outcomes.{is_abort, new_names}
 use Rattle.qs_tm.specs.Participant as participant
-use Rattle.qs_tm.specs.Participant.{is_undecided}
-use Rattle.qs_tm.specs.declared.participant.Participant.{Participant}
-use Rattle.qs_node_step.specs.Answering.{was_committed, answer_unknown, answer_known, inquiry_came}
-use Rattle.qs_node_step.specs.Bringing.{send, log}
-use Rattle.qs_node_step.specs.State.{NodeValue, Work, here, part_of, with_manager}
-use Rattle.qs_node_step.specs.Telling.{keep_abort_told, is_other_node, told_unknown, told_known, told_came, take_told, take_names, end_told, forget}
-use Rattle.qs_world_refine.specs.Links.{node_no}
-use Rattle.qs_world_refine.specs.NodeFaces.{began_here}
-use Rattle.qs_world_refine.specs.Sound.{is_sound, where_so, same_flag, is_whole, is_sound_peer, may_be_served, is_kept_part, keeps_commits}
-use Rattle.qs_world_refine.specs.SoundLaws.{StaysSound, InquiryCameSound, ToldCameSound}
+use Rattle.qs_world_refine.specs.SoundLaws.{InquiryCameSound, ToldCameSound}
 use Rattle.qs_world_refine.proofs.Arrays.{node_put}
 use Rattle.qs_world_refine.proofs.Maps.{lookup_changed}
 use Rattle.qs_world_refine.proofs.SoundParts.{and_both, both_and, all_found}

@@ -1,30 +1,15 @@
 -- A node stays sound where a client, or files that owe a note, issue a request.
-use Rattle.std.proofs.Common.{◌≡◌, ℕ, ◌+◌, ◌==◌, ◌&&◌, ◌||◌, not, nat_lt, Bool, true, false, Option, Some, None, refl, sym, ap, subst, ◌∙◌, if◌then◌else◌}
-use Rattle.qs_base.specs.declared.identifiers.Member.{Member}
-use Rattle.qs_base.specs.declared.identifiers.ServerNo.{ServerNo}
-use Rattle.qs_base.specs.declared.identifiers.Tid.{Tid}
-use Rattle.qs_engage.specs.Engage.{peer_of, with_peer, last_number}
-use Rattle.qs_engage.specs.Nodes.{same_node}
+use Rattle.qs_world_refine.proofs.Words.{◌≡◌, ℕ, ◌+◌, ◌==◌, ◌&&◌, ◌||◌, not, nat_lt, Bool, true, false, Option, Some, None, refl, sym, ap, subst, ◌∙◌, if◌then◌else◌, Member, ServerNo, Tid, peer_of, with_peer, last_number, same_node, is_for, Delivery, Op, is_abort, is_undecided, Outstanding, Participant, send, next_number, enter_issue, with_local, issue_here, issue_away, issue_as, issue, ask_on, is_asked, label_of, NodeValue, Work, here, part_of, with_manager, with_queues, is_sound, may_be_served}
+use Rattle.qs_world_refine.proofs.Words.{or_left}
 use Rattle.qs_ipc.specs.Ipc as ipc
-use Rattle.qs_ipc.specs.Queue.{is_for}
-use Rattle.qs_ipc.specs.declared.delivery.Delivery.{Delivery}
-use Rattle.qs_ops.specs.declared.operation.Op.{Op}
 use Rattle.qs_packet.specs.declared.message.Message.TheVariants as messages
 use Rattle.qs_tm.specs.Manager as tm
-use Rattle.qs_tm.specs.Outcomes.{is_abort}
 use Rattle.qs_tm.specs.Participant as participant
-use Rattle.qs_tm.specs.Participant.{is_undecided}
-use Rattle.qs_tm.specs.declared.participant.Outstanding.{Outstanding}
-use Rattle.qs_tm.specs.declared.participant.Participant.{Participant}
-use Rattle.qs_node_step.specs.Bringing.{send}
-use Rattle.qs_node_step.specs.Requests.{next_number, enter_issue, with_local, issue_here, issue_away, issue_as, issue, ask_on, is_asked, label_of}
-use Rattle.qs_node_step.specs.State.{NodeValue, Work, here, part_of, with_manager, with_queues}
-use Rattle.qs_world_refine.specs.Sound.{is_sound, may_be_served}
 use Rattle.qs_world_refine.proofs.SoundParts.{and_both, both_and}
 use Rattle.qs_world_refine.proofs.SoundRules.{send_node}
 use Rattle.qs_world_refine.proofs.SoundSent.{issue_away_sound}
 use Rattle.qs_world_refine.proofs.SoundHolds.{Holds, holds_step, told_with, told_part, is_open, open_held}
-use Rattle.qs_world_refine.proofs.SoundQueued.{either_first, enqueue_sound}
+use Rattle.qs_world_refine.proofs.SoundQueued.{enqueue_sound}
 use Rattle.qs_world_refine.proofs.SoundViews.{is_apart, seen}
 
 abbrev pub StaysOpen : Tid → Work → Work → Type 0
@@ -56,7 +41,7 @@ module _ (tid : Tid) (request : Outstanding) (op : Op) where
 
       served : (part : Participant) → part_of tid issued ≡ Some part → is_open part ≡ true → may_be_served issued.node tid ≡ true
       served part known is = ap (λ (o : Option Participant). elim o [ None ↦ false | Some p ↦ is_undecided p || is_abort p.outcome ]) known
-          ∙ either_first (is_undecided part) (is_abort part.outcome) (and_both (is_undecided part) (not (is_apart part)) is).0
+          ∙ or_left (is_undecided part) (is_abort part.outcome) (and_both (is_undecided part) (not (is_apart part)) is).0
 
       by : (b : Bool) → is_for request.member.server op ≡ b → (o : Option Participant) → part_of tid issued ≡ o → is_sound (if b then with_queues (ipc.enqueue request.member.server delivery) issued else issued).node ≡ true
       by false its o at = now.0

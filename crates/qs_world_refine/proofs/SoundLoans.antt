@@ -1,28 +1,15 @@
 -- A node stays sound where a loan is made, taken, or given back.
-use Rattle.std.proofs.Common.{◌≡◌, ◌==◌, ◌&&◌, ◌||◌, not, Bool, true, false, List, [], ◌∷◌, ◌++◌, Option, Some, None, is_some, refl, sym, ap, subst, ◌∙◌, arith, if◌then◌else◌}
-use Rattle.std.specs.List.{list_all, list_any}
-use Rattle.std.specs.BTreeMap.{is_at}
-use Rattle.std.proofs.lemmas.Bool.Decides.{nat_tests}
-use Rattle.qs_base.specs.Order.{tid_cmp, same_tid}
-use Rattle.qs_base.specs.declared.identifiers.ClientNo.{ClientNo}
-use Rattle.qs_base.specs.declared.identifiers.Tid.{Tid}
-use Rattle.qs_node_kept.specs.Loans.{is_untaken, is_taken, take_first, last_taken, give_back, is_standing_loan}
+use Rattle.qs_world_refine.proofs.Words.{◌≡◌, ◌==◌, ◌&&◌, ◌||◌, not, Bool, true, false, List, [], ◌∷◌, ◌++◌, Option, Some, None, is_some, refl, sym, ap, subst, ◌∙◌, arith, if◌then◌else◌, list_all, list_any, is_at, nat_tests, tid_cmp, same_tid, ClientNo, Tid, is_untaken, is_taken, take_first, last_taken, give_back, is_standing_loan, Kept, Lent, Participant, is_void, NodeValue, Work, is_sound, is_sound_part, is_sound_loan, may_be_served, where_so, or_left, or_right}
 use Rattle.qs_node_kept.specs.Keeping.{with_now}
-use Rattle.qs_node_kept.specs.declared.kept.Kept.{Kept}
-use Rattle.qs_node_kept.specs.declared.kept.Lent.{Lent}
 use Rattle.qs_ops.specs.declared.answer.Answer.TheVariants as answers
 use Rattle.qs_tm.specs.Manager as tm
-use Rattle.qs_tm.specs.declared.participant.Participant.{Participant}
-use Rattle.qs_node_step.specs.Borrowing.{is_void}
-use Rattle.qs_node_step.specs.State.{NodeValue, Work}
-use Rattle.qs_world_refine.specs.Sound.{is_sound, is_sound_part, is_sound_loan, may_be_served, where_so}
 use Rattle.qs_world_refine.specs.SoundLaws.{TakeSound, YieldSound}
 use Rattle.qs_world_refine.proofs.SoundParts.{and_both, both_and, all_found}
 use Rattle.qs_world_refine.proofs.SoundBegin.{all_last}
 use Rattle.qs_world_refine.proofs.SoundRules.{answer_sound}
 use Rattle.qs_world_refine.proofs.SoundViews.{seen, sound_as, is_apart}
 use Rattle.qs_world_refine.proofs.SoundFrames.{parts_moved, parts_beside}
-use Rattle.qs_world_refine.proofs.SoundQueued.{any_last, either, either_first, either_last}
+use Rattle.qs_world_refine.proofs.SoundQueued.{any_last, either}
 
 abbrev pub with_loans : List Lent → NodeValue → NodeValue
 with_loans loans node = record node { kept = with_now (λ (kept : Kept). record kept { loans = loans }) node.kept }
@@ -92,8 +79,8 @@ module _ (client : ClientNo) (tid : Tid) where
   any_give p less (loan ∷ loans) = by (is_taken client tid loan && not (is_some (last_taken client tid loans))) (any_give p less loans)
     where
       by : (b : Bool) → (list_any p (give_back client tid loans) ≡ true → list_any p loans ≡ true) → list_any p (if b then record loan { yielded = true } ∷ loans else loan ∷ give_back client tid loans) ≡ true → (p loan || list_any p loans) ≡ true
-      by true rest is = either (p (record loan { yielded = true })) (list_any p loans) is (p loan || list_any p loans) (λ so. either_first (p loan) (list_any p loans) (less loan so)) (either_last (p loan) (list_any p loans))
-      by false rest is = either (p loan) (list_any p (give_back client tid loans)) is (p loan || list_any p loans) (either_first (p loan) (list_any p loans)) (λ so. either_last (p loan) (list_any p loans) (rest so))
+      by true rest is = either (p (record loan { yielded = true })) (list_any p loans) is (p loan || list_any p loans) (λ so. or_left (p loan) (list_any p loans) (less loan so)) (or_right (p loan) (list_any p loans))
+      by false rest is = either (p loan) (list_any p (give_back client tid loans)) is (p loan || list_any p loans) (or_left (p loan) (list_any p loans)) (λ so. or_right (p loan) (list_any p loans) (rest so))
 
   all_give : (p : Lent → Bool) → ((loan : Lent) → p loan ≡ true → p (record loan { yielded = true }) ≡ true) → (loans : List Lent) → list_all p loans ≡ true → list_all p (give_back client tid loans) ≡ true
   all_give p more [] is = is

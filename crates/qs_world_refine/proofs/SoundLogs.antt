@@ -1,30 +1,10 @@
 -- What a log says is what a node can take up, so that each node of an opening, and each that restarts, is sound.
-use Rattle.std.proofs.Common.{◌≡◌, ℕ, ◌≤◌, ◌==◌, ◌&&◌, ◌||◌, not, nat_lt, nat_le, Bool, true, false, List, [], ◌∷◌, ◌++◌, length, map, fold, Option, Some, None, refl, sym, ap, subst, ◌∙◌, arith, if◌then◌else◌}
-use Rattle.std.specs.Global.{Global}
-use Rattle.std.specs.List.{list_all, list_any, filter}
-use Rattle.std.proofs.lemmas.Bool.{eqb-true}
-use Rattle.std.proofs.lemmas.Bool.Decides.{nat_tests}
-use Rattle.qs_base.specs.Order.{same_tid}
-use Rattle.qs_base.specs.declared.identifiers.NodeNo.{NodeNo}
-use Rattle.qs_base.specs.declared.identifiers.Tid.{Tid}
-use Rattle.qs_engage.specs.Nodes.{same_node}
-use Rattle.qs_node_kept.specs.Keeping.{no_kept}
-use Rattle.qs_node_kept.specs.Loans.{is_standing_loan}
-use Rattle.qs_node_kept.specs.declared.kept.Kept.{Kept}
-use Rattle.qs_node_kept.specs.declared.kept.Lent.{Lent}
-use Rattle.qs_book_machine.specs.Nodes.{is_recoverable}
-use Rattle.qs_record.specs.declared.record.Record.{Record}
+use Rattle.qs_world_refine.proofs.Words.{◌≡◌, ℕ, ◌≤◌, ◌==◌, ◌&&◌, ◌||◌, not, nat_lt, nat_le, Bool, true, false, List, [], ◌∷◌, ◌++◌, length, map, fold, Option, Some, None, refl, sym, ap, subst, ◌∙◌, arith, if◌then◌else◌, Global, list_all, list_any, filter, eqb-true, or_from, or_right, nat_tests, same_tid, NodeNo, Tid, same_node, no_kept, is_standing_loan, Kept, Lent, is_recoverable, Record, Prepared, Untold, Recovery, recovery, found_record, nothing_said, names_transaction, is_vote_of}
+use Rattle.qs_world_refine.proofs.Words.{is_untold_of, mark_committed, ended, with_list, prepare_of, commit_of, in_doubt, untold, Manager, take_up, new_manager, opened_node, recovered_as, recovered_of, NodeValue, Setting, is_record, is_list, is_setting, Opening, each_is, is_sound, is_sound_part, is_sound_loan, is_sound_label, is_past, where_so, may_vote, is_list_of, is_loan_before, is_label_before, kept_before, fits_setting, eqb-self}
 use Rattle.qs_record.specs.declared.record.Record.TheVariants as records
 use Rattle.qs_restart.specs.Recovery as restart
-use Rattle.qs_restart.specs.Recovery.{Prepared, Untold, Recovery, recovery, found_record, nothing_said, names_transaction, is_vote_of, is_of, is_untold_of, mark_committed, ended, with_list, prepare_of, commit_of, in_doubt, untold}
-use Rattle.qs_tm.specs.declared.manager.Manager.{Manager}
-use Rattle.qs_node_step.specs.Opening.{take_up, new_manager, opened_node, recovered_as, recovered_of}
-use Rattle.qs_node_step.specs.State.{NodeValue}
-use Rattle.qs_node_step.specs.declared.setting.Setting.{Setting}
-use Rattle.qs_world.specs.Openings.{is_record, is_list, is_setting, has_node}
-use Rattle.qs_world.specs.World.{Opening}
-use Rattle.qs_world.proofs.Below.{each_is}
-use Rattle.qs_world_refine.specs.Sound.{is_sound, is_sound_part, is_sound_loan, is_sound_label, is_past, where_so, may_vote, is_list_of, is_loan_before, is_label_before, kept_before, fits_setting}
+use Rattle.qs_restart.specs.Recovery.{is_of}
+use Rattle.qs_world.specs.Openings.{has_node}
 use Rattle.qs_world_refine.specs.SoundLaws.{OpenedSound, RestartSound}
 use Rattle.qs_world_refine.proofs.SoundParts.{and_both, both_and}
 use Rattle.qs_world_refine.proofs.SoundBegin.{all_last, all_implied}
@@ -80,13 +60,9 @@ module _ (me : NodeNo) where
         home : same_node c.tid.home setting.node ≡ true
         home = rw named (and_both (is_list_of me c) (list_all (is_list_of me) commits) all).0
 
-        or_last : (a b : Bool) → b ≡ true → (a || b) ≡ true
-        or_last true b is = refl
-        or_last false b is = is
-
         by : (b : Bool) → names_transaction c.tid ≡ b → list_all (is_commit alloc setting) (map commit_of (filter (λ (commit : Untold). names_transaction commit.tid) commits)) ≡ true
             → list_all (is_commit alloc setting) (map commit_of (filter (λ (commit : Untold). names_transaction commit.tid) (c ∷ commits))) ≡ true
-        by true is more = rw is (both_and ((length c.told == 0) || same_node c.tid.home setting.node) (list_all (is_commit alloc setting) (map commit_of (filter (λ (commit : Untold). names_transaction commit.tid) commits))) (or_last (length c.told == 0) (same_node c.tid.home setting.node) home) more)
+        by true is more = rw is (both_and ((length c.told == 0) || same_node c.tid.home setting.node) (list_all (is_commit alloc setting) (map commit_of (filter (λ (commit : Untold). names_transaction commit.tid) commits))) (or_right (length c.told == 0) (same_node c.tid.home setting.node) home) more)
         by false is more = rw is more
 
     abbrev bare : NodeValue
@@ -115,10 +91,7 @@ module _ (me : NodeNo) where
       none_lent t [] all = refl
       none_lent t (loan ∷ loans) all =
           let first : (is_loan_before setting.inc loan ≡ true) × (list_all (is_loan_before setting.inc) loans ≡ true) = and_both (is_loan_before setting.inc loan) (list_all (is_loan_before setting.inc) loans) all in
-          neither (is_standing_loan t setting.inc loan) (list_any (is_standing_loan t setting.inc) loans) (none_stands t loan first.0) (none_lent t loans first.1)
-        where
-          neither : (a b : Bool) → a ≡ false → b ≡ false → (a || b) ≡ false
-          neither a b x y = rw (x, y) refl
+          or_from (is_standing_loan t setting.inc loan) (list_any (is_standing_loan t setting.inc) loans) (none_stands t loan first.0) (none_lent t loans first.1)
 
       module _ (said : Recovery) (m : Manager) where
         abbrev opened : NodeValue
@@ -210,10 +183,7 @@ restart_sound inc said node later takes before sound = taken_sound node.setting.
         let b : (nat_lt node.setting.node.0 node.setting.nodes ≡ true) × ((nat_le node.setting.nodes 16 && nat_lt 0 node.setting.inc) ≡ true) = and_both (nat_lt node.setting.node.0 node.setting.nodes) (nat_le node.setting.nodes 16 && nat_lt 0 node.setting.inc) a.0 in
         let c : (nat_le node.setting.nodes 16 ≡ true) × (nat_lt 0 node.setting.inc ≡ true) = and_both (nat_le node.setting.nodes 16) (nat_lt 0 node.setting.inc) b.1 in
         all (nat_lt node.setting.node.0 node.setting.nodes) (nat_le node.setting.nodes 16) (nat_lt 0 inc) (node.setting.node.0 == node.setting.node.0) (inc == inc) (node.setting.extra == node.setting.extra) (node.setting.keep == node.setting.keep)
-        (Rattle.qs_world.specs.Openings.is_audit node.setting.nodes node.setting.audit) b.0 c.0 (grind (arith, nat_tests, later)) (same node.setting.node.0) (same inc) (same node.setting.extra) (same node.setting.keep) (Rattle.qs_world_refine.proofs.SoundCount.audit_fits node its)
+        (Rattle.qs_world.specs.Openings.is_audit node.setting.nodes node.setting.audit) b.0 c.0 (grind (arith, nat_tests, later)) (eqb-self node.setting.node.0) (eqb-self inc) (eqb-self node.setting.extra) (eqb-self node.setting.keep) (Rattle.qs_world_refine.proofs.SoundCount.audit_fits node its)
       where
-        same : (k : ℕ) → (k == k) ≡ true
-        same k = grind (arith, nat_tests)
-
         all : (a b c d e f g h : Bool) → a ≡ true → b ≡ true → c ≡ true → d ≡ true → e ≡ true → f ≡ true → g ≡ true → h ≡ true → ((a && (b && c)) && (d && (e && (f && (g && h))))) ≡ true
         all a b c d e f g h p q r s t u v w = rw (p, q, r, s, t, u, v, w) refl

@@ -1,22 +1,10 @@
 -- A participant stays sound where a server of its node does something, and where its node is to be told from now on.
-use Rattle.std.proofs.Common.{◌≡◌, ℕ, ◌+◌, ◌<◌, ◌==◌, ◌&&◌, ◌||◌, not, Bool, true, false, List, [], ◌∷◌, length, Option, Some, None, nat_le, nat_lt, refl, sym, subst, ◌∙◌, arith, if◌then◌else◌}
-use Rattle.std.specs.List.{list_all, list_any}
-use Rattle.std.proofs.lemmas.Bool.{eqb-true}
-use Rattle.std.proofs.lemmas.Bool.Decides.{nat_tests}
-use Rattle.std.proofs.lemmas.List.{length-set, get_or_past, get_or-set_other}
-use Rattle.qs_base.specs.declared.identifiers.ServerNo.{ServerNo}
-use Rattle.qs_base.specs.declared.identifiers.Tid.{Tid}
-use Rattle.qs_engage.specs.Engage.{peer_of, last_number}
-use Rattle.qs_engage.specs.Nodes.{all_nodes, same_node, has_node}
-use Rattle.qs_tm.specs.Members.{all_servers, no_member, is_told_class, class_here}
-use Rattle.qs_tm.specs.Outcomes.{is_abort}
+use Rattle.qs_world_refine.proofs.Words.{◌≡◌, ℕ, ◌+◌, ◌<◌, ◌==◌, ◌&&◌, ◌||◌, not, Bool, true, false, List, [], ◌∷◌, length, Option, Some, None, nat_le, nat_lt, refl, sym, subst, ◌∙◌, arith, if◌then◌else◌, list_all, list_any, eqb-true, nat_tests, length-set, get_or_past, get_or-set_other, ServerNo, Tid, peer_of, last_number, same_node, no_member, is_told_class, class_here, is_abort, member_of, with_member, is_undecided, MemberPart, Participant, NodeValue, server_no, where_so, is_whole}
+use Rattle.qs_world_refine.proofs.Words.{is_sound_peer, is_sound_member, is_covered_vote}
+use Rattle.qs_engage.specs.Nodes.{all_nodes, has_node}
+use Rattle.qs_tm.specs.Members.{all_servers}
 use Rattle.qs_tm.specs.Participant as participant
-use Rattle.qs_tm.specs.Participant.{member_of, with_member, is_undecided}
-use Rattle.qs_tm.specs.declared.members.MemberPart.{MemberPart}
-use Rattle.qs_tm.specs.declared.participant.Participant.{Participant}
-use Rattle.qs_node_step.specs.State.{NodeValue}
-use Rattle.qs_world_refine.specs.Sights.{server_no}
-use Rattle.qs_world_refine.specs.Sound.{where_so, is_whole, is_sound_peer, is_sound_member, is_covered_vote, is_idle}
+use Rattle.qs_world_refine.specs.Sound.{is_idle}
 use Rattle.qs_world_refine.proofs.Arrays.{member_put}
 use Rattle.qs_world_refine.proofs.SoundParts.{and_both}
 use Rattle.qs_world_refine.proofs.SoundBegin.{all_implied}

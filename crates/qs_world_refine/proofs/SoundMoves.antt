@@ -1,15 +1,9 @@
 -- Each move of the world leaves the nodes sound, as far as a node is seen without its log.
-use Rattle.std.proofs.Common.{◌≡◌, ℕ, ◌<◌, ◌==◌, Bool, true, false, Option, Some, None, refl, subst, if◌then◌else◌}
-use Rattle.std.proofs.lemmas.Bool.{eqb-true}
+use Rattle.qs_world_refine.proofs.Words.{◌≡◌, ℕ, ◌<◌, ◌==◌, Bool, true, false, Option, Some, None, refl, subst, if◌then◌else◌, eqb-true, recovery, recovered_of, after_step, effects_of, Host, Cut, Stop, Rise, event_of, step_with, cut_with, stepped_host, stopped_host, risen_host, cut_log, is_sound, MayStep}
 use Rattle.qs_session_channels.specs.Network.{with_at}
-use Rattle.qs_restart.specs.Recovery.{recovery}
-use Rattle.qs_node_step.specs.Opening.{recovered_of}
-use Rattle.qs_node_step.specs.Step.{after_step, effects_of}
 use Rattle.qs_node_step.specs.declared.event.Event.{Event}
-use Rattle.qs_world.specs.World.{Host}
-use Rattle.qs_world.specs.Moves.{Step, Cut, Stop, Rise, Meet, event_of, step_with, cut_with, stepped_host, stopped_host, risen_host, cut_log}
-use Rattle.qs_world_refine.specs.Sound.{is_sound}
-use Rattle.qs_world_refine.specs.SoundMoves.{AreSound, MayStep, MoveSound}
+use Rattle.qs_world.specs.Moves.{Step, Meet}
+use Rattle.qs_world_refine.specs.SoundMoves.{AreSound, MoveSound}
 use Rattle.qs_world_refine.proofs.SoundLogs.{restart_sound}
 use Rattle.qs_world_refine.proofs.SoundStep.{step_sound}
 

@@ -1,16 +1,11 @@
 -- A node stays sound where its servers are told how a transaction ends.
-use Rattle.std.proofs.Common.{◌≡◌, Bool, true, false, List, [], ◌∷◌, refl, fold}
+use Rattle.qs_world_refine.proofs.Words.{◌≡◌, Bool, true, false, List, [], ◌∷◌, refl, fold, ServerNo, Tid, member_of, Participant, notify, end_member, end_members, due_endings, learn_member, learn_members, learners_at, give_notices, Work}
 use Rattle.qs_base.specs.declared.identifiers.Outcome.{Outcome}
 use Rattle.qs_base.specs.declared.identifiers.Outcome.TheVariants as outcomes
-use Rattle.qs_base.specs.declared.identifiers.ServerNo.{ServerNo}
-use Rattle.qs_base.specs.declared.identifiers.Tid.{Tid}
 use Rattle.qs_ops.specs.declared.vote.Notice.{Notice}
 use Rattle.qs_ops.specs.declared.vote.Notice.TheVariants as notices
 use Rattle.qs_tm.specs.Outcomes.{settled}
-use Rattle.qs_tm.specs.Participant.{member_of}
-use Rattle.qs_tm.specs.declared.participant.Participant.{Participant}
-use Rattle.qs_node_step.specs.Deciding.{notify, notice_of, end_member, end_members, due_endings, learn_member, learn_members, learners_at, give_notices}
-use Rattle.qs_node_step.specs.State.{Work}
+use Rattle.qs_node_step.specs.Deciding.{notice_of}
 use Rattle.qs_world_refine.proofs.SoundHolds.{Holds, holds_step}
 use Rattle.qs_world_refine.proofs.SoundMembers.{member_sound, vote_covers}
 use Rattle.qs_world_refine.proofs.SoundViews.{is_apart}

@@ -1,33 +1,11 @@
 -- A node that opens over an old log is sound.
-use Rattle.std.proofs.Common.{◌≡◌, ℕ, ◌==◌, ◌&&◌, ◌||◌, not, Bool, true, false, List, [], ◌∷◌, ◌++◌, length, fold, Option, Some, None, is_some, refl, sym, ap, subst, ◌∙◌, arith, if◌then◌else◌}
-use Rattle.std.specs.Global.{Global}
-use Rattle.std.specs.List.{list_all}
-use Rattle.std.specs.Map.{lookup, set_value}
-use Rattle.std.specs.BTreeMap.{insert_entry, is_at}
-use Rattle.std.specs.declared.cmp.Ordering.{Ordering}
-use Rattle.std.specs.declared.cmp.Ordering.TheVariants.{Less, Equal, Greater}
-use Rattle.std.proofs.lemmas.Bool.Decides.{nat_tests}
-use Rattle.qs_base.specs.Order.{tid_cmp}
-use Rattle.qs_base.specs.declared.identifiers.NodeNo.{NodeNo}
+use Rattle.qs_world_refine.proofs.Words.{◌≡◌, ℕ, ◌==◌, ◌&&◌, ◌||◌, not, Bool, true, false, List, [], ◌∷◌, ◌++◌, length, fold, Option, Some, None, is_some, refl, sym, ap, subst, ◌∙◌, arith, if◌then◌else◌, Global, list_all, lookup, set_value, insert_entry, is_at, Ordering, Less, Equal, Greater, nat_tests, tid_cmp, NodeNo, ServerNo, Tid, same_node, no_nodes, no_kept, is_recoverable, Record, changed_value, is_abort, voted_before, committed_before, aborted_participant, new_participant, needs_pass}
+use Rattle.qs_world_refine.proofs.Words.{Manager, Participant, take_up, new_manager, opened_node, recovered_of, NodeValue, Setting, in_order, is_sound_part, is_sound_peer, is_sound_member, same_flag, where_so, not-true}
 use Rattle.qs_base.specs.declared.identifiers.Outcome.TheVariants as outcomes
-use Rattle.qs_base.specs.declared.identifiers.ServerNo.{ServerNo}
-use Rattle.qs_base.specs.declared.identifiers.Tid.{Tid}
-use Rattle.qs_engage.specs.Nodes.{all_nodes, same_node, no_nodes}
-use Rattle.qs_node_kept.specs.Keeping.{no_kept}
-use Rattle.qs_book_machine.specs.Nodes.{is_recoverable}
-use Rattle.qs_record.specs.declared.record.Record.{Record}
+use Rattle.qs_engage.specs.Nodes.{all_nodes}
 use Rattle.qs_record.specs.declared.record.Record.TheVariants as records
 use Rattle.qs_tm.specs.Manager as tm
-use Rattle.qs_tm.specs.Manager.{changed_value}
 use Rattle.qs_tm.specs.Members.{all_servers}
-use Rattle.qs_tm.specs.Outcomes.{is_abort, voted_before, committed_before, aborted_participant}
-use Rattle.qs_tm.specs.Participant.{new_participant, needs_pass}
-use Rattle.qs_tm.specs.declared.manager.Manager.{Manager}
-use Rattle.qs_tm.specs.declared.participant.Participant.{Participant}
-use Rattle.qs_node_step.specs.Opening.{take_up, new_manager, opened_node, recovered_of}
-use Rattle.qs_node_step.specs.State.{NodeValue}
-use Rattle.qs_node_step.specs.declared.setting.Setting.{Setting}
-use Rattle.qs_world_refine.specs.Sound.{in_order, is_sound_part, is_sound_peer, is_sound_member, same_flag, where_so}
 use Rattle.qs_world_refine.proofs.Maps.{lookup_put}
 use Rattle.qs_world_refine.proofs.NodeSets.{joined_length}
 use Rattle.qs_world_refine.proofs.StartWorlds.{nobody}
@@ -76,10 +54,6 @@ module _ (alloc : Global) (setting : Setting) where
     pub ordered : in_order es ≡ true
     pub all : list_all q es ≡ true
 
-  not_is : (b : Bool) → not b ≡ true → b ≡ false
-  not_is true so = absurd (cc (so))
-  not_is false so = refl
-
   -- one that is as a vote finds it
   module _ (tid : Tid) (server : ServerNo) (covers : ℕ) (recoverable : is_recoverable server.0 ≡ true) (part : Participant) (passes : needs_pass part ≡ false) (unlisted : part.log.listed ≡ false)
       (aborted : where_so part.engage.home (is_abort part.outcome) ≡ true) (s : PartSound node tid part) where
@@ -111,7 +85,7 @@ module _ (alloc : Global) (setting : Setting) where
   -- ---- a Prepare is taken up
 
   nothing_due : (h : Bool) → needs_pass (aborted_participant h) ≡ false
-  nothing_due h = not_is (needs_pass (aborted_participant h)) no_pass
+  nothing_due h = not-true (needs_pass (aborted_participant h)) no_pass
 
   peers_heard : list_all (is_sound_peer node (new_participant false)) all_nodes ≡ true
   unfolding all_nodes
@@ -146,7 +120,7 @@ module _ (alloc : Global) (setting : Setting) where
       let rest : ((not (needs_pass part) && not part.log.listed) ≡ true) × (where_so part.engage.home (is_abort part.outcome) ≡ true) = and_both (not (needs_pass part) && not part.log.listed) _ both.1 in
       let flags : (not (needs_pass part) ≡ true) × (not part.log.listed ≡ true) = and_both (not (needs_pass part)) (not part.log.listed) rest.0 in
       let s : PartSound node tid part = part_seen node tid part both.0 in
-      voted_is tid server covers recoverable part (not_is (needs_pass part) flags.0) (not_is part.log.listed flags.1) rest.1 s (same_node tid.home setting.node) (same_as part.engage.home (same_node tid.home setting.node) s.homed)
+      voted_is tid server covers recoverable part (not-true (needs_pass part) flags.0) (not-true part.log.listed flags.1) rest.1 s (same_node tid.home setting.node) (same_as part.engage.home (same_node tid.home setting.node) s.homed)
     where
       same_as : (a b : Bool) → same_flag a b ≡ true → b ≡ a
       same_as true b so = so

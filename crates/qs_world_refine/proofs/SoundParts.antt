@@ -1,23 +1,7 @@
 -- A node stays sound where what it keeps of one transaction is changed, and its outcome is not.
-use Rattle.std.proofs.Common.{◌≡◌, ◌&&◌, ◌||◌, not, Bool, true, false, List, [], ◌∷◌, Option, Some, None, refl, sym, ap, subst, ◌∙◌, arith}
-use Rattle.std.specs.List.{list_all}
-use Rattle.std.specs.Map.{lookup, set_value}
-use Rattle.std.specs.BTreeMap.{is_at}
-use Rattle.std.specs.declared.cmp.Ordering.{Ordering}
-use Rattle.std.specs.declared.cmp.Ordering.TheVariants.{Equal}
-use Rattle.std.proofs.lemmas.Bool.Decides.{nat_tests}
-use Rattle.qs_base.proofs.TidOrder.{tid_exact}
-use Rattle.qs_base.specs.Order.{tid_cmp, same_tid}
+use Rattle.qs_world_refine.proofs.Words.{◌≡◌, ◌&&◌, ◌||◌, not, Bool, true, false, List, [], ◌∷◌, Option, Some, None, refl, sym, ap, subst, ◌∙◌, arith, list_all, lookup, set_value, is_at, Ordering, Equal, nat_tests, tid_exact, tid_cmp, same_tid, Tid, is_abort, is_undecided, Participant, was_committed, NodeValue, began_here, is_sound, fits_setting, in_order, is_less, is_sound_part, is_sound_queue, is_sound_delivery, is_sound_loan, is_sound_label, may_be_served, is_past, where_so}
 use Rattle.qs_base.specs.declared.identifiers.Outcome.{Outcome}
-use Rattle.qs_base.specs.declared.identifiers.Tid.{Tid}
 use Rattle.qs_tm.specs.Manager as tm
-use Rattle.qs_tm.specs.Outcomes.{is_abort}
-use Rattle.qs_tm.specs.Participant.{is_undecided}
-use Rattle.qs_tm.specs.declared.participant.Participant.{Participant}
-use Rattle.qs_node_step.specs.Answering.{was_committed}
-use Rattle.qs_node_step.specs.State.{NodeValue}
-use Rattle.qs_world_refine.specs.NodeFaces.{began_here}
-use Rattle.qs_world_refine.specs.Sound.{is_sound, fits_setting, in_order, is_less, is_sound_part, is_sound_queue, is_sound_delivery, is_sound_loan, is_sound_label, may_be_served, is_past, where_so}
 use Rattle.qs_world_refine.proofs.Frames.{part_apart}
 use Rattle.qs_world_refine.proofs.Maps.{lookup_changed, changed_none}
 

@@ -1,25 +1,11 @@
 -- A node stays sound where a request is put into a queue, leaves it, or is marked as of a dead incarnation.
-use Rattle.std.proofs.Common.{◌≡◌, ◌==◌, ◌&&◌, ◌||◌, not, nat_lt, cond, Bool, true, false, List, [], ◌∷◌, ◌++◌, map, drop, Option, Some, None, refl, sym, ap, subst, ◌∙◌, arith, if◌then◌else◌}
-use Rattle.std.specs.List.{list_all, list_any}
-use Rattle.std.specs.Map.{lookup, set_value}
-use Rattle.std.specs.BTreeMap.{insert_entry, is_at}
+use Rattle.qs_world_refine.proofs.Words.{◌≡◌, ◌==◌, ◌&&◌, ◌||◌, not, nat_lt, cond, Bool, true, false, List, [], ◌∷◌, ◌++◌, map, drop, Option, Some, None, refl, sym, ap, subst, ◌∙◌, arith, if◌then◌else◌, list_all, list_any, lookup, set_value, insert_entry, is_at, Ordering, Less, Equal, Greater, eqb-true, or_left, or_right, nat_tests, tid_cmp, same_tid, NodeNo, ServerNo, Tid, IpcValue, server_cmp, waits_in, QueueValue, no_queue, added, after_first, mark_stale, is_for, Delivery, Participant}
+use Rattle.qs_world_refine.proofs.Words.{NodeValue, is_sound, is_sound_part, is_sound_queue, is_sound_delivery}
 use Rattle.std.specs.Ordering.{is_eq}
-use Rattle.std.specs.declared.cmp.Ordering.{Ordering}
-use Rattle.std.specs.declared.cmp.Ordering.TheVariants.{Less, Equal, Greater}
-use Rattle.std.proofs.lemmas.Bool.{eqb-true}
-use Rattle.std.proofs.lemmas.Bool.Decides.{nat_tests}
-use Rattle.qs_base.specs.Order.{tid_cmp, same_tid}
-use Rattle.qs_base.specs.declared.identifiers.NodeNo.{NodeNo}
-use Rattle.qs_base.specs.declared.identifiers.ServerNo.{ServerNo}
-use Rattle.qs_base.specs.declared.identifiers.Tid.{Tid}
 use Rattle.qs_ipc.specs.Ipc as ipc
-use Rattle.qs_ipc.specs.Ipc.{IpcValue, server_cmp, waits_in, mark_queue, forgotten_below}
-use Rattle.qs_ipc.specs.Queue.{QueueValue, no_queue, is_of, waits_at, added, after_first, marked, mark_stale, is_for}
-use Rattle.qs_ipc.specs.declared.delivery.Delivery.{Delivery}
+use Rattle.qs_ipc.specs.Ipc.{mark_queue, forgotten_below}
+use Rattle.qs_ipc.specs.Queue.{is_of, waits_at, marked}
 use Rattle.qs_tm.specs.Manager as tm
-use Rattle.qs_tm.specs.declared.participant.Participant.{Participant}
-use Rattle.qs_node_step.specs.State.{NodeValue}
-use Rattle.qs_world_refine.specs.Sound.{is_sound, is_sound_part, is_sound_queue, is_sound_delivery}
 use Rattle.qs_world_refine.proofs.SoundParts.{and_both, both_and, all_found}
 use Rattle.qs_world_refine.proofs.SoundBegin.{all_last}
 use Rattle.qs_world_refine.proofs.SoundViews.{seen, sound_as, is_apart}
@@ -31,20 +17,13 @@ pub either : (a b : Bool) → (a || b) ≡ true → (c : Bool) → (a ≡ true �
 either true b is c f g = f refl
 either false b is c f g = g is
 
-pub either_first : (a b : Bool) → a ≡ true → (a || b) ≡ true
-either_first a b is = rw is refl
-
-pub either_last : (a b : Bool) → b ≡ true → (a || b) ≡ true
-either_last true b is = refl
-either_last false b is = is
-
 pub any_last : {X : Type 0} (p : X → Bool) (xs : List X) (x : X) → p x ≡ false → list_any p (xs ++ x ∷ []) ≡ true → list_any p xs ≡ true
 any_last p [] x off is = let never : (p x || false) ≡ true = is in absurd (cc (never, off))
-any_last p (y ∷ xs) x off is = either (p y) (list_any p (xs ++ x ∷ [])) is (p y || list_any p xs) (either_first (p y) (list_any p xs)) (λ more. either_last (p y) (list_any p xs) (any_last p xs x off more))
+any_last p (y ∷ xs) x off is = either (p y) (list_any p (xs ++ x ∷ [])) is (p y || list_any p xs) (or_left (p y) (list_any p xs)) (λ more. or_right (p y) (list_any p xs) (any_last p xs x off more))
 
 any_drop : {X : Type 0} (p : X → Bool) (xs : List X) → list_any p (drop 1 xs) ≡ true → list_any p xs ≡ true
 any_drop p [] is = is
-any_drop p (x ∷ xs) is = either_last (p x) (list_any p xs) is
+any_drop p (x ∷ xs) is = or_right (p x) (list_any p xs) is
 
 all_drop : {X : Type 0} (p : X → Bool) (xs : List X) → list_all p xs ≡ true → list_all p (drop 1 xs) ≡ true
 all_drop p [] is = is
@@ -76,12 +55,12 @@ module _ (server : ServerNo) where
           let value : Some e.1 ≡ Some q = rw at at found in
           let now : (p (e.0, f q) || list_any p es) ≡ true = rw at at is in
           either (p (e.0, f q)) (list_any p es) now (p e || list_any p es)
-          (λ so. either_first (p e) (list_any p es) (subst (λ (x : QueueValue). p (e.0, x) ≡ true) (sym (cc (value))) (less e.0 q so)))
-          (either_last (p e) (list_any p es))
+          (λ so. or_left (p e) (list_any p es) (subst (λ (x : QueueValue). p (e.0, x) ≡ true) (sym (cc (value))) (less e.0 q so)))
+          (or_right (p e) (list_any p es))
       by false at more is =
           let now : (p e || list_any p (set_value here es (f q))) ≡ true = rw at at is in
-          either (p e) (list_any p (set_value here es (f q))) now (p e || list_any p es) (either_first (p e) (list_any p es))
-          (λ so. either_last (p e) (list_any p es) (more (rw at at found) so))
+          either (p e) (list_any p (set_value here es (f q))) now (p e || list_any p es) (or_left (p e) (list_any p es))
+          (λ so. or_right (p e) (list_any p es) (more (rw at at found) so))
 
   any_put : (p : ServerNo × QueueValue → Bool) (q : QueueValue) → ((k : ServerNo) → p (k, q) ≡ false) → (es : IpcValue) → list_any p (insert_entry server_cmp es server q) ≡ true → list_any p es ≡ true
   any_put p q off [] = λ is. let never : (p (server, q) || false) ≡ true = is in let not_so : p (server, q) ≡ false = off server in absurd (cc (never, not_so))
@@ -94,10 +73,10 @@ module _ (server : ServerNo) where
           either (p (server, q)) (p e || list_any p es) now (p e || list_any p es) (λ so. let not_so : p (server, q) ≡ false = off server in absurd (cc (so, not_so))) (λ so. so)
       by Equal at more is =
           let now : (p (e.0, q) || list_any p es) ≡ true = rw at at is in
-          either (p (e.0, q)) (list_any p es) now (p e || list_any p es) (λ so. let not_so : p (e.0, q) ≡ false = off e.0 in absurd (cc (so, not_so))) (either_last (p e) (list_any p es))
+          either (p (e.0, q)) (list_any p es) now (p e || list_any p es) (λ so. let not_so : p (e.0, q) ≡ false = off e.0 in absurd (cc (so, not_so))) (or_right (p e) (list_any p es))
       by Greater at more is =
           let now : (p e || list_any p (insert_entry server_cmp es server q)) ≡ true = rw at at is in
-          either (p e) (list_any p (insert_entry server_cmp es server q)) now (p e || list_any p es) (either_first (p e) (list_any p es)) (λ so. either_last (p e) (list_any p es) (more so))
+          either (p e) (list_any p (insert_entry server_cmp es server q)) now (p e || list_any p es) (or_left (p e) (list_any p es)) (λ so. or_right (p e) (list_any p es) (more so))
 
   all_set : (p : ServerNo × QueueValue → Bool) (f : QueueValue → QueueValue) → ((q : QueueValue) → p (server, q) ≡ true → p (server, f q) ≡ true)
       → (es : IpcValue) (q : QueueValue) → lookup here es ≡ Some q → list_all p es ≡ true → list_all p (set_value here es (f q)) ≡ true

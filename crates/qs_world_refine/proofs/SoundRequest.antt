@@ -1,35 +1,14 @@
 -- A node stays sound where a request comes: its sender becomes the superior where there is none, and it waits at its server.
-use Rattle.std.proofs.Common.{◌≡◌, ℕ, ◌==◌, ◌&&◌, ◌||◌, not, Bool, true, false, Option, Some, None, is_none, is_some, nat_le, nat_lt, refl, sym, ap, subst, ◌∙◌, arith, if◌then◌else◌}
-use Rattle.std.specs.List.{list_all}
-use Rattle.std.specs.BTreeMap.{is_at}
-use Rattle.std.proofs.lemmas.Bool.{eqb-true}
-use Rattle.std.proofs.lemmas.Bool.Decides.{nat_tests}
-use Rattle.std.proofs.lemmas.List.{length-set}
-use Rattle.qs_base.specs.Order.{tid_cmp}
-use Rattle.qs_base.specs.declared.identifiers.Member.{Member}
-use Rattle.qs_base.specs.declared.identifiers.NodeNo.{NodeNo}
-use Rattle.qs_base.specs.declared.identifiers.Tid.{Tid}
-use Rattle.qs_engage.specs.Engage.{peer_of, with_last}
-use Rattle.qs_engage.specs.Nodes.{all_nodes, same_node, has_node}
+use Rattle.qs_world_refine.proofs.Words.{◌≡◌, ℕ, ◌==◌, ◌&&◌, ◌||◌, not, Bool, true, false, Option, Some, None, is_none, is_some, nat_le, nat_lt, refl, sym, ap, subst, ◌∙◌, arith, if◌then◌else◌, list_all, is_at, eqb-true, nat_tests, length-set, tid_cmp, Member, NodeNo, Tid, peer_of, with_last, same_node, Engaged, PeerPart, is_for, Delivery, Op, is_abort, is_undecided, new_participant, Participant, label_at, put_label, cover_from, engage, is_dropped, take_in, NodeValue, Work, here, part_of}
+use Rattle.qs_world_refine.proofs.Words.{with_manager, with_queues, node_no, is_sound, fits_setting, is_sound_part, is_sound_peer, is_sound_member, is_sound_superior, is_whole, may_be_served, where_so, and_false}
+use Rattle.qs_engage.specs.Nodes.{all_nodes, has_node}
 use Rattle.qs_engage.specs.declared.engage.Engage.{Engage}
-use Rattle.qs_engage.specs.declared.engage.Engaged.{Engaged}
 use Rattle.qs_engage.specs.declared.engage.Engaged.TheVariants as engagements
-use Rattle.qs_engage.specs.declared.engage.PeerPart.{PeerPart}
 use Rattle.qs_ipc.specs.Ipc as ipc
-use Rattle.qs_ipc.specs.Queue.{is_for}
-use Rattle.qs_ipc.specs.declared.delivery.Delivery.{Delivery}
-use Rattle.qs_ops.specs.declared.operation.Op.{Op}
 use Rattle.qs_packet.specs.declared.message.Message.TheVariants as messages
 use Rattle.qs_tm.specs.Manager as tm
 use Rattle.qs_tm.specs.Members.{all_servers}
-use Rattle.qs_tm.specs.Outcomes.{is_abort}
 use Rattle.qs_tm.specs.Participant as participant
-use Rattle.qs_tm.specs.Participant.{is_undecided, new_participant}
-use Rattle.qs_tm.specs.declared.participant.Participant.{Participant}
-use Rattle.qs_node_step.specs.Serving.{label_at, put_label, cover_from, engage, is_dropped, take_in}
-use Rattle.qs_node_step.specs.State.{NodeValue, Work, here, part_of, with_manager, with_queues}
-use Rattle.qs_world_refine.specs.Links.{node_no}
-use Rattle.qs_world_refine.specs.Sound.{is_sound, fits_setting, is_sound_part, is_sound_peer, is_sound_member, is_sound_superior, is_whole, may_be_served, where_so}
 use Rattle.qs_world_refine.specs.SoundLaws.{RequestCameSound}
 use Rattle.qs_world_refine.proofs.Arrays.{peer_put}
 use Rattle.qs_world_refine.proofs.Maps.{lookup_changed, lookup_put, changed_none}
@@ -73,11 +52,7 @@ module _ (tid : Tid) (from : NodeNo) (number : ℕ) (node : NodeValue) (in_run :
 
   pub not_apart : is_apart new ≡ false
   not_apart = engaged_is (λ (e : Engage). is_apart (with_engage e) ≡ false) (λ is. rw is refl)
-      (λ is so. rw is (undecided (is_undecided part))) (λ superior is so. rw (is, so) (undecided (is_undecided part)))
-    where
-      undecided : (b : Bool) → (b && false) ≡ false
-      undecided true = refl
-      undecided false = refl
+      (λ is so. rw is (and_false (is_undecided part))) (λ superior is so. rw (is, so) (and_false (is_undecided part)))
 
   module _ (s : PartSound node tid part) where
     -- with the entry of a peer

@@ -1,33 +1,18 @@
 -- A node stays sound where another one restarted, and in its own first step.
-use Rattle.std.proofs.Common.{◌≡◌, ℕ, ◌<◌, ◌==◌, ◌&&◌, not, nat_lt, nat_le, Bool, true, false, List, [], ◌∷◌, Option, Some, None, is_some, refl, sym, subst, ◌∙◌, fold, if◌then◌else◌}
-use Rattle.std.specs.List.{list_all}
-use Rattle.std.proofs.lemmas.Bool.{eqb-true}
-use Rattle.std.proofs.lemmas.List.{length-set}
-use Rattle.qs_base.specs.declared.identifiers.NodeNo.{NodeNo}
+use Rattle.qs_world_refine.proofs.Words.{◌≡◌, ℕ, ◌<◌, ◌==◌, ◌&&◌, not, nat_lt, nat_le, Bool, true, false, List, [], ◌∷◌, Option, Some, None, is_some, refl, sym, subst, ◌∙◌, fold, if◌then◌else◌, list_all, eqb-true, length-set, NodeNo, Tid, peer_of, with_last, same_node, listed, PeerPart, named_by, is_abort, is_told_again, is_owed_by, is_undecided, Participant, block, send, log_if, give_notices, find_gone, is_orphaned_by, inquire, name_again, notice_decided, notice_part, notice_tid, resume_home}
+use Rattle.qs_world_refine.proofs.Words.{resume_part, resume_tid, known_tids, NodeValue, Work, part_of, with_node, with_manager, with_queues, node_no, is_sound, where_so, is_sound_peer, StaysSound}
 use Rattle.qs_base.specs.declared.identifiers.Outcome.{Outcome}
 use Rattle.qs_base.specs.declared.identifiers.Outcome.TheVariants as outcomes
-use Rattle.qs_base.specs.declared.identifiers.Tid.{Tid}
-use Rattle.qs_engage.specs.Engage.{peer_of, with_last}
-use Rattle.qs_engage.specs.Nodes.{all_nodes, same_node, has_node, listed}
-use Rattle.qs_engage.specs.declared.engage.PeerPart.{PeerPart}
+use Rattle.qs_engage.specs.Nodes.{all_nodes, has_node}
 use Rattle.qs_ipc.specs.Ipc as ipc
 use Rattle.qs_ops.specs.declared.answer.Cause.TheVariants as causes
 use Rattle.qs_packet.specs.declared.message.Message.TheVariants as messages
 use Rattle.qs_record.specs.declared.record.Record.TheVariants as records
 use Rattle.qs_tm.specs.Manager as tm
 use Rattle.qs_tm.specs.Outcomes as outcome_rules
-use Rattle.qs_tm.specs.Outcomes.{named_by, is_abort, is_told_again}
 use Rattle.qs_tm.specs.Participant as participant
-use Rattle.qs_tm.specs.Participant.{is_owed_by, is_undecided}
-use Rattle.qs_tm.specs.declared.participant.Participant.{Participant}
-use Rattle.qs_node_step.specs.Asking.{block}
-use Rattle.qs_node_step.specs.Bringing.{send, log_if}
-use Rattle.qs_node_step.specs.Deciding.{give_notices}
-use Rattle.qs_node_step.specs.Restarts.{find_gone, is_orphaned_by, inquire, tell_again, name_again, notice_decided, notice_part, notice_tid, resume_home, resume_part, resume_tid, known_tids}
-use Rattle.qs_node_step.specs.State.{NodeValue, Work, part_of, with_node, with_manager, with_queues}
-use Rattle.qs_world_refine.specs.Links.{node_no}
-use Rattle.qs_world_refine.specs.Sound.{is_sound, where_so, is_sound_peer}
-use Rattle.qs_world_refine.specs.SoundLaws.{StaysSound, PeerRestartedSound, BeginIncarnationSound}
+use Rattle.qs_node_step.specs.Restarts.{tell_again}
+use Rattle.qs_world_refine.specs.SoundLaws.{PeerRestartedSound, BeginIncarnationSound}
 use Rattle.qs_world_refine.proofs.Arrays.{peer_put}
 use Rattle.qs_world_refine.proofs.SoundBegin.{all_implied}
 use Rattle.qs_world_refine.proofs.SoundRules.{send_node, sends_node, block_sound}

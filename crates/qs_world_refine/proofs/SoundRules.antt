@@ -1,32 +1,11 @@
 -- Rules that change nothing of what is said of a sound node: asking, refusing, replies.
-use Rattle.std.proofs.Common.{◌≡◌, ℕ, ◌&&◌, not, Bool, true, false, List, [], ◌∷◌, ◌++◌, Option, Some, None, refl, ◌∙◌, if◌then◌else◌}
-use Rattle.std.specs.Map.{lookup}
-use Rattle.std.specs.BTreeMap.{is_at}
-use Rattle.qs_base.specs.declared.identifiers.ClientNo.{ClientNo}
-use Rattle.qs_base.specs.declared.identifiers.Member.{Member}
-use Rattle.qs_base.specs.declared.identifiers.NodeNo.{NodeNo}
-use Rattle.qs_base.specs.declared.identifiers.Tid.{Tid}
-use Rattle.qs_engage.specs.Engage.{uncovered, is_node}
-use Rattle.qs_engage.specs.Nodes.{listed, same_node}
-use Rattle.qs_ops.specs.declared.answer.Answer.{Answer}
-use Rattle.qs_ops.specs.declared.answer.Cause.{Cause}
-use Rattle.qs_ops.specs.declared.reply.Reply.{Reply}
-use Rattle.qs_packet.specs.declared.message.Message.{Message}
+use Rattle.qs_world_refine.proofs.Words.{◌≡◌, ℕ, ◌&&◌, not, Bool, true, false, List, [], ◌∷◌, ◌++◌, Option, Some, None, refl, ◌∙◌, if◌then◌else◌, lookup, is_at, ClientNo, Member, NodeNo, Tid, uncovered, is_node, listed, same_node, Answer, Cause, Reply, Message, is_by_files, is_undecided, Outstanding, Participant, OpenCommand, where_undecided, become_asked, asked_by, pass_unknown, block, is_other, send, send_each, answer, enter_ask, take_reply, waits_as, answer_issuer, client_of, Work, here}
+use Rattle.qs_world_refine.proofs.Words.{part_of, with_manager, client_cmp, is_sound, StaysSound}
 use Rattle.qs_packet.specs.declared.message.Message.TheVariants as messages
 use Rattle.qs_tm.specs.Manager as tm
 use Rattle.qs_tm.specs.Participant as participant
-use Rattle.qs_tm.specs.Participant.{is_by_files, is_undecided}
-use Rattle.qs_tm.specs.declared.participant.Outstanding.{Outstanding}
-use Rattle.qs_tm.specs.declared.participant.Participant.{Participant}
-use Rattle.qs_node_step.specs.declared.state.OpenCommand.{OpenCommand}
-use Rattle.qs_node_step.specs.Asking.{where_undecided, become_asked, asked_by, pass_unknown, block}
-use Rattle.qs_node_step.specs.Bringing.{is_other, send, send_each, answer}
-use Rattle.qs_node_step.specs.Commands.{enter_ask}
-use Rattle.qs_node_step.specs.Requests.{take_reply, waiting_at, waits_as, answer_issuer}
-use Rattle.qs_node_servers.specs.Servers.{client_of}
-use Rattle.qs_node_step.specs.State.{Work, here, part_of, with_manager, client_cmp}
-use Rattle.qs_world_refine.specs.Sound.{is_sound}
-use Rattle.qs_world_refine.specs.SoundLaws.{StaysSound, OwnerAsksSound, AskCameSound, RefusalCameSound, ReplyCameSound}
+use Rattle.qs_node_step.specs.Requests.{waiting_at}
+use Rattle.qs_world_refine.specs.SoundLaws.{OwnerAsksSound, AskCameSound, RefusalCameSound, ReplyCameSound}
 use Rattle.qs_world_refine.proofs.SoundParts.{hidden_sound}
 
 -- ---- messages and answers

@@ -1,26 +1,12 @@
 -- A node stays sound where a request goes to another node.
-use Rattle.std.proofs.Common.{◌≡◌, ℕ, ◌+◌, ◌==◌, ◌&&◌, ◌||◌, not, Bool, true, false, length, Option, Some, None, nat_le, nat_lt, refl, sym, subst, ◌∙◌, arith, if◌then◌else◌}
-use Rattle.std.specs.List.{list_all}
-use Rattle.std.specs.BTreeMap.{is_at}
-use Rattle.std.proofs.lemmas.Bool.Decides.{nat_tests}
-use Rattle.std.proofs.lemmas.List.{length-set}
-use Rattle.qs_base.specs.Order.{tid_cmp}
-use Rattle.qs_base.specs.declared.identifiers.NodeNo.{NodeNo}
-use Rattle.qs_base.specs.declared.identifiers.Tid.{Tid}
-use Rattle.qs_engage.specs.Engage.{peer_of, with_peer, last_number}
-use Rattle.qs_engage.specs.Nodes.{all_nodes, same_node, has_node}
-use Rattle.qs_engage.specs.declared.engage.PeerPart.{PeerPart}
+use Rattle.qs_world_refine.proofs.Words.{◌≡◌, ℕ, ◌+◌, ◌==◌, ◌&&◌, ◌||◌, not, Bool, true, false, length, Option, Some, None, nat_le, nat_lt, refl, sym, subst, ◌∙◌, arith, if◌then◌else◌, list_all, is_at, nat_tests, length-set, tid_cmp, NodeNo, Tid, peer_of, with_peer, last_number, same_node, PeerPart, is_abort, is_undecided, Participant, send, enter_issue, ask_on, is_asked, label_of, NodeValue, Work, with_manager, is_sound, fits_setting, in_order, is_sound_part, where_so, is_whole, same_flag}
+use Rattle.qs_world_refine.proofs.Words.{is_sound_peer, is_sound_member, is_sound_superior, is_engaged, is_sound_home, tells_nobody}
+use Rattle.qs_engage.specs.Nodes.{all_nodes, has_node}
 use Rattle.qs_packet.specs.declared.message.Message.TheVariants as messages
 use Rattle.qs_tm.specs.Manager as tm
 use Rattle.qs_tm.specs.Members.{all_servers}
-use Rattle.qs_tm.specs.Outcomes.{is_abort}
 use Rattle.qs_tm.specs.Participant as participant
-use Rattle.qs_tm.specs.Participant.{is_undecided}
-use Rattle.qs_tm.specs.declared.participant.Participant.{Participant}
-use Rattle.qs_node_step.specs.Bringing.{send}
-use Rattle.qs_node_step.specs.Requests.{enter_issue, ask_on, is_asked, label_of}
-use Rattle.qs_node_step.specs.State.{NodeValue, Work, with_manager}
-use Rattle.qs_world_refine.specs.Sound.{is_sound, fits_setting, in_order, is_sound_part, where_so, is_whole, same_flag, is_sound_peer, is_sound_member, is_sound_superior, is_engaged, is_idle, is_sound_home, tells_nobody}
+use Rattle.qs_world_refine.specs.Sound.{is_idle}
 use Rattle.qs_world_refine.specs.SoundLaws.{IssueAwaySound}
 use Rattle.qs_world_refine.proofs.Arrays.{peer_put}
 use Rattle.qs_world_refine.proofs.Maps.{changed_none}

@@ -1,43 +1,19 @@
 -- A node stays sound where it serves what waits.
-use Rattle.std.proofs.Common.{◌≡◌, ◌==◌, ◌&&◌, ◌||◌, not, Bool, true, false, List, [], ◌∷◌, Option, Some, None, unwrap_or, refl, sym, ap, subst, ◌∙◌, arith, fold, if◌then◌else◌}
-use Rattle.std.specs.List.{list_any}
-use Rattle.std.specs.Map.{lookup}
-use Rattle.std.specs.BTreeMap.{is_at}
-use Rattle.std.proofs.lemmas.Bool.Decides.{nat_tests}
-use Rattle.qs_base.specs.Order.{tid_cmp, same_tid}
-use Rattle.qs_base.specs.declared.identifiers.ClientNo.{ClientNo}
-use Rattle.qs_base.specs.declared.identifiers.Member.{Member}
-use Rattle.qs_base.specs.declared.identifiers.ServerNo.{ServerNo}
-use Rattle.qs_base.specs.declared.identifiers.Tid.{Tid}
-use Rattle.qs_engage.specs.Nodes.{same_node}
+use Rattle.qs_world_refine.proofs.Words.{◌≡◌, ◌==◌, ◌&&◌, ◌||◌, not, Bool, true, false, List, [], ◌∷◌, Option, Some, None, unwrap_or, refl, sym, ap, subst, ◌∙◌, arith, fold, if◌then◌else◌, list_any, lookup, is_at, nat_tests, tid_cmp, same_tid, ClientNo, Member, ServerNo, Tid, same_node, IpcValue, server_cmp, waits_in, QueueValue, no_queue, first_of, Delivery, after_serving, Reply, is_client, is_told_class, class_here, is_abort, member_of, with_member, is_undecided, Participant, last_number}
+use Rattle.qs_world_refine.proofs.Words.{member_here, reply_came, reply_here, enter_serve, lent_to, make_loan, give_reply, serve, serve_or_drop, serve_next, is_lent, NodeValue, Work, here, part_of, with_manager, with_queues, change_server, is_sound, is_sound_part, may_be_served, where_so, StaysSound, or_left, or_right}
 use Rattle.qs_ipc.specs.Ipc as ipc
-use Rattle.qs_ipc.specs.Ipc.{IpcValue, server_cmp, waits_in}
-use Rattle.qs_ipc.specs.Queue.{QueueValue, no_queue, first, first_of, is_of}
-use Rattle.qs_ipc.specs.declared.delivery.Delivery.{Delivery}
-use Rattle.qs_ops.specs.Server.{after_serving}
-use Rattle.qs_ops.specs.declared.reply.Reply.{Reply}
+use Rattle.qs_ipc.specs.Queue.{first, is_of}
 use Rattle.qs_packet.specs.declared.message.Message.TheVariants as messages
-use Rattle.qs_node_servers.specs.Servers.{is_client}
 use Rattle.qs_tm.specs.Manager as tm
-use Rattle.qs_tm.specs.Members.{is_told_class, class_here}
-use Rattle.qs_tm.specs.Outcomes.{is_abort}
 use Rattle.qs_tm.specs.Participant as participant
-use Rattle.qs_tm.specs.Participant.{member_of, with_member, is_undecided}
-use Rattle.qs_tm.specs.declared.participant.Participant.{Participant}
-use Rattle.qs_engage.specs.Engage.{last_number}
-use Rattle.qs_node_step.specs.Bringing.{member_here}
-use Rattle.qs_node_step.specs.Requests.{reply_came}
-use Rattle.qs_node_step.specs.Serving.{reply_here, enter_serve, lent_to, make_loan, give_reply, serve, may_serve, serve_or_drop, serve_next}
-use Rattle.qs_node_step.specs.Settling.{is_lent}
-use Rattle.qs_node_step.specs.State.{NodeValue, Work, here, part_of, with_manager, with_queues, change_server}
-use Rattle.qs_world_refine.specs.Sound.{is_sound, is_sound_part, may_be_served, where_so}
-use Rattle.qs_world_refine.specs.SoundLaws.{StaysSound, ServeAllSound}
+use Rattle.qs_node_step.specs.Serving.{may_serve}
+use Rattle.qs_world_refine.specs.SoundLaws.{ServeAllSound}
 use Rattle.qs_world_refine.proofs.Maps.{lookup_changed}
 use Rattle.qs_world_refine.proofs.SoundParts.{all_found, part_sound}
 use Rattle.qs_world_refine.proofs.SoundRules.{send_node, reply_came_sound}
 use Rattle.qs_world_refine.proofs.SoundLoans.{lent_sound}
 use Rattle.qs_world_refine.proofs.SoundMembers.{after_serve, served_sound}
-use Rattle.qs_world_refine.proofs.SoundQueued.{either_first, either_last, next_sound}
+use Rattle.qs_world_refine.proofs.SoundQueued.{next_sound}
 use Rattle.qs_world_refine.proofs.SoundViews.{PartSound, is_apart, seen, part_seen, part_as}
 
 -- ---- of what waits or is lent the node is at the home, decided, or engaged
@@ -49,8 +25,8 @@ any_found here p q its (e ∷ es) found = by (here e.0) refl (any_found here p q
     by : (b : Bool) → here e.0 ≡ b → (lookup here es ≡ Some q → list_any p es ≡ true) → (p e || list_any p es) ≡ true
     by true is more =
         let value : Some e.1 ≡ Some q = rw is at found in
-        either_first (p e) (list_any p es) (subst (λ (x : QueueValue). p (e.0, x) ≡ true) (sym (cc (value))) (its e.0))
-    by false is more = either_last (p e) (list_any p es) (more (rw is at found))
+        or_left (p e) (list_any p es) (subst (λ (x : QueueValue). p (e.0, x) ≡ true) (sym (cc (value))) (its e.0))
+    by false is more = or_right (p e) (list_any p es) (more (rw is at found))
 
 next_waits : (server : ServerNo) (delivery : Delivery) (queues : IpcValue) → ipc.next server queues ≡ Some delivery → ipc.waits delivery.tid queues ≡ true
 next_waits server delivery queues next = by (lookup (is_at (server_cmp server)) queues) refl next
@@ -60,7 +36,7 @@ next_waits server delivery queues next = by (lookup (is_at (server_cmp server)) 
     waits_first q (d ∷ ds) is =
         let same : d ≡ delivery = cc (is) in
         subst (λ (x : Delivery). (same_tid delivery.tid x.tid || list_any (is_of delivery.tid) ds) ≡ true) (sym same)
-        (either_first (same_tid delivery.tid delivery.tid) (list_any (is_of delivery.tid) ds) (grind (arith, nat_tests)))
+        (or_left (same_tid delivery.tid delivery.tid) (list_any (is_of delivery.tid) ds) (grind (arith, nat_tests)))
 
     by : (o : Option QueueValue) → lookup (is_at (server_cmp server)) queues ≡ o → first (unwrap_or o no_queue) ≡ Some delivery → ipc.waits delivery.tid queues ≡ true
     by None found is = absurd (cc (is))
@@ -131,7 +107,7 @@ module _ (server : ServerNo) (delivery : Delivery) (reply : Reply) (work : Work)
 
   entered_served : may_be_served entered.node delivery.tid ≡ true
   entered_served = ap (λ (o : Option Participant). elim o [ None ↦ false | Some p ↦ is_undecided p || is_abort p.outcome ]) entered_known
-      ∙ either_first (is_undecided (participant.served server part)) (is_abort (participant.served server part).outcome) undecided
+      ∙ or_left (is_undecided (participant.served server part)) (is_abort (participant.served server part).outcome) undecided
 
   lent : (o : Option ClientNo) → is_sound work.node ≡ true → is_sound (make_loan delivery.tid o entered).node ≡ true
   lent None sound = entered_sound sound

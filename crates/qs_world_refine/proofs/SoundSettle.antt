@@ -1,18 +1,10 @@
 -- A node that settles at the end of a step stays sound.
-use Rattle.std.proofs.Common.{◌≡◌, ◌&&◌, ◌||◌, not, Bool, true, false, List, [], ◌∷◌, Option, Some, None, refl, fold, if◌then◌else◌}
+use Rattle.qs_world_refine.proofs.Words.{◌≡◌, ◌&&◌, ◌||◌, not, Bool, true, false, List, [], ◌∷◌, Option, Some, None, refl, fold, if◌then◌else◌, Tid, Cause, is_undecided, Participant, where_undecided, decide, decide_commit, may_answer, is_quiet, answer_superior, ready_rule, pass_rule, refuse_elsewhere, refuse_rule, forget_rule, try, settle_tid, due_tids, Work, part_of, doings_of, is_sound, StaysSound}
 use Rattle.qs_base.specs.declared.identifiers.Outcome.TheVariants as outcomes
-use Rattle.qs_base.specs.declared.identifiers.Tid.{Tid}
-use Rattle.qs_ops.specs.declared.answer.Cause.{Cause}
 use Rattle.qs_ops.specs.declared.answer.Cause.TheVariants as causes
 use Rattle.qs_tm.specs.Manager as tm
-use Rattle.qs_tm.specs.Participant.{is_undecided}
-use Rattle.qs_tm.specs.declared.participant.Participant.{Participant}
-use Rattle.qs_node_step.specs.Asking.{where_undecided}
-use Rattle.qs_node_step.specs.Deciding.{decide, decide_commit}
-use Rattle.qs_node_step.specs.Settling.{may_answer, is_quiet, answer_superior, ready, ready_rule, pass_rule, refuse_home, refuse_elsewhere, refuse_rule, forget_rule, try, settle_tid, due_tids}
-use Rattle.qs_node_step.specs.State.{Work, part_of, doings_of}
-use Rattle.qs_world_refine.specs.Sound.{is_sound}
-use Rattle.qs_world_refine.specs.SoundLaws.{StaysSound, SettleSound}
+use Rattle.qs_node_step.specs.Settling.{ready, refuse_home}
+use Rattle.qs_world_refine.specs.SoundLaws.{SettleSound}
 use Rattle.qs_world_refine.proofs.SoundAnswer.{none_waits, none_lent, answer_superior_sound, refuse_elsewhere_sound, forget_rule_sound}
 use Rattle.qs_world_refine.proofs.SoundDecide.{decide_abort_sound, decide_commit_sound}
 use Rattle.qs_world_refine.proofs.SoundVotes.{pass_rule_sound}

@@ -1,12 +1,7 @@
 -- Where a world begins with empty logs, every node is sound.
-use Rattle.std.proofs.Common.{◌≡◌, ℕ, ◌<◌, ◌≤◌, ◌==◌, ◌&&◌, Bool, true, List, nat_lt, nat_le, refl, sym, subst, arith}
-use Rattle.std.proofs.lemmas.Bool.{eqb-true}
-use Rattle.std.proofs.lemmas.Bool.Decides.{nat_tests}
-use Rattle.qs_record.specs.declared.record.Record.{Record}
-use Rattle.qs_node_step.specs.declared.setting.Setting.{Setting}
-use Rattle.qs_world.specs.Openings.{is_setting, is_audit, is_format, is_age}
+use Rattle.qs_world_refine.proofs.Words.{◌≡◌, ℕ, ◌<◌, ◌≤◌, ◌==◌, ◌&&◌, Bool, true, List, nat_lt, nat_le, refl, sym, subst, arith, eqb-true, nat_tests, Record, Setting, is_setting, is_audit, each_is}
+use Rattle.qs_world.specs.Openings.{is_format, is_age}
 use Rattle.qs_world.specs.World.{opened_host}
-use Rattle.qs_world.proofs.Below.{each_is}
 use Rattle.qs_world_refine.specs.Sound.{is_sound_host}
 use Rattle.qs_world_refine.specs.SoundLaws.{StartSound}
 use Rattle.qs_world_refine.proofs.SoundParts.{and_both}

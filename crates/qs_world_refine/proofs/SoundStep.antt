@@ -1,40 +1,15 @@
 -- A node stays sound where commands that stayed open are answered, and so over a whole step.
-use Rattle.std.proofs.Common.{◌≡◌, ℕ, Bool, true, false, List, [], ◌∷◌, ◌++◌, Option, Some, None, refl, sym, subst, ◌∙◌, fold, if◌then◌else◌}
-use Rattle.std.specs.List.{list_all}
-use Rattle.std.specs.Map.{lookup, set_value, remove_entry}
-use Rattle.std.specs.BTreeMap.{is_at}
-use Rattle.qs_base.specs.declared.identifiers.ClientNo.{ClientNo}
-use Rattle.qs_base.specs.declared.identifiers.Member.{Member}
-use Rattle.qs_base.specs.declared.identifiers.Tid.{Tid}
-use Rattle.qs_engage.specs.Nodes.{same_node}
+use Rattle.qs_world_refine.proofs.Words.{◌≡◌, ℕ, Bool, true, false, List, [], ◌∷◌, ◌++◌, Option, Some, None, refl, sym, subst, ◌∙◌, fold, if◌then◌else◌, list_all, lookup, set_value, remove_entry, is_at, ClientNo, Member, Tid, same_node, is_for, Command, first_untaken, last_taken, take_first, give_back, Decided, Lent, Answer, Op, client_server, Outstanding, kept_outcome, is_void, take, lent_command, with_loan, loan_command, borrower_command, enter, send, answer, request_as, request_command}
+use Rattle.qs_world_refine.proofs.Words.{with_issued, decided_answer, next_number, enter_issue, with_local, issue_here, issue_away, issue_as, ask_on, is_asked, label_of, label_at, NodeValue, Work, here, with_manager, with_queues, with_kept, with_doings, client_cmp, work_on, is_owner, owner_waits, borrower_waits, wait_command, wait_on, waiting_clients, happen, Issued, OpenCommand, is_sound, goes_in_run, StaysSound, commands_in_run, is_open_in_run, begun}
 use Rattle.qs_ipc.specs.Ipc as ipc
-use Rattle.qs_ipc.specs.Queue.{is_for}
-use Rattle.qs_book_journal.specs.declared.script_line.Command.{Command}
 use Rattle.qs_book_journal.specs.declared.script_line.Command.TheVariants as commands
-use Rattle.qs_node_kept.specs.Loans.{first_untaken, last_taken, take_first, give_back}
 use Rattle.qs_node_kept.specs.declared.kept.KeptLabel.{KeptLabel}
-use Rattle.qs_node_kept.specs.declared.kept.Decided.{Decided}
-use Rattle.qs_node_kept.specs.declared.kept.Lent.{Lent}
-use Rattle.qs_ops.specs.declared.answer.Answer.{Answer}
 use Rattle.qs_ops.specs.declared.answer.Answer.TheVariants as answers
-use Rattle.qs_ops.specs.declared.operation.Op.{Op}
 use Rattle.qs_packet.specs.declared.message.Message.TheVariants as messages
-use Rattle.qs_node_servers.specs.Servers.{client_server}
 use Rattle.qs_tm.specs.Manager as tm
-use Rattle.qs_tm.specs.declared.participant.Outstanding.{Outstanding}
-use Rattle.qs_node_step.specs.Answering.{kept_outcome}
-use Rattle.qs_node_step.specs.Borrowing.{is_aborted, is_void, take, lent_command, with_loan, loan_command, borrower_command}
-use Rattle.qs_node_step.specs.Bringing.{enter, send, answer}
-use Rattle.qs_node_step.specs.Commands.{request_as, request_command, with_issued, decided_answer}
-use Rattle.qs_node_step.specs.Requests.{next_number, enter_issue, with_local, issue_here, issue_away, issue_as, ask_on, is_asked, label_of}
-use Rattle.qs_node_step.specs.Serving.{label_at}
-use Rattle.qs_node_step.specs.State.{NodeValue, Work, here, with_manager, with_queues, with_kept, with_doings, client_cmp, work_on}
-use Rattle.qs_node_step.specs.Step.{is_owner, owner_waits, borrower_waits, waits_at, wait_command, wait_on, waiting_clients, happen}
-use Rattle.qs_node_step.specs.declared.state.Issued.{Issued}
-use Rattle.qs_node_step.specs.declared.state.OpenCommand.{OpenCommand}
-use Rattle.qs_world_refine.specs.Sound.{is_sound, goes_in_run}
-use Rattle.qs_world_refine.specs.SoundLaws.{StaysSound}
-use Rattle.qs_world_refine.specs.SoundSteps.{commands_in_run, is_open_in_run, begun, settled, AnswerWaitingSound, StepSound}
+use Rattle.qs_node_step.specs.Borrowing.{is_aborted}
+use Rattle.qs_node_step.specs.Step.{waits_at}
+use Rattle.qs_world_refine.specs.SoundSteps.{settled, AnswerWaitingSound, StepSound}
 use Rattle.qs_world_refine.proofs.SoundParts.{and_both, both_and}
 use Rattle.qs_world_refine.proofs.SoundRules.{send_node, answer_sound}
 use Rattle.qs_world_refine.proofs.SoundCommands.{borrower_command_sound}

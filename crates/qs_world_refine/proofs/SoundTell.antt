@@ -1,31 +1,16 @@
 -- A node stays sound where it is told an outcome, and where its home is told who took it in.
-use Rattle.std.proofs.Common.{◌≡◌, ◌<◌, ◌==◌, ◌&&◌, ◌||◌, not, nat_lt, nat_le, Bool, true, false, List, [], ◌∷◌, length, Option, Some, None, is_some, is_none, refl, sym, ap, subst, ◌∙◌, arith, if◌then◌else◌}
-use Rattle.std.specs.List.{list_all}
-use Rattle.std.specs.BTreeMap.{is_at}
-use Rattle.std.proofs.lemmas.Bool.{eqb-true}
-use Rattle.qs_base.specs.Order.{tid_cmp}
+use Rattle.qs_world_refine.proofs.Words.{◌≡◌, ◌<◌, ◌==◌, ◌&&◌, ◌||◌, not, nat_lt, nat_le, Bool, true, false, List, [], ◌∷◌, length, Option, Some, None, is_some, is_none, refl, sym, ap, subst, ◌∙◌, arith, if◌then◌else◌, list_all, is_at, eqb-true, tid_cmp, Tid, same_node, changed_value, is_abort, aborted_participant, is_undecided, InLog, Participant, log_if, give_notices, is_lent, NodeValue, Work, here, part_of, with_manager, names_at, end_record, learn, learn_unknown, take_outcome, is_sound}
+use Rattle.qs_world_refine.proofs.Words.{fits_setting, where_so, is_sound_peer, is_sound_member, same_flag, StaysSound}
 use Rattle.qs_base.specs.declared.identifiers.Outcome.{Outcome}
 use Rattle.qs_base.specs.declared.identifiers.Outcome.TheVariants as outcomes
-use Rattle.qs_base.specs.declared.identifiers.Tid.{Tid}
-use Rattle.qs_engage.specs.Nodes.{all_nodes, same_node}
+use Rattle.qs_engage.specs.Nodes.{all_nodes}
 use Rattle.qs_ipc.specs.Ipc as ipc
 use Rattle.qs_packet.specs.declared.message.Message.TheVariants as messages
 use Rattle.qs_record.specs.declared.record.Record.TheVariants as records
 use Rattle.qs_tm.specs.Manager as tm
-use Rattle.qs_tm.specs.Manager.{changed_value}
 use Rattle.qs_tm.specs.Members.{all_servers}
 use Rattle.qs_tm.specs.Outcomes as outcome_rules
-use Rattle.qs_tm.specs.Outcomes.{is_abort, aborted_participant}
-use Rattle.qs_tm.specs.Participant.{is_undecided}
-use Rattle.qs_tm.specs.declared.participant.InLog.{InLog}
-use Rattle.qs_tm.specs.declared.participant.Participant.{Participant}
-use Rattle.qs_node_step.specs.Bringing.{log_if}
-use Rattle.qs_node_step.specs.Deciding.{give_notices}
-use Rattle.qs_node_step.specs.Settling.{is_lent}
-use Rattle.qs_node_step.specs.State.{NodeValue, Work, here, part_of, with_manager}
-use Rattle.qs_node_step.specs.Telling.{names_at, end_record, learn, learn_unknown, take_outcome}
-use Rattle.qs_world_refine.specs.Sound.{is_sound, fits_setting, where_so, is_sound_peer, is_sound_member, same_flag}
-use Rattle.qs_world_refine.specs.SoundLaws.{StaysSound, TellCameSound}
+use Rattle.qs_world_refine.specs.SoundLaws.{TellCameSound}
 use Rattle.qs_world_refine.proofs.Maps.{lookup_changed}
 use Rattle.qs_world_refine.proofs.StartWorlds.{nobody}
 use Rattle.qs_world_refine.proofs.SoundParts.{and_both}

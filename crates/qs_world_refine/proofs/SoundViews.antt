@@ -1,13 +1,8 @@
 -- What is said of a sound node, part by part, so that a rule proves only the part that it changes.
-use Rattle.std.proofs.Common.{◌≡◌, ◌&&◌, not, Bool, true, refl}
-use Rattle.std.specs.List.{list_all}
-use Rattle.qs_base.specs.declared.identifiers.Tid.{Tid}
-use Rattle.qs_engage.specs.Nodes.{all_nodes, same_node, has_node}
+use Rattle.qs_world_refine.proofs.Words.{◌≡◌, ◌&&◌, not, Bool, true, refl, list_all, Tid, same_node, is_undecided, Participant, NodeValue, is_sound, fits_setting, in_order, is_sound_part, is_sound_queue, is_sound_loan, is_sound_label, where_so, same_flag, is_whole, is_sound_peer, is_sound_member, is_sound_superior, is_engaged, is_sound_home, tells_nobody}
+use Rattle.qs_engage.specs.Nodes.{all_nodes, has_node}
 use Rattle.qs_tm.specs.Members.{all_servers}
-use Rattle.qs_tm.specs.Participant.{is_undecided}
-use Rattle.qs_tm.specs.declared.participant.Participant.{Participant}
-use Rattle.qs_node_step.specs.State.{NodeValue}
-use Rattle.qs_world_refine.specs.Sound.{is_sound, fits_setting, in_order, is_sound_part, is_sound_queue, is_sound_loan, is_sound_label, where_so, same_flag, is_whole, is_sound_peer, is_sound_member, is_sound_superior, is_engaged, is_idle, is_sound_home, is_sound_log, tells_nobody}
+use Rattle.qs_world_refine.specs.Sound.{is_idle, is_sound_log}
 use Rattle.qs_world_refine.proofs.SoundParts.{and_both}
 
 -- ---- a node

@@ -1,26 +1,14 @@
 -- What a vote of the log that is taken up makes of a participant.
-use Rattle.std.proofs.Common.{◌≡◌, ℕ, ◌<◌, ◌==◌, ◌&&◌, ◌||◌, not, Bool, true, false, List, [], ◌∷◌, Option, Some, None, is_some, is_none, refl, sym, ap, subst, ◌∙◌, arith, if◌then◌else◌}
-use Rattle.std.specs.List.{list_any}
-use Rattle.std.proofs.lemmas.Bool.{eqb-true}
-use Rattle.std.proofs.lemmas.Bool.Decides.{nat_tests}
-use Rattle.qs_base.specs.declared.identifiers.ServerNo.{ServerNo}
-use Rattle.qs_base.specs.declared.identifiers.Tid.{Tid}
+use Rattle.qs_world_refine.proofs.Words.{◌≡◌, ℕ, ◌<◌, ◌==◌, ◌&&◌, ◌||◌, not, Bool, true, false, List, [], ◌∷◌, Option, Some, None, is_some, is_none, refl, sym, ap, subst, ◌∙◌, arith, if◌then◌else◌, list_any, eqb-true, or_from, nat_tests, ServerNo, Tid, is_recoverable, class_here, is_abort, member_of, with_member, needs_pass, is_due_at, MemberPart, Participant, is_lent, NodeValue, server_no, where_so, is_whole, or_first, or_last, or-true}
 use Rattle.qs_ipc.specs.Ipc as ipc
-use Rattle.qs_book_machine.specs.Nodes.{is_recoverable}
-use Rattle.qs_tm.specs.Members.{all_servers, class_here, is_immediate, votes_here, is_vote_due, is_ending_due}
-use Rattle.qs_tm.specs.Outcomes.{is_abort}
-use Rattle.qs_tm.specs.Participant.{member_of, with_member, needs_pass, is_due_at, has_due}
-use Rattle.qs_tm.specs.declared.members.MemberPart.{MemberPart}
+use Rattle.qs_tm.specs.Members.{all_servers, is_immediate, votes_here, is_vote_due, is_ending_due}
+use Rattle.qs_tm.specs.Participant.{has_due}
 use Rattle.qs_tm.specs.declared.members.Ballot.TheVariants as ballots
 use Rattle.qs_tm.specs.declared.participant.Due.TheVariants as dues
-use Rattle.qs_tm.specs.declared.participant.Participant.{Participant}
-use Rattle.qs_node_step.specs.Settling.{is_lent}
-use Rattle.qs_node_step.specs.State.{NodeValue}
-use Rattle.qs_world_refine.specs.Sights.{server_no}
-use Rattle.qs_world_refine.specs.Sound.{where_so, is_whole}
 use Rattle.qs_world_refine.proofs.Arrays.{member_put}
 use Rattle.qs_world_refine.proofs.SoundMembers.{members_length, member_sound, involve_sound}
 use Rattle.qs_world_refine.proofs.SoundViews.{PartSound, is_apart}
+use Rattle.qs_base_lemmas.proofs.Tests.{and_not}
 
 any_less : {X : Type 0} (p q : X → Bool) → ((x : X) → q x ≡ true → p x ≡ true) → (xs : List X) → list_any p xs ≡ false → list_any q xs ≡ false
 any_less p q less [] none = refl
@@ -48,14 +36,6 @@ recoverable_class server is = by (server.0 == 0) refl (server.0 == 1) refl
     by false x true y = rw (eqb-true server.0 1 y) refl
     by false x false y = rw (eqb-true server.0 6 (at_six (server.0 == 0) (server.0 == 1) (server.0 == 6) x y is)) refl
 
-off_first : (a b : Bool) → (a || b) ≡ false → a ≡ false
-off_first true b is = absurd (cc (is))
-off_first false b is = refl
-
-off_last : (a b : Bool) → (a || b) ≡ false → b ≡ false
-off_last true b is = absurd (cc (is))
-off_last false b is = is
-
 module _ (server : ServerNo) (covers : ℕ) (recoverable : is_recoverable server.0 ≡ true) (part : Participant) (whole : is_whole part ≡ true) where
   abbrev pub voted : MemberPart
   voted = record { served = covers; fresh = true; vote = Some (record { ballot = ballots.Recoverable; covers = covers }) }
@@ -73,11 +53,7 @@ module _ (server : ServerNo) (covers : ℕ) (recoverable : is_recoverable server
       picked b is = rw is refl
 
   no_vote : is_vote_due server voted ≡ false
-  no_vote = by (votes_here server) (covers == covers) (grind (arith, nat_tests))
-    where
-      by : (a b : Bool) → b ≡ true → (a && not b) ≡ false
-      by true b is = rw is refl
-      by false b is = refl
+  no_vote = and_not (votes_here server) (covers == covers) (grind (arith, nat_tests))
 
   no_ending : is_ending_due server voted ≡ false
   no_ending = rw (recoverable_class server recoverable) refl
@@ -94,12 +70,9 @@ module _ (server : ServerNo) (covers : ℕ) (recoverable : is_recoverable server
           absurd (cc (there, none))
 
   pub still_no_pass : needs_pass part ≡ false → needs_pass (with_member server voted part) ≡ false
-  still_no_pass none = neither (has_due dues.Vote (with_member server voted part)) (has_due dues.Ending (with_member server voted part))
-      (any_less (is_due_at dues.Vote part) (is_due_at dues.Vote (with_member server voted part)) (less_due is_vote_due no_vote) all_servers (off_first (has_due dues.Vote part) (has_due dues.Ending part) none))
-      (any_less (is_due_at dues.Ending part) (is_due_at dues.Ending (with_member server voted part)) (less_due is_ending_due no_ending) all_servers (off_last (has_due dues.Vote part) (has_due dues.Ending part) none))
-    where
-      neither : (a b : Bool) → a ≡ false → b ≡ false → (a || b) ≡ false
-      neither a b x y = rw (x, y) refl
+  still_no_pass none = or_from (has_due dues.Vote (with_member server voted part)) (has_due dues.Ending (with_member server voted part))
+      (any_less (is_due_at dues.Vote part) (is_due_at dues.Vote (with_member server voted part)) (less_due is_vote_due no_vote) all_servers (or_first (has_due dues.Vote part) (has_due dues.Ending part) none))
+      (any_less (is_due_at dues.Ending part) (is_due_at dues.Ending (with_member server voted part)) (less_due is_ending_due no_ending) all_servers (or_last (has_due dues.Vote part) (has_due dues.Ending part) none))
 
 -- over a node at which nothing waits and no loan stands: a participant that is aborted at its home
 module _ (node : NodeValue) (tid : Tid) (part : Participant) (server : ServerNo) (covers : ℕ) (recoverable : is_recoverable server.0 ≡ true)
@@ -117,12 +90,8 @@ module _ (node : NodeValue) (tid : Tid) (part : Participant) (server : ServerNo)
   idle true a b n x y z = rw (x, y, z) refl
   idle false a b n x y z = refl
 
-  or_true : (b : Bool) → (b || true) ≡ true
-  or_true true = refl
-  or_true false = refl
-
   drawn : PartSound node tid (record member_part { involved = true })
-  drawn = subst (λ (b : Bool). PartSound node tid (record member_part { involved = b })) (or_true part.involved)
+  drawn = subst (λ (b : Bool). PartSound node tid (record member_part { involved = b })) (or-true part.involved)
       (involve_sound node tid member_part (member_sound node tid part s server (voted server covers recoverable part s.whole) (grind (arith, nat_tests))
       (idle (is_apart part) (ipc.waits tid node.queues) (is_lent tid node) (needs_pass member_part) waits lent voted_passes)) true)
 

@@ -1,39 +1,20 @@
 -- A node stays sound where its servers vote, with their notes and Prepares.
-use Rattle.std.proofs.Common.{◌≡◌, ℕ, ◌==◌, ◌&&◌, ◌||◌, not, nat_lt, Bool, true, false, List, [], ◌∷◌, Option, Some, None, is_some, refl, sym, ap, subst, arith, fold, if◌then◌else◌}
-use Rattle.std.proofs.lemmas.Bool.{eqb-true}
-use Rattle.std.proofs.lemmas.Bool.Decides.{nat_tests}
-use Rattle.qs_base.specs.declared.identifiers.Member.{Member}
-use Rattle.qs_base.specs.declared.identifiers.NodeNo.{NodeNo}
-use Rattle.qs_base.specs.declared.identifiers.ServerNo.{ServerNo}
-use Rattle.qs_base.specs.declared.identifiers.Tid.{Tid}
-use Rattle.qs_ops.specs.Server.{vote_of, changes_in}
+use Rattle.qs_world_refine.proofs.Words.{◌≡◌, ℕ, ◌==◌, ◌&&◌, ◌||◌, not, nat_lt, Bool, true, false, List, [], ◌∷◌, Option, Some, None, is_some, refl, sym, ap, subst, arith, fold, if◌then◌else◌, eqb-true, or_left, nat_tests, Member, NodeNo, ServerNo, Tid, vote_of, changes_in, Note, Vote, server_at, audit_no, ballot_of, files_no, is_abort, member_of, with_member, is_undecided, needs_pass, Participant, member_here, end_members, is_lent, is_busy, is_pass_due, NodeValue, Work, here, part_of, owes_note}
+use Rattle.qs_world_refine.proofs.Words.{issue_note, served_count, enter_vote, vote_with, vote_frame, vote_next, due_votes, vote_pass, note_text, change_count, is_audit, is_sound, where_so, eqb-self}
 use Rattle.qs_ipc.specs.Ipc as ipc
-use Rattle.qs_ops.specs.declared.operation.Op.TheVariants.{Note}
-use Rattle.qs_ops.specs.declared.vote.Vote.{Vote}
 use Rattle.qs_ops.specs.declared.vote.Vote.TheVariants as votes
 use Rattle.qs_record.specs.declared.record.Record.TheVariants as records
-use Rattle.qs_node_servers.specs.Servers.{server_at, audit_no}
 use Rattle.qs_tm.specs.Manager as tm
-use Rattle.qs_tm.specs.Members.{ballot_of, is_binding, files_no}
+use Rattle.qs_tm.specs.Members.{is_binding}
 use Rattle.qs_tm.specs.Outcomes as outcome_rules
-use Rattle.qs_tm.specs.Outcomes.{is_abort}
 use Rattle.qs_tm.specs.Participant as participant
-use Rattle.qs_tm.specs.Participant.{member_of, with_member, with_causes_of, is_undecided, needs_pass}
-use Rattle.qs_tm.specs.declared.participant.Participant.{Participant}
-use Rattle.qs_node_step.specs.Bringing.{member_here}
-use Rattle.qs_node_step.specs.Deciding.{end_members}
-use Rattle.qs_node_step.specs.Settling.{is_lent, is_busy, is_pass_due}
-use Rattle.qs_node_step.specs.State.{NodeValue, Work, here, part_of}
-use Rattle.qs_node_step.specs.Voting.{owes_note, issue_note, served_count, enter_vote, vote_with, vote_frame, vote_next, due_votes, vote_pass, note_text, change_count}
-use Rattle.qs_world.specs.Openings.{is_audit}
-use Rattle.qs_world_refine.specs.Sound.{is_sound, where_so}
+use Rattle.qs_tm.specs.Participant.{with_causes_of}
 use Rattle.qs_world_refine.specs.SoundLaws.{PassRuleSound}
 use Rattle.qs_world_refine.proofs.SoundParts.{and_both, both_and}
 use Rattle.qs_world_refine.proofs.SoundHolds.{Holds, holds_step, holds_less, told_part, told_as, known_sound, is_held, held_as, is_open, open_held}
 use Rattle.qs_world_refine.proofs.SoundIssue.{issue_holds}
 use Rattle.qs_world_refine.proofs.SoundMembers.{member_sound, involve_sound}
 use Rattle.qs_world_refine.proofs.SoundNotices.{end_members_hold}
-use Rattle.qs_world_refine.proofs.SoundQueued.{either_first}
 use Rattle.qs_world_refine.proofs.SoundCount.{audit_fits}
 use Rattle.qs_world_refine.proofs.SoundViews.{PartSound, is_apart, seen}
 
@@ -75,11 +56,8 @@ module _ (tid : Tid) (server : ServerNo) (ballot : Vote) (work : Work) where
       )) (
         holds.0,
         told_as (is_counted (served_count tid server work) server) tid work.node.manager part known
-            (both_and (is_open part) (served_count tid server work == (member_of part server).served) (told_part is_open tid work.node.manager part known holds.1) (rw (counted part known) (same (member_of part server).served))),
+            (both_and (is_open part) (served_count tid server work == (member_of part server).served) (told_part is_open tid work.node.manager part known holds.1) (rw (counted part known) (eqb-self (member_of part server).served))),
       )
-    where
-      same : (n : ℕ) → (n == n) ≡ true
-      same n = grind (arith, nat_tests)
 
   pub entered_holds : Holds is_open tid work.node → Holds (is_drawn (is_binding (ballot_of ballot))) tid (enter_vote tid server ballot work).node
   entered_holds holds = by (part_of tid work) refl
@@ -109,7 +87,7 @@ prepared_sound node tid part drawn open_now s = record {
   idle = s.idle;
   began = s.began;
   logged = both_and part.involved _ drawn (both_and (where_so part.log.listed (part.engage.home && (is_some part.outcome && not (is_abort part.outcome)))) (where_so part.engage.home (is_undecided part || is_abort part.outcome))
-      listed (so_where part.engage.home (is_undecided part || is_abort part.outcome) (either_first (is_undecided part) (is_abort part.outcome) open_now)));
+      listed (so_where part.engage.home (is_undecided part || is_abort part.outcome) (or_left (is_undecided part) (is_abort part.outcome) open_now)));
   silent = s.silent;
 }
   where

@@ -1,11 +1,8 @@
 -- A transaction that has not begun, as laws.
 use Rattle.qs_tm.specs.Manager as tm
-use Rattle.qs_node_step.specs.Commands.{begin_as}
-use Rattle.qs_world.specs.World.{start}
+use Rattle.qs_world_refine.proofs.Words.{begin_as, start, sight, scene_of, sight_during, opening_seen}
 use Rattle.qs_world_agree.specs.World as machine
-use Rattle.qs_world_refine.specs.Shows.{sight, scene_of, sight_during}
 use Rattle.qs_world_refine.specs.StartLaws.{StartUnseen, StartShown, StartOpens, BeginGoes, BeginLeaves, BegunShown}
-use Rattle.qs_world_refine.specs.Starts.{opening_seen}
 use Rattle.qs_world_refine.proofs.Beginning as beginning
 use Rattle.qs_world_refine.proofs.During.{leaves_shown}
 use Rattle.qs_world_refine.proofs.Keeping.{keeps_goes, keeps_shown, nothing_goes}

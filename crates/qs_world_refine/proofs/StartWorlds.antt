@@ -1,28 +1,12 @@
 -- As a world begins, nothing is seen of a transaction of which no log has a record.
-use Rattle.std.proofs.Common.{◌≡◌, ℕ, ◌<◌, ◌≤◌, ◌==◌, ◌&&◌, ◌||◌, Bool, true, false, replicate, Option, Some, None, unwrap_or, nat_lt, nat_le, refl, ap, subst, arith, if◌then◌else◌}
-use Rattle.std.specs.Prelude.{slice_index_or}
-use Rattle.std.specs.List.{list_any}
-use Rattle.std.proofs.lemmas.Bool.{eqb-true}
-use Rattle.std.proofs.lemmas.Bool.Decides.{nat_tests}
-use Rattle.std.proofs.lemmas.List.{get_or_past, get_or-replicate, length-replicate}
-use Rattle.qs_base.specs.Order.{same_tid}
+use Rattle.qs_world_refine.proofs.Words.{◌≡◌, ℕ, ◌<◌, ◌≤◌, ◌==◌, ◌&&◌, ◌||◌, Bool, true, false, Option, Some, None, unwrap_or, nat_lt, nat_le, refl, ap, subst, arith, if◌then◌else◌, slice_index_or, list_any, eqb-true, and_parts, nat_tests, get_or_past, same_tid, Tid, no_peer, no_nodes, same_node, recovery, names_transaction, no_member, new_participant, Participant, NodeValue, IsOpening, is_setting, Opening, start, each_is, face, face_at, uncast_of, began_here, is_past_commit, loans_at, scene_of}
+use Rattle.qs_world_refine.proofs.Words.{sight, Sight, IsNewFace, SaysNothing, begins_at, IsUnseen, MayBegin}
+use Rattle.std.proofs.Common.{replicate}
+use Rattle.std.proofs.lemmas.List.{get_or-replicate, length-replicate}
 use Rattle.qs_base.specs.declared.identifiers.Outcome.TheVariants as outcomes
-use Rattle.qs_base.specs.declared.identifiers.Tid.{Tid}
-use Rattle.qs_engage.specs.Engage.{no_peer}
-use Rattle.qs_engage.specs.Nodes.{no_nodes, same_node}
-use Rattle.qs_restart.specs.Recovery.{recovery, names_transaction}
-use Rattle.qs_tm.specs.Members.{no_member}
 use Rattle.qs_tm.specs.Manager as tm
-use Rattle.qs_tm.specs.Participant.{new_participant}
-use Rattle.qs_tm.specs.declared.participant.Participant.{Participant}
-use Rattle.qs_node_step.specs.State.{NodeValue}
-use Rattle.qs_world.specs.Openings.{IsOpening, is_setting}
-use Rattle.qs_world.specs.World.{Opening, start}
-use Rattle.qs_world.proofs.Below.{each_is}
-use Rattle.qs_world_refine.specs.NodeFaces.{face, face_at, uncast_of, began_here, is_past_commit, waiting_at, loans_at}
-use Rattle.qs_world_refine.specs.Shows.{scene_of, sight}
-use Rattle.qs_world_refine.specs.Sights.{Sight}
-use Rattle.qs_world_refine.specs.Starts.{IsNewFace, SaysNothing, begins_at, IsUnseen, MayBegin, HasNoRecord}
+use Rattle.qs_world_refine.specs.NodeFaces.{waiting_at}
+use Rattle.qs_world_refine.specs.Starts.{HasNoRecord}
 use Rattle.qs_world_refine.proofs.StartLogs.{says_nothing, unknown_there}
 
 pub alike_at : {X : Type 0} (k m : ℕ) (x : X) → slice_index_or (replicate k x) m x ≡ x
@@ -74,16 +58,12 @@ module _ (tid : Tid) (o : Opening) (opens : IsOpening o) where
   abbrev x : Sight
   x = sight tid (scene_of (start o))
 
-  both : (a b : Bool) → (a && b) ≡ true → (a ≡ true) × (b ≡ true)
-  both true b is = (refl, is)
-  both false b is = absurd (cc (is))
-
   small : o.size ≤ 16
-  small = grind (arith, nat_tests, (both (nat_le 1 o.size) (nat_le o.size 16) opens.size).1)
+  small = grind (arith, nat_tests, (and_parts (nat_le 1 o.size) (nat_le o.size 16) opens.size).1)
 
   setting_node : (n : ℕ) → n < o.size → (o.settings n).node.0 ≡ n
   setting_node n in_run = let is : is_setting o.size n (o.settings n) ≡ true = each_is o.size (λ n. is_setting o.size n (o.settings n)) opens.settings n in_run in
-      eqb-true (o.settings n).node.0 n (both ((o.settings n).node.0 == n) ((o.settings n).nodes == o.size) (both (((o.settings n).node.0 == n) && ((o.settings n).nodes == o.size)) _ is).0).0
+      eqb-true (o.settings n).node.0 n (and_parts ((o.settings n).node.0 == n) ((o.settings n).nodes == o.size) (and_parts (((o.settings n).node.0 == n) && ((o.settings n).nodes == o.size)) _ is).0).0
 
   module _ (numbered : names_transaction tid ≡ true) (home_in : tid.home.0 < o.size) (clear : HasNoRecord tid o) where
     says : (n : ℕ) → n < o.size → SaysNothing tid (recovery (o.logs n))

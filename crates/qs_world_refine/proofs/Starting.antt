@@ -1,22 +1,13 @@
 -- Where nothing is seen of a transaction, the agreement machine at its start shows it.
-use Rattle.std.proofs.Common.{◌≡◌, ℕ, ◌+◌, ◌*◌, ◌<◌, ◌≤◌, ◌==◌, ◌&&◌, Bool, true, false, List, [], refl, sym, ap, subst, ◌∙◌, arith, if◌then◌else◌}
-use Rattle.std.specs.Prelude.{nat_lt, ◌%◌}
-use Rattle.std.proofs.lemmas.Bool.{eqb-true}
-use Rattle.std.proofs.lemmas.Bool.Decides.{nat_tests}
+use Rattle.qs_world_refine.proofs.Words.{◌≡◌, ℕ, ◌+◌, ◌*◌, ◌<◌, ◌≤◌, ◌==◌, ◌&&◌, Bool, true, false, List, [], refl, sym, ap, subst, ◌∙◌, arith, if◌then◌else◌, nat_lt, eqb-true, and_right, nat_tests, Tid, names_transaction, lawful, IsLawful, ShowsFace, Said, IsLink, link, waiting_link, place, known_place, Sight, ShowsSight, ShowsLog, ShowsStage, IsNewFace, SaysNothing, begins_at, IsUnseen, opening_seen, MayBegin, and_last}
+use Rattle.std.specs.Prelude.{◌%◌}
 use Rattle.std.proofs.lemmas.Nat.{mod_low}
-use Rattle.qs_base.specs.declared.identifiers.Tid.{Tid}
-use Rattle.qs_restart.specs.Recovery.{names_transaction}
-use Rattle.qs_world_agree.proofs.Carries.{lawful}
-use Rattle.qs_world_agree.specs.Carry.{IsLawful}
 use Rattle.qs_world_agree.specs.Origins.{Begun}
 use Rattle.qs_world_agree.specs.World as machine
 use Rattle.qs_world_agree.specs.World.{World}
-use Rattle.qs_world_refine.specs.Faces.{ShowsFace}
-use Rattle.qs_world_refine.specs.Links.{Said, IsLink, link, waiting_link}
-use Rattle.qs_world_refine.specs.Places.{place, known_place, home_place}
+use Rattle.qs_world_refine.specs.Places.{home_place}
 use Rattle.qs_world_refine.specs.RiseLaws.{StartPlaced}
-use Rattle.qs_world_refine.specs.Sights.{Sight, ShowsSight, ShowsLog, ShowsStage}
-use Rattle.qs_world_refine.specs.Starts.{IsNewFace, SaysNothing, begins_at, IsUnseen, node_of, opening_seen, MayBegin}
+use Rattle.qs_world_refine.specs.Starts.{node_of}
 
 pub node_place : (n i : ℕ) → n < 256 → node_of (place n i) ≡ n
 node_place n i below = ap (λ (k : ℕ). (k + n) % 256) (swapped i) ∙ mod_low i 8 n below
@@ -65,15 +56,11 @@ pub record IsStaged (tid : Tid) (x : Sight) : Type 0 where
 
 pub staged : (tid : Tid) (x : Sight) → x.size ≤ 16 → ((n m : ℕ) → x.knows n m ≤ x.inc m) → IsStaged tid x
 staged tid x small known = record {
-  up_present = λ p up. sym (eqb-true p (place (node_of p) (x.inc (node_of p))) (second (x.up (node_of p)) (p == place (node_of p) (x.inc (node_of p))) up));
+  up_present = λ p up. sym (eqb-true p (place (node_of p) (x.inc (node_of p))) (and_last (x.up (node_of p)) (p == place (node_of p) (x.inc (node_of p))) up));
   peer_node = λ p m some. by_node p m (is_asked p m) refl some;
   peer_present = λ p m. by_present p m (is_asked p m);
 }
   where
-    second : (a b : Bool) → (a && b) ≡ true → b ≡ true
-    second true b is = is
-    second false b is = absurd (cc (is))
-
     -- the place is its node's present one, and the other a node of the run
     is_asked : ℕ → ℕ → Bool
     is_asked p m = (p == place (node_of p) (x.inc (node_of p))) && nat_lt m x.size
@@ -83,7 +70,7 @@ staged tid x small known = record {
       where
         place_known : (b : Bool) → 1 ≤ (if b then 0 else place m (x.knows (node_of p) m)) → node_of (if b then 0 else place m (x.knows (node_of p) m)) ≡ m
         place_known true some = absurd (omega (arith, some))
-        place_known false some = node_place m (x.knows (node_of p) m) (below tid x small m (grind (arith, nat_tests, second (p == place (node_of p) (x.inc (node_of p))) (nat_lt m x.size) in_run)))
+        place_known false some = node_place m (x.knows (node_of p) m) (below tid x small m (grind (arith, nat_tests, and_last (p == place (node_of p) (x.inc (node_of p))) (nat_lt m x.size) in_run)))
     by_node p m false past some = absurd (omega (arith, some))
 
     by_present : (p m : ℕ) (b : Bool) → (if b then known_place m (x.knows (node_of p) m) else 0) ≤ place m (x.inc m)
@@ -172,17 +159,13 @@ begins_lawful tid x may = lawful (machine.start (opening_seen tid x)) (record { 
 pub start_placed : StartPlaced
 start_placed tid x may begun q m = record {
   stranger = λ late. apart (q == place (node_of q) (x.inc (node_of q))) (grind (arith, nat_tests, late)) (nat_lt m x.size) (known_place m (x.knows (node_of q) m));
-  none_up = nowhere (x.up 0) (0 == place 0 (x.inc 0)) (no_place (x.inc 0) (begun 0 (grind (arith, nat_tests, may.home_in))));
+  none_up = and_right (x.up 0) (0 == place 0 (x.inc 0)) (no_place (x.inc 0) (begun 0 (grind (arith, nat_tests, may.home_in))));
   none_posted = refl;
   engager = λ on away. absurd (away (eqb-true q (home_place tid) on));
 }
   where
     apart : (a : Bool) → a ≡ false → (b : Bool) (k : ℕ) → (if a && b then k else 0) ≡ 0
     apart a is b k = rw is refl
-
-    nowhere : (a b : Bool) → b ≡ false → (a && b) ≡ false
-    nowhere true b is = is
-    nowhere false b is = refl
 
     no_place : (i : ℕ) → 1 ≤ i → (0 == place 0 i) ≡ false
     no_place i some = grind (arith, nat_tests, some)

@@ -1,38 +1,15 @@
 -- A step of a node of a steady world begins: what comes there may come.
-use Rattle.std.proofs.Common.{◌≡◌, inl, inr, ℕ, ◌≤◌, ◌<◌, ◌==◌, ◌&&◌, ◌||◌, not, Bool, true, false, List, [], ◌∷◌, Option, Some, None, is_some, refl, sym, subst, arith, nat_lt}
-use Rattle.std.proofs.lemmas.Bool.Decides.{nat_tests}
-use Rattle.std.specs.Prelude.{◌⊎◌, ⊤}
-use Rattle.std.specs.List.{list_all}
-use Rattle.std.specs.BTreeMap.{is_at}
-use Rattle.std.specs.Map.{lookup}
-use Rattle.qs_base.specs.Order.{tid_cmp}
-use Rattle.qs_base.specs.declared.identifiers.NodeNo.{NodeNo}
+use Rattle.qs_world_refine.proofs.Words.{◌≡◌, inl, inr, ℕ, ◌≤◌, ◌<◌, ◌==◌, ◌&&◌, ◌||◌, not, Bool, true, false, List, [], ◌∷◌, Option, Some, None, is_some, refl, sym, subst, arith, nat_lt, nat_tests, ◌⊎◌, list_all, is_at, lookup, tid_cmp, NodeNo, Tid, same_node, Command, Message, names_transaction, was_committed, Work, work_on, Setting, is_abort, Participant, fits, may_command, is_drawn, node_no, began_here, BeginsNew, in_order, where_so, is_past, keeps_commits, is_kept_part, goes_in_run}
+use Rattle.qs_world_refine.proofs.Words.{may_take_up, kept_before, is_loan_before, is_label_before, MayHappen, FitsMessage, begun, stage_of, IsSteadyHost, IsSteadyWorld, MachineGives, Stage, IsStage, IsTidyNode, IsTidy, is_tidy_label, is_tidy_loan, is_tidy_command}
+use Rattle.std.specs.Prelude.{⊤}
 use Rattle.qs_base.specs.declared.identifiers.Outcome.{Outcome}
 use Rattle.qs_base.specs.declared.identifiers.Outcome.TheVariants as outcomes
-use Rattle.qs_base.specs.declared.identifiers.Tid.{Tid}
-use Rattle.qs_engage.specs.Nodes.{same_node}
-use Rattle.qs_book_journal.specs.declared.script_line.Command.{Command}
 use Rattle.qs_book_journal.specs.declared.script_line.Command.TheVariants as commands
-use Rattle.qs_packet.specs.declared.message.Message.{Message}
 use Rattle.qs_packet.specs.declared.message.Message.TheVariants as messages
-use Rattle.qs_restart.specs.Recovery.{names_transaction}
-use Rattle.qs_node_step.specs.Answering.{was_committed}
-use Rattle.qs_node_step.specs.State.{Work, work_on}
 use Rattle.qs_node_step.specs.declared.event.Event.{Event}
 use Rattle.qs_node_step.specs.declared.event.Event.TheVariants as events
-use Rattle.qs_node_step.specs.declared.setting.Setting.{Setting}
 use Rattle.qs_tm.specs.Manager as tm
-use Rattle.qs_tm.specs.Outcomes.{is_abort}
-use Rattle.qs_tm.specs.declared.participant.Participant.{Participant}
 use Rattle.qs_world.specs.World.{World}
-use Rattle.qs_world_refine.specs.Begun.{fits, may_command, is_drawn}
-use Rattle.qs_world_refine.specs.Links.{node_no}
-use Rattle.qs_world_refine.specs.NodeFaces.{began_here}
-use Rattle.qs_world_refine.specs.SaidLaws.{BeginsNew}
-use Rattle.qs_world_refine.specs.Sound.{in_order, where_so, is_past, keeps_commits, is_kept_part, goes_in_run, may_take_up, kept_before, is_loan_before, is_label_before}
-use Rattle.qs_world_refine.specs.SoundSteps.{MayHappen, FitsMessage, begun}
-use Rattle.qs_world_refine.specs.Steadies.{stage_of, IsSteadyHost, IsSteadyWorld, MachineGives}
-use Rattle.qs_world_refine.specs.Tidy.{Stage, IsStage, IsTidyNode, IsTidy, is_tidy_label, is_tidy_loan, is_tidy_command}
 use Rattle.qs_world_refine.proofs.Forgetting.{none_behind}
 use Rattle.qs_world_refine.proofs.SoundCount.{all_at}
 use Rattle.qs_world_refine.proofs.SoundParts.{and_both, both_and}

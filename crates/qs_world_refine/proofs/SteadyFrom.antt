@@ -1,39 +1,19 @@
 -- A world that is steady, with each Commit of its logs listed at its node, has all that the law of each move asks of its nodes, logs and channels.
-use Rattle.std.proofs.Common.{◌≡◌, ℕ, ◌+◌, ◌≤◌, ◌<◌, ◌==◌, ◌&&◌, ◌||◌, not, nat_lt, nat_le, Bool, true, false, [], ◌∷◌, ◌++◌, Option, Some, None, refl, ap, subst, ◌∙◌, arith, if◌then◌else◌}
-use Rattle.std.specs.List.{list_all, list_any}
-use Rattle.std.proofs.lemmas.Bool.{eqb-true}
-use Rattle.std.proofs.lemmas.Bool.Decides.{nat_tests}
-use Rattle.qs_base.specs.Order.{same_tid}
+use Rattle.qs_world_refine.proofs.Words.{◌≡◌, ℕ, ◌+◌, ◌≤◌, ◌<◌, ◌==◌, ◌&&◌, ◌||◌, not, nat_lt, nat_le, Bool, true, false, [], ◌∷◌, ◌++◌, Option, Some, None, refl, ap, subst, ◌∙◌, arith, if◌then◌else◌, list_all, list_any, eqb-true, nat_tests, same_tid, ServerNo, Tid, peer_of, no_peer, same_node, Nodes, IpcValue, queue_at, QueueValue, count_of, is_for, Message, recovery, names_transaction, was_committed, NodeValue, Participant, Parcel, inc_in, count_in, may_be_known, is_drawn, fits, names_node}
+use Rattle.qs_world_refine.proofs.Words.{node_no, AreListed, last_list, tell_of_part, began_here, is_past_commit, list_of, server_no, same_flag, IsSteadyWorld, is_steady_line, is_steady_parcel, are_two, stage_of, IsSteady, HasBegun, are_queues_apart, is_fit_message, are_servers_apart, is_settled, not_never}
 use Rattle.qs_base.specs.declared.identifiers.Outcome.{Outcome}
 use Rattle.qs_base.specs.declared.identifiers.Outcome.TheVariants as outcomes
-use Rattle.qs_base.specs.declared.identifiers.ServerNo.{ServerNo}
-use Rattle.qs_base.specs.declared.identifiers.Tid.{Tid}
-use Rattle.qs_engage.specs.Engage.{peer_of, no_peer}
-use Rattle.qs_engage.specs.Nodes.{same_node, has_node}
+use Rattle.qs_engage.specs.Nodes.{has_node}
 use Rattle.qs_engage.specs.declared.engage.Engage.{Engage}
-use Rattle.qs_engage.specs.declared.nodes.Nodes.{Nodes}
-use Rattle.qs_ipc.specs.Ipc.{IpcValue, queue_at}
-use Rattle.qs_ipc.specs.Queue.{QueueValue, count_of, is_for}
-use Rattle.qs_packet.specs.declared.message.Message.{Message}
 use Rattle.qs_packet.specs.declared.message.Message.TheVariants as messages
-use Rattle.qs_restart.specs.Recovery.{recovery, names_transaction}
-use Rattle.qs_node_step.specs.Answering.{was_committed}
-use Rattle.qs_node_step.specs.State.{NodeValue}
 use Rattle.qs_tm.specs.Manager as tm
-use Rattle.qs_tm.specs.declared.participant.Participant.{Participant}
-use Rattle.qs_world.specs.World.{Parcel, World}
-use Rattle.qs_world_refine.specs.Begun.{inc_in, count_in, has_begun, may_be_known, is_drawn, fits}
-use Rattle.qs_world_refine.specs.Links.{names_node, node_no}
+use Rattle.qs_world.specs.World.{World}
+use Rattle.qs_world_refine.specs.Begun.{has_begun}
 use Rattle.qs_world_refine.specs.Listed.{IsListedWorld, SteadyGives}
-use Rattle.qs_world_refine.specs.Lists.{AreListed, last_list, tell_of_part}
-use Rattle.qs_world_refine.specs.NodeFaces.{began_here, is_past_commit}
-use Rattle.qs_world_refine.specs.Sights.{list_of, server_no}
-use Rattle.qs_world_refine.specs.Sound.{same_flag}
-use Rattle.qs_world_refine.specs.Steadies.{IsSteadyWorld, IsTaken, is_steady_line, is_steady_parcel, are_two, stage_of}
-use Rattle.qs_world_refine.specs.Steady.{IsSteady, IsSteadyNode, IsEarly, HasBegun, are_queues_apart, is_of_run, is_node_of_run, is_fit_message, is_fit_parcel, is_line_in_run}
+use Rattle.qs_world_refine.specs.Steadies.{IsTaken}
+use Rattle.qs_world_refine.specs.Steady.{IsSteadyNode, IsEarly, is_of_run, is_node_of_run, is_fit_parcel, is_line_in_run}
 use Rattle.qs_world_refine.specs.Steady as steady_specs
 use Rattle.qs_world_refine.specs.SteadyFacts.{NodeFacts}
-use Rattle.qs_world_refine.specs.Tidy.{are_servers_apart, is_settled}
 use Rattle.qs_world_refine.specs.Tidy as tidy_specs
 use Rattle.qs_world_refine.proofs.StartWorlds.{alike_at}
 use Rattle.qs_world_refine.proofs.NodeLists.{joined_below}
@@ -202,11 +182,7 @@ module _ (world : World) (steady : IsSteadyWorld world) (listed : IsListedWorld 
   }
     where
       other : (n m : ℕ) → not (n == m) ≡ true → m ≡ n → ⊥
-      other n m is same = by (n == m) is (grind (arith, nat_tests, same))
-        where
-          by : (b : Bool) → not b ≡ true → b ≡ true → ⊥
-          by true off on = cc (off)
-          by false off on = cc (on)
+      other n m is same = not_never (n == m) is (grind (arith, nat_tests, same))
 
 pub steady_gives : SteadyGives
 steady_gives world steady listed = steady_from world steady listed

@@ -1,32 +1,13 @@
 -- A world that is steady gives what is said of its nodes, and of a transaction that has not begun.
-use Rattle.std.proofs.Common.{ap, ◌≡◌, ◌≤◌, ◌&&◌, ◌||◌, not, Bool, true, false, List, [], ◌∷◌, Option, Some, None, is_some, refl, sym, subst, arith, nat_lt}
-use Rattle.std.proofs.lemmas.Bool.Decides.{nat_tests}
-use Rattle.std.specs.List.{list_all, list_any}
-use Rattle.qs_base.specs.Order.{same_tid}
-use Rattle.qs_base.specs.declared.identifiers.NodeNo.{NodeNo}
+use Rattle.qs_world_refine.proofs.Words.{ap, ◌≡◌, ◌≤◌, ◌&&◌, ◌||◌, not, Bool, true, false, List, [], ◌∷◌, Option, Some, None, is_some, refl, sym, subst, arith, nat_lt, nat_tests, list_all, list_any, same_tid, NodeNo, Tid, same_node, QueueValue, is_outcome_of, Decided, is_standing_loan, Prepared, recovery, names_transaction, is_untold_of, kept_outcome, was_committed, is_kept_commit, NodeValue, is_abort, Participant, may_be_known, node_no, began_here, where_so, same_flag, is_kept_part, stage_of}
+use Rattle.qs_world_refine.proofs.Words.{Stage, IsTidyNode, is_tidy_superior, is_tidy_loan, is_tidy_outcome, is_begun_delivery, is_begun_queue, or_from}
 use Rattle.qs_base.specs.declared.identifiers.Outcome.{Outcome}
 use Rattle.qs_base.specs.declared.identifiers.Outcome.TheVariants as outcomes
-use Rattle.qs_base.specs.declared.identifiers.Tid.{Tid}
-use Rattle.qs_engage.specs.Nodes.{same_node}
 use Rattle.qs_ipc.specs.Ipc as ipc
 use Rattle.qs_ipc.specs.Queue as queue
-use Rattle.qs_ipc.specs.Queue.{QueueValue}
-use Rattle.qs_node_kept.specs.Keeping.{is_outcome_of}
-use Rattle.qs_node_kept.specs.declared.kept.Decided.{Decided}
-use Rattle.qs_node_kept.specs.Loans.{is_standing_loan}
-use Rattle.qs_restart.specs.Recovery.{Prepared, recovery, names_transaction, is_of, is_untold_of}
-use Rattle.qs_node_step.specs.Answering.{kept_outcome, was_committed, is_kept_commit}
-use Rattle.qs_node_step.specs.State.{NodeValue}
+use Rattle.qs_restart.specs.Recovery.{is_of}
 use Rattle.qs_tm.specs.Manager as tm
-use Rattle.qs_tm.specs.Outcomes.{is_abort}
-use Rattle.qs_tm.specs.declared.participant.Participant.{Participant}
-use Rattle.qs_world_refine.specs.Begun.{may_be_known}
-use Rattle.qs_world_refine.specs.Links.{node_no}
-use Rattle.qs_world_refine.specs.NodeFaces.{began_here}
-use Rattle.qs_world_refine.specs.Sound.{where_so, same_flag, is_kept_part}
-use Rattle.qs_world_refine.specs.Steadies.{stage_of}
 use Rattle.qs_world_refine.specs.SteadyFacts.{SteadyNodeFacts, SteadySuperior, SteadyTakenUp, UnbegunUnknown}
-use Rattle.qs_world_refine.specs.Tidy.{Stage, IsTidyNode, is_tidy_superior, is_tidy_loan, is_tidy_outcome, is_begun_delivery, is_begun_queue}
 use Rattle.qs_world_refine.proofs.Entries.{none_found}
 use Rattle.qs_world_refine.proofs.SaidTidy.{IsSaidTidy, log_tidy, all_parted, is_fit_vote, is_fit_commit, may_name}
 use Rattle.qs_world_refine.proofs.SoundKnown.{same_is}
@@ -108,7 +89,7 @@ node_facts world n steady low up = record {
   commits = all_known (is_kept_part node) node.manager.known tidy.ordered (λ t part known. kept t part known (began_here node t) refl part.outcome refl);
   queues = tidy.apart;
   unknown = unknown_of c node tidy (tm.next_tid node.manager) new;
-  fresh = neither_of (is_kept_commit (kept_outcome (tm.next_tid node.manager) node)) (list_any (same_tid (tm.next_tid node.manager)) node.committed)
+  fresh = or_from (is_kept_commit (kept_outcome (tm.next_tid node.manager) node)) (list_any (same_tid (tm.next_tid node.manager)) node.committed)
       (ap (λ (o : Option Decided). is_kept_commit o) (none_found (is_outcome_of (tm.next_tid node.manager)) (is_tidy_outcome c) (λ d its. other (tm.next_tid node.manager) c.past new d.tid (and_both (c.past d.tid) _ its).0) node.kept.now.outcomes tidy.outcomes))
       (none_any (same_tid (tm.next_tid node.manager)) c.past (λ t its. other (tm.next_tid node.manager) c.past new t its) node.committed tidy.committed);
   past = λ t here names number. past (tm.knows t node.manager) (was_committed t node) (began_here node t) (tidy.crossed.pasts t here names number);
@@ -125,9 +106,6 @@ node_facts world n steady low up = record {
 
     new : c.past (tm.next_tid node.manager) ≡ false
     new = fresh_next c (stage_is world n low up steady.seated) node tidy
-
-    neither_of : (a b : Bool) → a ≡ false → b ≡ false → (a || b) ≡ false
-    neither_of a b x y = rw (x, y) refl
 
     kept : (t : Tid) (part : Participant) → tm.part_of t node.manager ≡ Some part → (b : Bool) → began_here node t ≡ b → (o : Option Outcome) → part.outcome ≡ o → where_so (b && (is_some o && not (is_abort o))) (was_committed t node) ≡ true
     kept t part known true here (Some outcomes.Commit) is = tidy.crossed.commits t part known here is

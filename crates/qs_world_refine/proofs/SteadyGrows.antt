@@ -1,21 +1,9 @@
 -- What has begun has begun for good, so that what was said of a world is so of a later one.
-use Rattle.std.proofs.Common.{◌≡◌, inl, inr, ℕ, ◌≤◌, ◌<◌, ◌==◌, ◌&&◌, ◌||◌, not, Bool, true, false, List, ◌++◌, refl, sym, subst, ◌∙◌, arith, nat_lt, nat_le}
-use Rattle.std.proofs.lemmas.Bool.Decides.{nat_tests}
-use Rattle.std.specs.Prelude.{◌⊎◌}
-use Rattle.std.specs.List.{list_all}
-use Rattle.qs_base.specs.declared.identifiers.NodeNo.{NodeNo}
-use Rattle.qs_base.specs.declared.identifiers.Tid.{Tid}
+use Rattle.qs_world_refine.proofs.Words.{◌≡◌, inl, inr, ℕ, ◌≤◌, ◌<◌, ◌==◌, ◌&&◌, ◌||◌, not, Bool, true, false, List, ◌++◌, refl, sym, subst, ◌∙◌, arith, nat_lt, nat_le, nat_tests, ◌⊎◌, list_all, NodeNo, Tid, same_node, Record, names_transaction, Host, Parcel, begun_among, past_among, inc_in, count_in, may_be_known, fits, fits_record, is_list_at, node_no, IsSeated, stage_with, stage_of, is_steady_record, is_steady_parcel, are_two, IsSteadyHost, Stage, IsStage, is_tidy_record, or_right, implied}
 use Rattle.qs_session_channels.specs.Network.{with_at}
-use Rattle.qs_engage.specs.Nodes.{same_node}
-use Rattle.qs_record.specs.declared.record.Record.{Record}
 use Rattle.qs_record.specs.declared.record.Record.TheVariants as records
-use Rattle.qs_restart.specs.Recovery.{names_transaction}
-use Rattle.qs_world.specs.World.{Host, Parcel, World}
-use Rattle.qs_world_refine.specs.Begun.{begun_among, past_among, inc_in, count_in, has_begun, may_be_known, fits, fits_record, is_list_at}
-use Rattle.qs_world_refine.specs.Links.{node_no}
-use Rattle.qs_world_refine.specs.MoveLaws.{IsSeated}
-use Rattle.qs_world_refine.specs.Steadies.{stage_with, stage_of, is_steady_record, is_steady_parcel, are_two, IsSteadyHost}
-use Rattle.qs_world_refine.specs.Tidy.{Stage, IsStage, is_tidy_record}
+use Rattle.qs_world.specs.World.{World}
+use Rattle.qs_world_refine.specs.Begun.{has_begun}
 use Rattle.qs_world_refine.proofs.SoundBegin.{all_implied}
 use Rattle.qs_world_refine.proofs.SoundParts.{and_both, both_and}
 use Rattle.qs_world_refine.proofs.TidyBegins.{Widens, fits_wide, node_wide, record_wide}
@@ -49,26 +37,18 @@ module _ (size : ℕ) (inc count : ℕ → ℕ) where
   pub begun_past : (tid : Tid) → begun_among size inc count tid ≡ true → (past_among size inc count tid ≡ true) × (nat_lt tid.home.0 size ≡ true)
   begun_past tid is =
       let both : (names_transaction tid ≡ true) × ((nat_lt tid.home.0 size && (nat_lt tid.inc (inc tid.home.0) || ((tid.inc == inc tid.home.0) && nat_le tid.seq (count tid.home.0)))) ≡ true) = and_both (names_transaction tid) _ is in
-      (both_and (names_transaction tid) _ both.0 (or_last (not (nat_lt tid.home.0 size)) (begun_among size inc count tid) is), (and_both (nat_lt tid.home.0 size) _ both.1).0)
-    where
-      or_last : (a b : Bool) → b ≡ true → (a || b) ≡ true
-      or_last true b is = refl
-      or_last false b is = is
+      (both_and (names_transaction tid) _ both.0 (or_right (not (nat_lt tid.home.0 size)) (begun_among size inc count tid) is), (and_both (nat_lt tid.home.0 size) _ both.1).0)
 
   pub own_past : (n : ℕ) (tid : Tid) → n < size → past_among size inc count tid ≡ true → (tid.home.0 == n) ≡ true → (names_transaction tid ≡ true) × ((tid.inc < inc n) ⊎ ((tid.inc ≡ inc n) × (tid.seq ≤ count n)))
   own_past n tid low is home =
       let both : (names_transaction tid ≡ true) × ((not (nat_lt tid.home.0 size) || begun_among size inc count tid) ≡ true) = and_both (names_transaction tid) _ is in
-      (both.0, given (began (nat_lt tid.home.0 size) (begun_among size inc count tid) in_run both.1))
+      (both.0, given (implied (nat_lt tid.home.0 size) (begun_among size inc count tid) in_run both.1))
     where
       at : tid.home.0 ≡ n
       at = grind (arith, nat_tests, home)
 
       in_run : nat_lt tid.home.0 size ≡ true
       in_run = grind (arith, nat_tests, at, low)
-
-      began : (a b : Bool) → a ≡ true → (not a || b) ≡ true → b ≡ true
-      began true b so is = is
-      began false b so is = absurd (cc (so))
 
       split : (i k s m : ℕ) → (nat_lt i k || ((i == k) && nat_le s m)) ≡ true → (i < k) ⊎ ((i ≡ k) × (s ≤ m))
       split i k s m is = by (nat_lt i k) refl
@@ -151,18 +131,14 @@ record_on past more grow me rec is = by rec is
 pub record_steady : (past : Tid → Bool) (me : NodeNo) (rec : Record) → fits_record past me rec ≡ true → is_steady_record past me rec ≡ true
 record_steady past me rec is = by rec is
   where
-    or_last : (a b : Bool) → b ≡ true → (a || b) ≡ true
-    or_last true b is = refl
-    or_last false b is = is
-
     first : (tid : Tid) (b : Bool) → (past tid && b) ≡ true → ((not (names_transaction tid) || past tid) && b) ≡ true
-    first tid b its = let both : (past tid ≡ true) × (b ≡ true) = and_both (past tid) b its in both_and (not (names_transaction tid) || past tid) b (or_last (not (names_transaction tid)) (past tid) both.0) both.1
+    first tid b its = let both : (past tid ≡ true) × (b ≡ true) = and_both (past tid) b its in both_and (not (names_transaction tid) || past tid) b (or_right (not (names_transaction tid)) (past tid) both.0) both.1
 
     by : (rec : Record) → fits_record past me rec ≡ true → is_steady_record past me rec ≡ true
     by (records.Prepare tid server covers changes) its = first tid _ its
     by (records.Commit tid told) its = first tid (is_list_at me tid told) its
-    by (records.Aborted tid) its = or_last (not (names_transaction tid)) (past tid) its
-    by (records.End tid) its = or_last (not (names_transaction tid)) (past tid) its
+    by (records.Aborted tid) its = or_right (not (names_transaction tid)) (past tid) its
+    by (records.End tid) its = or_right (not (names_transaction tid)) (past tid) its
 
 -- ---- a host that stays
 

@@ -1,30 +1,16 @@
 -- A move that may be made of a world that is steady may be made of its nodes too.
-use Rattle.std.proofs.Common.{◌≡◌, inl, inr, ℕ, ◌+◌, ◌≤◌, ◌<◌, ◌==◌, ◌&&◌, ◌||◌, not, Bool, true, false, List, [], ◌∷◌, length, Option, Some, None, is_some, refl, sym, subst, arith, nat_lt, nat_le, if◌then◌else◌}
-use Rattle.std.proofs.lemmas.Bool.Decides.{nat_tests}
-use Rattle.std.specs.Prelude.{◌⊎◌, zero, suc}
-use Rattle.std.specs.List.{list_all, slice_get}
-use Rattle.qs_base.specs.declared.identifiers.NodeNo.{NodeNo}
-use Rattle.qs_base.specs.declared.identifiers.Tid.{Tid}
-use Rattle.qs_engage.specs.Nodes.{same_node}
-use Rattle.qs_book_journal.specs.declared.script_line.Command.{Command}
+use Rattle.qs_world_refine.proofs.Words.{◌≡◌, inl, inr, ℕ, ◌+◌, ◌≤◌, ◌<◌, ◌==◌, ◌&&◌, ◌||◌, not, Bool, true, false, List, [], ◌∷◌, length, Option, Some, None, is_some, refl, sym, subst, arith, nat_lt, nat_le, if◌then◌else◌, nat_tests, ◌⊎◌, zero, suc, list_all, NodeNo, Tid, same_node, Command, ScriptLine, Lent, recovery, names_transaction, Source, Commanded, Handed, Queues, Clock, Noticed, Move, Cut, Stop, Rise, client_count, event_of, command_of, is_later, is_in_order, may_move, next_parcel}
+use Rattle.qs_world_refine.proofs.Words.{Parcel, known_of, inc_in, count_in, fits, may_command, node_no, BeginsNewAt, MayMoveOver, where_so, goes_in_run, may_take_up, kept_before, is_loan_before, is_label_before, begun, is_open_in_run, commands_in_run, stage_of, IsSteadyHost, IsSteadyWorld, GivesAt, is_steady_parcel, is_steady_line, are_two, Stage, is_tidy_label, is_tidy_loan, is_tidy_command, not-true}
+use Rattle.std.specs.List.{slice_get}
 use Rattle.qs_book_journal.specs.declared.script_line.Command.TheVariants as commands
-use Rattle.qs_book_journal.specs.declared.script_line.ScriptLine.{ScriptLine}
 use Rattle.qs_node_kept.specs.declared.kept.KeptLabel.{KeptLabel}
-use Rattle.qs_node_kept.specs.declared.kept.Lent.{Lent}
-use Rattle.qs_restart.specs.Recovery.{recovery, names_transaction}
 use Rattle.qs_node_step.specs.declared.event.Event.{Event}
 use Rattle.qs_node_step.specs.declared.event.Event.TheVariants as events
-use Rattle.qs_world.specs.Moves.{Source, Commanded, Handed, Queues, Clock, Noticed, Move, Step, Cut, Stop, Rise, Meet, client_count, event_of, command_of, command_from, message_from, notice_of, has_begun as has_risen, is_later, is_in_order, may_move}
-use Rattle.qs_world.specs.Posting.{next_parcel, next_line}
-use Rattle.qs_world.specs.World.{Parcel, World, known_of}
-use Rattle.qs_world_refine.specs.Begun.{inc_in, count_in, fits, may_command}
-use Rattle.qs_world_refine.specs.Links.{node_no}
-use Rattle.qs_world_refine.specs.SaidLaws.{BeginsNewAt, MayMoveOver}
-use Rattle.qs_world_refine.specs.Sound.{where_so, goes_in_run, may_take_up, kept_before, is_loan_before, is_label_before}
-use Rattle.qs_world_refine.specs.SoundSteps.{begun, is_open_in_run, commands_in_run}
+use Rattle.qs_world.specs.Moves.{Step, Meet, command_from, message_from, notice_of, has_begun as has_risen}
+use Rattle.qs_world.specs.Posting.{next_line}
+use Rattle.qs_world.specs.World.{World}
 use Rattle.qs_world_refine.specs.OpenLaws.{MayCome, MayComeAt}
-use Rattle.qs_world_refine.specs.Steadies.{stage_of, IsSteadyHost, IsSteadyWorld, GivesAt, SteadyMay, is_steady_parcel, is_steady_line, are_two}
-use Rattle.qs_world_refine.specs.Tidy.{Stage, is_tidy_label, is_tidy_loan, is_tidy_command}
+use Rattle.qs_world_refine.specs.Steadies.{SteadyMay}
 use Rattle.qs_world_refine.proofs.OpenMoves.{move_may}
 use Rattle.qs_world_refine.proofs.SaidTidy.{log_tidy, takes_up, all_parted}
 use Rattle.qs_world_refine.proofs.SoundBegin.{all_implied}
@@ -71,11 +57,7 @@ module _ (world : World) (steady : IsSteadyWorld world) (n free : ℕ) (low : n 
       by false lower b o next is = absurd (cc (is))
 
   apart_of : (m : ℕ) → not (m == n) ≡ true → same_node (node_no m) c.setting.node ≡ false
-  apart_of m is = subst (λ (p : NodeNo). same_node (node_no m) p ≡ false) (sym node_place) (off (m == n) is)
-    where
-      off : (b : Bool) → not b ≡ true → b ≡ false
-      off true is = absurd (cc (is))
-      off false is = refl
+  apart_of m is = subst (λ (p : NodeNo). same_node (node_no m) p ≡ false) (sym node_place) (not-true (m == n) is)
 
   message_fits : (stamp m : ℕ) (event : Event) → message_from world n stamp m ≡ Some event → Fit event
   message_fits stamp m event is = by (next_parcel world n m) refl is
@@ -222,15 +204,11 @@ steady_may world (Cut n stamp free source is_kept cause) may gives steady = (tt,
 steady_may world (Stop n stamp cause) may gives steady = (tt, tt)
 steady_may world (Rise n stamp inc) may gives steady = (rises_may world steady n low down inc later, (steady.nodes n low).unended)
   where
-    off : (b : Bool) → not b ≡ true → b ≡ false
-    off true is = absurd (cc (is))
-    off false is = refl
-
     rest : (not (world.channels.up n) ≡ true) × ((is_in_order world n stamp && nat_lt (world.channels.inc n) inc) ≡ true)
     rest = and_both (not (world.channels.up n)) _ may
 
     down : world.channels.up n ≡ false
-    down = off (world.channels.up n) rest.0
+    down = not-true (world.channels.up n) rest.0
 
     low : n < world.size
     low = let it : nat_lt n world.size ≡ true = (and_both (nat_lt n world.size) _ (and_both (nat_lt n world.size && nat_lt stamp Rattle.qs_world.specs.Moves.stamp_limit) _ (and_both (is_in_order world n stamp) _ rest.1).0).0).0 in grind (arith, nat_tests, it)

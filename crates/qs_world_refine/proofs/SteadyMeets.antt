@@ -1,17 +1,11 @@
 -- So it is after a first meeting.
-use Rattle.std.proofs.Common.{◌≡◌, inr, ℕ, ◌≤◌, ◌<◌, ◌==◌, not, Bool, true, false, List, [], ◌++◌, refl, sym, ap, subst, arith, nat_lt, if◌then◌else◌}
-use Rattle.std.proofs.lemmas.Bool.Decides.{nat_tests}
-use Rattle.std.specs.List.{list_all}
+use Rattle.qs_world_refine.proofs.Words.{◌≡◌, inr, ℕ, ◌≤◌, ◌<◌, ◌==◌, not, Bool, true, false, List, [], ◌++◌, refl, sym, ap, subst, arith, nat_lt, if◌then◌else◌, nat_tests, list_all, Parcel, IsSeated, AreSoundOver, stage_with, stage_of, IsSteadyHost, IsSteadyWorld, is_steady_parcel, are_two, eqb-true}
 use Rattle.qs_session_channels.specs.Network.{with_at2}
 use Rattle.qs_world.specs.Moves.{met}
-use Rattle.qs_world.specs.World.{Parcel, World}
-use Rattle.qs_world_refine.specs.MoveLaws.{IsSeated}
-use Rattle.qs_world_refine.specs.SaidLaws.{AreSoundOver}
-use Rattle.qs_world_refine.specs.Steadies.{stage_with, stage_of, IsSteadyHost, IsSteadyWorld, is_steady_parcel, are_two}
+use Rattle.qs_world.specs.World.{World}
 use Rattle.qs_world_refine.proofs.SaidTidy.{all_joined}
 use Rattle.qs_world_refine.proofs.SoundParts.{both_and}
 use Rattle.qs_world_refine.proofs.SteadyGrows.{Grows, Rises, parcels_on, record_on, hosts_after, may_be_on, has_begun_on, stage_stands}
-use Rattle.qs_world_refine.proofs.SteadyMoves.{as_equal}
 use Rattle.qs_world_refine.proofs.TidyBegins.{Widens}
 
 -- ---- a first meeting
@@ -24,7 +18,7 @@ module _ (world : World) (steady : IsSteadyWorld world) (n stamp m inc : ℕ) (l
   same_hosts k = by (k == n) refl
     where
       by : (b : Bool) → (k == n) ≡ b → (new.hosts k).node.manager.begun ≡ (world.hosts k).node.manager.begun
-      by true same = rw same (ap (λ (j : ℕ). (world.hosts j).node.manager.begun) (sym (as_equal k n same)))
+      by true same = rw same (ap (λ (j : ℕ). (world.hosts j).node.manager.begun) (sym (eqb-true k n same)))
       by false off = rw off refl
 
   pub meet_grows : Grows world new
@@ -70,7 +64,7 @@ module _ (world : World) (steady : IsSteadyWorld world) (n stamp m inc : ℕ) (l
       meets = both_and (nat_lt n world.size) _ (grind (arith, nat_tests, low)) (both_and (nat_lt m world.size) _ in_run (grind (arith, nat_tests, other)))
 
       two : (p q : ℕ) (a : Bool) → (p == n) ≡ a → (b : Bool) → (q == m) ≡ b → 1 ≤ new.channels.peer p q → are_two world.size p q ≡ true
-      two p q true pa true qb knows = subst (λ (k : ℕ). are_two world.size k q ≡ true) (sym (as_equal p n pa)) (subst (λ (k : ℕ). are_two world.size n k ≡ true) (sym (as_equal q m qb)) meets)
+      two p q true pa true qb knows = subst (λ (k : ℕ). are_two world.size k q ≡ true) (sym (eqb-true p n pa)) (subst (λ (k : ℕ). are_two world.size n k ≡ true) (sym (eqb-true q m qb)) meets)
       two p q true pa false qb knows = steady.peers p q (rw (pa, qb) at knows)
       two p q false pa b qb knows = steady.peers p q (rw pa at knows)
 
@@ -94,7 +88,7 @@ module _ (world : World) (steady : IsSteadyWorld world) (n stamp m inc : ℕ) (l
           whole false y = parcels_on world new meet_grows n m (world.channels.posted n m i j) (steady.posted n m i j)
 
       posted_now : (p q i j : ℕ) → list_all (is_steady_parcel new p q) (new.channels.posted p q i j) ≡ true
-      posted_now p q i j = at_four p q i j (p == n) (q == m) (as_equal p n) (as_equal q m)
+      posted_now p q i j = at_four p q i j (p == n) (q == m) (eqb-true p n) (eqb-true q m)
 
       waits_now : (p q : ℕ) (a b : Bool) → list_all (is_steady_parcel new p q) (if a then (if b then [] else world.channels.waits p q) else world.channels.waits p q) ≡ true
       waits_now p q true true = refl

@@ -1,24 +1,9 @@
 -- So it is after each move: a step, one that is cut off, a stop, a restart and a first meeting.
-use Rattle.std.proofs.Common.{◌≡◌, inl, inr, ℕ, ◌+◌, ◌≤◌, ◌<◌, ◌==◌, Bool, true, false, List, ◌++◌, Some, refl, sym, subst, arith, if◌then◌else◌}
-use Rattle.std.proofs.lemmas.Bool.Decides.{nat_tests}
-use Rattle.std.specs.Prelude.{◌⊎◌}
-use Rattle.std.specs.List.{list_all}
-use Rattle.qs_base.specs.declared.identifiers.NodeNo.{NodeNo}
-use Rattle.qs_book_journal.specs.declared.entry.CrashCause.{CrashCause}
-use Rattle.qs_record.specs.declared.record.Record.{Record}
-use Rattle.qs_restart.specs.Recovery.{recovery}
-use Rattle.qs_node_step.specs.Step.{step_work, after_step, effects_of}
-use Rattle.qs_node_step.specs.declared.event.Effects.{Effects}
+use Rattle.qs_world_refine.proofs.Words.{◌≡◌, inl, inr, ℕ, ◌+◌, ◌≤◌, ◌<◌, ◌==◌, Bool, true, false, List, ◌++◌, Some, refl, sym, subst, arith, if◌then◌else◌, ◌⊎◌, list_all, NodeNo, CrashCause, Record, recovery, step_work, after_step, effects_of, Effects, Source, event_of, step_with, cut_log, stopped_host, stopped, inc_in, count_in, may_be_known, fits_record, IsSeated, AreSoundOver, are_left_open, is_sound, is_sound_said, begun, commands_in_run, stage_with, stage_of, IsSteadyHost, IsSteadyWorld}
+use Rattle.qs_world_refine.proofs.Words.{MachineGives, is_steady_record, is_steady_line, IsTidy, is_tidy_record, eqb-self, eqb-true}
 use Rattle.qs_node_step.specs.declared.event.Event.{Event}
-use Rattle.qs_world.specs.Moves.{Source, event_of, step_with, cut_log, stopped_host, stopped}
 use Rattle.qs_world.specs.World.{World}
-use Rattle.qs_world_refine.specs.Begun.{inc_in, count_in, may_be_known, fits_record}
-use Rattle.qs_world_refine.specs.MoveLaws.{IsSeated}
-use Rattle.qs_world_refine.specs.SaidLaws.{AreSoundOver, are_left_open}
-use Rattle.qs_world_refine.specs.Sound.{is_sound, is_sound_said}
-use Rattle.qs_world_refine.specs.SoundSteps.{begun, settled, commands_in_run}
-use Rattle.qs_world_refine.specs.Steadies.{stage_with, stage_of, IsSteadyHost, IsSteadyWorld, MachineGives, is_steady_record, is_steady_line}
-use Rattle.qs_world_refine.specs.Tidy.{IsTidy, is_tidy_record}
+use Rattle.qs_world_refine.specs.SoundSteps.{settled}
 use Rattle.qs_world_refine.proofs.SaidNames.{unended_said}
 use Rattle.qs_world_refine.proofs.SaidSteps.{step_said, step_open}
 use Rattle.qs_world_refine.proofs.SaidTidy.{all_joined, all_parted}
@@ -32,12 +17,6 @@ use Rattle.qs_world_refine.proofs.SteadyMays.{event_fits, open_at}
 use Rattle.qs_world_refine.proofs.SteadyPosts.{Ends, stepped_steady, counts_rise, past_names, named_behind}
 use Rattle.qs_world_refine.proofs.SteadySteps.{c, d, bump, step_tidy}
 use Rattle.qs_world_refine.proofs.TidyBegins.{Widens, node_wide, record_wide}
-
-pub same_number : (n : ℕ) → (n == n) ≡ true
-same_number n = grind (arith, nat_tests)
-
-pub as_equal : (k n : ℕ) → (k == n) ≡ true → k ≡ n
-as_equal k n is = grind (arith, nat_tests, is)
 
 -- ---- a whole step
 
@@ -77,7 +56,7 @@ module _ (world : World) (steady : IsSteadyWorld world) (n stamp free : ℕ) (so
       rises : Rises (inc_in world) (bump n (count_in world)) (inc_in new) (count_in new)
       rises = counts_rise world steady n stamp free source event is low up (bump n (count_in world)) (λ k apart. rw apart refl)
           (let own : (step_work (world.hosts n).node event free).node.manager.begun ≡ (world.hosts n).node.manager.begun + 1 = t.node.count in
-          let here : bump n (count_in world) n ≡ count_in world n + 1 = rw (same_number n) refl in grind (arith, own, count_is, here))
+          let here : bump n (count_in world) n ≡ count_in world n + 1 = rw (eqb-self n) refl in grind (arith, own, count_is, here))
 
   pub step_steady : IsSeated new → AreSoundOver new → IsSteadyWorld new
   step_steady seated sound = by (step_tidy world steady n free low up event (event_fits world steady n free low up stamp source event is) gives)
@@ -97,7 +76,7 @@ module _ (world : World) (steady : IsSteadyWorld world) (n stamp : ℕ) (cause :
   stop_rises count others k = by (k == n) refl
     where
       by : (b : Bool) → (k == n) ≡ b → (inc_in world k < inc_in down k) ⊎ ((inc_in world k ≡ inc_in down k) × (count k ≤ count_in down k))
-      by true same = inl (let before : inc_in world k ≡ world.channels.inc k = up_one (world.channels.up k) (subst (λ (j : ℕ). world.channels.up j ≡ true) (sym (as_equal k n same)) up) in
+      by true same = inl (let before : inc_in world k ≡ world.channels.inc k = up_one (world.channels.up k) (subst (λ (j : ℕ). world.channels.up j ≡ true) (sym (eqb-true k n same)) up) in
           let after : inc_in down k ≡ world.channels.inc k + 1 = rw same refl in grind (arith, before, after))
         where
           up_one : (b : Bool) → b ≡ true → (if b then world.channels.inc k else world.channels.inc k + 1) ≡ world.channels.inc k

@@ -1,29 +1,10 @@
 -- A world after a whole step: what is posted, what waits, and what the node keeps.
-use Rattle.std.proofs.Common.{◌≡◌, ◌≢◌, inr, ℕ, ◌≤◌, ◌<◌, ◌==◌, ◌&&◌, not, Bool, true, false, List, [], ◌∷◌, ◌++◌, map, Some, refl, sym, ap, subst, ◌∙◌, arith, nat_lt, if◌then◌else◌}
-use Rattle.std.proofs.lemmas.Bool.Decides.{nat_tests}
-use Rattle.std.proofs.lemmas.List.Sums.{fold-append}
-use Rattle.std.specs.List.{list_all, filter}
-use Rattle.qs_base.specs.declared.identifiers.NodeNo.{NodeNo}
-use Rattle.qs_base.specs.declared.identifiers.Tid.{Tid}
-use Rattle.qs_session_channels.specs.Channels.{Channels}
-use Rattle.qs_engage.specs.Nodes.{same_node}
-use Rattle.qs_record.specs.declared.record.Record.{Record}
-use Rattle.qs_restart.specs.Recovery.{recovery, found_record, names_transaction}
-use Rattle.qs_node_step.specs.Bringing.{is_other}
-use Rattle.qs_node_step.specs.State.{NodeValue, Work}
-use Rattle.qs_node_step.specs.Step.{step_work, after_step, effects_of}
-use Rattle.qs_node_step.specs.declared.event.Effects.{Effects}
+use Rattle.qs_world_refine.proofs.Words.{◌≡◌, ◌≢◌, inr, ℕ, ◌≤◌, ◌<◌, ◌==◌, ◌&&◌, not, Bool, true, false, List, [], ◌∷◌, ◌++◌, map, Some, refl, sym, ap, subst, ◌∙◌, arith, nat_lt, if◌then◌else◌, nat_tests, fold-append, list_all, filter, NodeNo, Tid, Channels, same_node, Record, recovery, found_record, names_transaction, is_other, NodeValue, Work, step_work, after_step, effects_of, Effects, Sending, Setting, Source, event_of, taken_by, stepped_host, Host, Parcel, past_among, inc_in, count_in}
+use Rattle.qs_world_refine.proofs.Words.{may_be_known, fits, fits_record, node_no, IsSeated, AreSoundOver, are_left_open, stage_with, stage_of, IsSteadyHost, IsSteadyWorld, is_steady_record, is_steady_parcel, are_two, Stage, IsTidy, is_tidy_sending, is_tidy_record}
 use Rattle.qs_node_step.specs.declared.event.Event.{Event}
-use Rattle.qs_node_step.specs.declared.event.Sending.{Sending}
-use Rattle.qs_node_step.specs.declared.setting.Setting.{Setting}
-use Rattle.qs_world.specs.Moves.{Source, event_of, taken_by, stepped_host, stepped}
-use Rattle.qs_world.specs.World.{Host, Parcel, World}
-use Rattle.qs_world_refine.specs.Begun.{past_among, inc_in, count_in, has_begun, may_be_known, fits, fits_record}
-use Rattle.qs_world_refine.specs.Links.{node_no}
-use Rattle.qs_world_refine.specs.MoveLaws.{IsSeated}
-use Rattle.qs_world_refine.specs.SaidLaws.{AreSoundOver, are_left_open}
-use Rattle.qs_world_refine.specs.Steadies.{stage_with, stage_of, IsSteadyHost, IsSteadyWorld, is_steady_record, is_steady_parcel, are_two}
-use Rattle.qs_world_refine.specs.Tidy.{Stage, IsTidy, is_tidy_sending, is_tidy_record}
+use Rattle.qs_world.specs.Moves.{stepped}
+use Rattle.qs_world.specs.World.{World}
+use Rattle.qs_world_refine.specs.Begun.{has_begun}
 use Rattle.qs_world_refine.proofs.Moving.{inc_taken, up_taken, waits_taken, posted_taken, peer_taken}
 use Rattle.qs_world_refine.proofs.Posted.{parcels, inc_all, up_all, peer_all, posted_all, waits_all}
 use Rattle.qs_world_refine.proofs.SaidNames.{AreNamed, unended_named, fold_named, unended_said}
@@ -35,6 +16,7 @@ use Rattle.qs_world_refine.proofs.SteadyGrows.{Grows, Rises, parcels_on, record_
 use Rattle.qs_world_refine.proofs.SteadySteps.{accept_tidy}
 use Rattle.qs_world_refine.proofs.TidyBegins.{Widens, node_wide, fits_wide, record_wide}
 use Rattle.qs_world_refine.proofs.SteadyTakes.{peer_here, peers_taken, scripts_taken}
+use Rattle.qs_base_lemmas.proofs.Tests.{ltb_some}
 
 -- what may be known names a transaction
 pub past_names : (size : ℕ) (inc count : ℕ → ℕ) (tid : Tid) → past_among size inc count tid ≡ true → names_transaction tid ≡ true
@@ -123,13 +105,10 @@ module _ (world : World) (steady : IsSteadyWorld world) (n stamp free : ℕ) (so
     setting_is = ends.tidy.node.setting ∙ ends.setting
 
     wide : Widens e (stage_with new n node)
-    wide = record { setting = ends.tidy.node.setting; past = ends.past; begun = ends.begun; met = λ m its. low_one (new.channels.peer n m.0) (met_new m.0 (one_low (world.channels.peer n m.0) (ends.met m its))) }
+    wide = record { setting = ends.tidy.node.setting; past = ends.past; begun = ends.begun; met = λ m its. low_one (new.channels.peer n m.0) (met_new m.0 (ltb_some (world.channels.peer n m.0) (ends.met m its))) }
       where
         low_one : (k : ℕ) → 1 ≤ k → nat_lt 0 k ≡ true
         low_one k it = grind (arith, nat_tests, it)
-
-        one_low : (k : ℕ) → nat_lt 0 k ≡ true → 1 ≤ k
-        one_low k it = grind (arith, nat_tests, it)
 
     -- ---- its log
 

@@ -1,27 +1,13 @@
 -- So it is after a restart and a first meeting, and so after each move.
-use Rattle.std.proofs.Common.{◌≡◌, inl, inr, ℕ, ◌+◌, ◌≤◌, ◌<◌, ◌==◌, ◌&&◌, not, Bool, true, false, List, ◌++◌, Option, Some, None, is_some, refl, sym, subst, arith, nat_lt, nat_le}
-use Rattle.std.proofs.lemmas.Bool.Decides.{nat_tests}
-use Rattle.std.specs.Prelude.{◌⊎◌}
-use Rattle.std.specs.List.{list_all}
-use Rattle.qs_base.specs.declared.identifiers.Tid.{Tid}
-use Rattle.qs_engage.specs.Nodes.{same_node}
+use Rattle.qs_world_refine.proofs.Words.{◌≡◌, inl, inr, ℕ, ◌+◌, ◌≤◌, ◌<◌, ◌==◌, ◌&&◌, not, Bool, true, false, List, ◌++◌, Option, Some, None, is_some, refl, sym, subst, arith, nat_lt, nat_le, nat_tests, ◌⊎◌, list_all, Tid, same_node, Kept, Lent, recovery, recovered_of, NodeValue, Move, Cut, Stop, Rise, event_of, step_with, cut_with, risen_host, reopened, risen, is_later, is_in_order, may_step, may_move, moved, Host, Parcel, known_of, inc_in, count_in, may_be_known, node_no, IsSeated, AreSoundOver}
+use Rattle.qs_world_refine.proofs.Words.{MayMoveOver, where_so, stage_with, stage_of, IsSteadyHost, IsSteadyWorld, GivesAt, MachineMoves, is_steady_record, is_steady_parcel, are_two, Stage, IsStage, is_tidy_label, is_tidy_loan, is_tidy_outcome, eqb-self, eqb-true, not-true}
 use Rattle.qs_node_kept.specs.declared.kept.KeptLabel.{KeptLabel}
-use Rattle.qs_node_kept.specs.declared.kept.Kept.{Kept}
-use Rattle.qs_node_kept.specs.declared.kept.Lent.{Lent}
-use Rattle.qs_restart.specs.Recovery.{recovery}
-use Rattle.qs_node_step.specs.Opening.{recovered_of}
-use Rattle.qs_node_step.specs.State.{NodeValue}
 use Rattle.qs_node_step.specs.declared.event.Event.{Event}
-use Rattle.qs_world.specs.Moves.{Move, Step, Cut, Stop, Rise, Meet, event_of, step_with, cut_with, risen_host, reopened, risen, is_later, is_in_order, may_step, stamp_limit, has_begun as has_risen, may_move, moved}
-use Rattle.qs_world.specs.World.{Host, Parcel, World, known_of}
-use Rattle.qs_world_refine.specs.Begun.{inc_in, count_in, has_begun, may_be_known}
-use Rattle.qs_world_refine.specs.Links.{node_no}
-use Rattle.qs_world_refine.specs.MoveLaws.{IsSeated}
-use Rattle.qs_world_refine.specs.SaidLaws.{AreSoundOver, MayMoveOver}
+use Rattle.qs_world.specs.Moves.{Step, Meet, stamp_limit, has_begun as has_risen}
+use Rattle.qs_world.specs.World.{World}
+use Rattle.qs_world_refine.specs.Begun.{has_begun}
 use Rattle.qs_world_refine.specs.SoundMoves.{MayMove}
-use Rattle.qs_world_refine.specs.Sound.{where_so}
-use Rattle.qs_world_refine.specs.Steadies.{stage_with, stage_of, IsSteadyHost, IsSteadyWorld, GivesAt, MachineMoves, MoveSteady, is_steady_record, is_steady_parcel, are_two}
-use Rattle.qs_world_refine.specs.Tidy.{Stage, IsStage, is_tidy_label, is_tidy_loan, is_tidy_outcome}
+use Rattle.qs_world_refine.specs.Steadies.{MoveSteady}
 use Rattle.qs_world_refine.proofs.MoveGoes.{later_in, StepMay, step_may}
 use Rattle.qs_world_refine.proofs.SaidMoves.{move_said}
 use Rattle.qs_world_refine.proofs.SaidTidy.{IsSaidTidy, log_tidy, all_parted}
@@ -31,7 +17,7 @@ use Rattle.qs_world_refine.proofs.SoundParts.{and_both, both_and}
 use Rattle.qs_world_refine.proofs.SoundViews.{seen}
 use Rattle.qs_world_refine.proofs.SteadyGrows.{Grows, parcels_on, record_on, hosts_after, may_be_on, has_begun_on, stage_stands}
 use Rattle.qs_world_refine.proofs.SteadyMays.{steady_may}
-use Rattle.qs_world_refine.proofs.SteadyMoves.{step_steady, stop_steady, cut_steady, log_kept, as_equal, same_number}
+use Rattle.qs_world_refine.proofs.SteadyMoves.{step_steady, stop_steady, cut_steady, log_kept}
 use Rattle.qs_world_refine.proofs.TidyOpened.{opened_tidy, opened_first}
 use Rattle.qs_world_refine.proofs.TidyTaken.{opened_taken}
 use Rattle.qs_world_refine.proofs.SteadyMeets.{meet_steady}
@@ -58,7 +44,7 @@ module _ (world : World) (steady : IsSteadyWorld world) (n stamp inc : ℕ) (low
       before = rw down refl
 
       after : inc_in up n ≡ inc
-      after = rw (same_number n) refl
+      after = rw (eqb-self n) refl
 
       by : (b : Bool) → nat_lt (world.channels.inc n + 1) inc ≡ b → (inc_in world n < inc_in up n) ⊎ ((inc_in world n ≡ inc_in up n) × (count ≤ count_in up n))
       by true less = inl (grind (arith, nat_tests, before, after, less))
@@ -71,7 +57,7 @@ module _ (world : World) (steady : IsSteadyWorld world) (n stamp inc : ℕ) (low
       none = rw down refl
 
       by : (k : ℕ) (b : Bool) → (k == n) ≡ b → (inc_in world k < inc_in up k) ⊎ ((inc_in world k ≡ inc_in up k) × (count_in world k ≤ count_in up k))
-      by k true same = subst (λ (j : ℕ). (inc_in world j < inc_in up j) ⊎ ((inc_in world j ≡ inc_in up j) × (count_in world j ≤ count_in up j))) (sym (as_equal k n same)) (rises (count_in world n) none)
+      by k true same = subst (λ (j : ℕ). (inc_in world j < inc_in up j) ⊎ ((inc_in world j ≡ inc_in up j) × (count_in world j ≤ count_in up j))) (sym (eqb-true k n same)) (rises (count_in world n) none)
       by k false apart = inr (rw apart refl, let same : count_in up k ≡ count_in world k = rw apart refl in grind (arith, same))
 
   module _ (seated : IsSeated up) (sound : AreSoundOver up) where
@@ -79,7 +65,7 @@ module _ (world : World) (steady : IsSteadyWorld world) (n stamp inc : ℕ) (low
     e = stage_with up n node
 
     here : up.hosts n ≡ host
-    here = rw (same_number n) refl
+    here = rw (eqb-self n) refl
 
     place : (world.hosts n).node.setting.node ≡ node_no n
     place = steady.seated.node n low
@@ -101,10 +87,10 @@ module _ (world : World) (steady : IsSteadyWorld world) (n stamp inc : ℕ) (low
     none = (opened_taken e (world.hosts n).node.manager.alloc (recovery (world.hosts n).log) said).none
 
     stage : IsStage e
-    stage = stage_stands up n node low place (steady.seated.nodes n low) (sym (rw (same_number n) refl)) (sym count)
+    stage = stage_stands up n node low place (steady.seated.nodes n low) (sym (rw (eqb-self n) refl)) (sym count)
       where
         count : count_in up n ≡ node.manager.begun
-        count = rw (same_number n) refl
+        count = rw (eqb-self n) refl
 
     saved : (world.hosts n).node.kept.saved ≡ (world.hosts n).node.kept.now
     saved = (steady.nodes n low).saved
@@ -174,10 +160,6 @@ module _ (world : World) (steady : IsSteadyWorld world) (n stamp inc : ℕ) (low
 
 -- ---- each move
 
-off_is : (b : Bool) → not b ≡ true → b ≡ false
-off_is true is = absurd (cc (is))
-off_is false is = refl
-
 in_order_low : (world : World) (n stamp : ℕ) → is_in_order world n stamp ≡ true → n < world.size
 in_order_low world n stamp is = let it : nat_lt n world.size ≡ true = (and_both (nat_lt n world.size) _ (and_both (nat_lt n world.size && nat_lt stamp stamp_limit) _ is).0).0 in grind (arith, nat_tests, it)
 
@@ -217,7 +199,7 @@ move_steady world move may gives steady = by move may gives seated sound
     by (Rise n stamp inc) may gives seated sound =
         let rest : (not (world.channels.up n) ≡ true) × ((is_in_order world n stamp && nat_lt (world.channels.inc n) inc) ≡ true) = and_both (not (world.channels.up n)) _ may in
         let parts : (is_in_order world n stamp ≡ true) × (nat_lt (world.channels.inc n) inc ≡ true) = and_both (is_in_order world n stamp) _ rest.1 in
-        rise_steady world steady n stamp inc (in_order_low world n stamp parts.0) (off_is (world.channels.up n) rest.0) (grind (arith, nat_tests, parts.1)) seated sound
+        rise_steady world steady n stamp inc (in_order_low world n stamp parts.0) (not-true (world.channels.up n) rest.0) (grind (arith, nat_tests, parts.1)) seated sound
     by (Meet n stamp m inc) may gives seated sound =
         let runs : (world.channels.up n ≡ true) × ((is_later world n stamp && ((not (m == n) && nat_lt m world.size) && ((known_of world n m == 0) && (nat_lt 0 inc && has_risen world stamp m inc)))) ≡ true) = and_both (world.channels.up n) _ may in
         let parts : (is_later world n stamp ≡ true) × (((not (m == n) && nat_lt m world.size) && ((known_of world n m == 0) && (nat_lt 0 inc && has_risen world stamp m inc))) ≡ true) = and_both (is_later world n stamp) _ runs.1 in

@@ -1,25 +1,11 @@
 -- So it is where a world begins, over the logs that it begins with.
-use Rattle.std.proofs.Common.{◌≡◌, ℕ, ◌<◌, ◌==◌, ◌&&◌, ◌||◌, not, Bool, true, false, List, [], ◌∷◌, refl, sym, subst, arith, nat_lt}
-use Rattle.std.specs.List.{list_all}
-use Rattle.qs_base.specs.declared.identifiers.NodeNo.{NodeNo}
-use Rattle.qs_base.specs.declared.identifiers.Tid.{Tid}
-use Rattle.qs_ipc.specs.Queue.{is_for}
-use Rattle.qs_book_journal.specs.declared.script_line.Command.{Command}
+use Rattle.qs_world_refine.proofs.Words.{◌≡◌, ℕ, ◌<◌, ◌==◌, ◌&&◌, ◌||◌, not, Bool, true, false, List, [], ◌∷◌, refl, sym, subst, arith, nat_lt, list_all, NodeNo, Tid, is_for, Command, ScriptLine, is_recoverable, Record, recovery, names_transaction, no_kept, client_count, IsOpening, is_record, is_earlier, is_list, is_committed_at_home, are_unended, each_is, Opening, start, may_be_known, is_list_at, may_command, node_no, IsSeated, IsSteadyHost, IsSteadyWorld, stage_of, is_steady_record}
+use Rattle.qs_world_refine.proofs.Words.{is_steady_line}
 use Rattle.qs_book_journal.specs.declared.script_line.Command.TheVariants as commands
-use Rattle.qs_book_journal.specs.declared.script_line.ScriptLine.{ScriptLine}
-use Rattle.qs_book_machine.specs.Nodes.{is_recoverable}
-use Rattle.qs_record.specs.declared.record.Record.{Record}
 use Rattle.qs_record.specs.declared.record.Record.TheVariants as records
-use Rattle.qs_restart.specs.Recovery.{recovery, names_transaction}
-use Rattle.qs_node_kept.specs.Keeping.{no_kept}
-use Rattle.qs_world.specs.Moves.{client_count}
-use Rattle.qs_world.specs.Openings.{IsOpening, is_record, is_earlier, is_list, is_committed_at_home, are_unended, is_script, is_line, is_command, labels_begun, are_rising}
-use Rattle.qs_world.proofs.Below.{each_is}
-use Rattle.qs_world.specs.World.{Opening, World, start}
-use Rattle.qs_world_refine.specs.Begun.{may_be_known, is_list_at, may_command}
-use Rattle.qs_world_refine.specs.Links.{node_no}
-use Rattle.qs_world_refine.specs.MoveLaws.{IsSeated}
-use Rattle.qs_world_refine.specs.Steadies.{IsSteadyHost, IsSteadyWorld, StartSteady, stage_of, is_steady_record, is_steady_line}
+use Rattle.qs_world.specs.Openings.{is_script, is_line, is_command, labels_begun, are_rising}
+use Rattle.qs_world.specs.World.{World}
+use Rattle.qs_world_refine.specs.Steadies.{StartSteady}
 use Rattle.qs_world_refine.proofs.SaidMoves.{opening_said}
 use Rattle.qs_world_refine.proofs.SaidNames.{opening_left}
 use Rattle.qs_world_refine.proofs.SaidTidy.{log_tidy}

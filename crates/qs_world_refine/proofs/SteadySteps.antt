@@ -1,20 +1,8 @@
 -- A step of a node, made or cut off, leaves it tidy, and what it sends and appends fits.
-use Rattle.std.proofs.Common.{◌≡◌, inl, inr, ℕ, ◌+◌, ◌≤◌, ◌<◌, ◌==◌, ◌&&◌, ◌||◌, Bool, true, false, refl, sym, ap, subst, ◌∙◌, arith, nat_lt, nat_le, if◌then◌else◌}
-use Rattle.std.proofs.lemmas.Bool.Decides.{nat_tests}
-use Rattle.std.specs.Prelude.{◌⊎◌}
-use Rattle.qs_base.specs.declared.identifiers.NodeNo.{NodeNo}
-use Rattle.qs_engage.specs.Nodes.{same_node}
-use Rattle.qs_restart.specs.Recovery.{names_transaction}
-use Rattle.qs_node_step.specs.Step.{happen, step_work, accept}
-use Rattle.qs_node_step.specs.State.{NodeValue, Work, work_on}
+use Rattle.qs_world_refine.proofs.Words.{◌≡◌, inl, inr, ℕ, ◌+◌, ◌≤◌, ◌<◌, ◌==◌, ◌&&◌, ◌||◌, Bool, true, false, refl, sym, ap, subst, ◌∙◌, arith, nat_lt, nat_le, if◌then◌else◌, nat_tests, ◌⊎◌, NodeNo, same_node, names_transaction, happen, step_work, accept, NodeValue, Work, work_on, begun_among, past_among, inc_in, count_in, is_sound, begun, stage_of, IsSteadyWorld, MachineGives, Stage, IsStage, IsTidyNode, IsTidy}
 use Rattle.qs_node_step.specs.declared.event.Event.{Event}
 use Rattle.qs_tm.specs.Manager as tm
 use Rattle.qs_world.specs.World.{World}
-use Rattle.qs_world_refine.specs.Begun.{begun_among, past_among, inc_in, count_in}
-use Rattle.qs_world_refine.specs.Sound.{is_sound}
-use Rattle.qs_world_refine.specs.SoundSteps.{begun}
-use Rattle.qs_world_refine.specs.Steadies.{stage_of, IsSteadyWorld, MachineGives}
-use Rattle.qs_world_refine.specs.Tidy.{Stage, IsStage, IsTidyNode, IsTidy}
 use Rattle.qs_world_refine.proofs.SoundHappen.{happen_sound}
 use Rattle.qs_world_refine.proofs.SoundParts.{both_and}
 use Rattle.qs_world_refine.proofs.SoundRestart.{begin_incarnation_sound}

@@ -1,14 +1,10 @@
 -- What an event takes from the channels of a steady world, and from its clients, leaves whom its nodes know and the rest of the scripts as they should be.
-use Rattle.std.proofs.Common.{◌≡◌, ℕ, ◌≤◌, ◌<◌, ◌==◌, ◌&&◌, Bool, true, false, List, [], ◌∷◌, drop, Option, Some, None, refl, sym, subst, arith, nat_lt, if◌then◌else◌}
-use Rattle.std.proofs.lemmas.Bool.Decides.{nat_tests}
-use Rattle.std.specs.List.{list_all, list_any}
+use Rattle.qs_world_refine.proofs.Words.{◌≡◌, ℕ, ◌≤◌, ◌<◌, ◌==◌, ◌&&◌, Bool, true, false, List, [], ◌∷◌, drop, Option, Some, None, refl, sym, subst, arith, nat_lt, if◌then◌else◌, nat_tests, list_all, list_any, Source, Commanded, Handed, Queues, Clock, Noticed, client_count, event_of, taken_by, log_after, stepped_host, next_parcel, Parcel, node_no, IsSteadyWorld, is_steady_line, are_two}
 use Rattle.qs_node_step.specs.declared.event.ClientAnswer.{ClientAnswer}
 use Rattle.qs_node_step.specs.declared.event.Event.{Event}
-use Rattle.qs_world.specs.Moves.{Source, Commanded, Handed, Queues, Clock, Noticed, client_count, event_of, taken_by, handed_by, log_after, waiting_after, stepped_host, stepped}
-use Rattle.qs_world.specs.Posting.{clients_after, answered, is_answer_to, next_parcel}
-use Rattle.qs_world.specs.World.{Parcel, World}
-use Rattle.qs_world_refine.specs.Links.{node_no}
-use Rattle.qs_world_refine.specs.Steadies.{IsSteadyWorld, is_steady_line, are_two}
+use Rattle.qs_world.specs.Moves.{handed_by, waiting_after, stepped}
+use Rattle.qs_world.specs.Posting.{clients_after, answered, is_answer_to}
+use Rattle.qs_world.specs.World.{World}
 use Rattle.qs_world_refine.proofs.Seating.{noticed_is}
 use Rattle.qs_world_refine.proofs.SoundParts.{and_both}
 

@@ -1,39 +1,14 @@
 -- A whole step, made or cut off: what shows a transaction before it shows it after, with what nodes know of its commit.
-use Rattle.std.proofs.Common.{◌≡◌, ◌⊎◌, inl, inr, ℕ, ◌<◌, ◌==◌, ◌||◌, not, Bool, true, false, List, Option, Some, None, refl, sym, ap, subst, ◌∙◌, if◌then◌else◌}
-use Rattle.std.specs.List.{find, list_any}
-use Rattle.std.proofs.lemmas.Bool.{eqb-true}
-use Rattle.qs_base.specs.Order.{same_tid}
+use Rattle.qs_world_refine.proofs.Words.{◌≡◌, ◌⊎◌, inl, inr, ℕ, ◌<◌, ◌==◌, ◌||◌, not, Bool, true, false, List, Option, Some, None, refl, sym, ap, subst, ◌∙◌, if◌then◌else◌, find, list_any, eqb-true, or_left, same_tid, Tid, same_node, Nodes, CrashCause, is_outcome_of, Record, Participant, was_committed, is_kept_commit, NodeValue, Work, part_of, step_work, after_step, effects_of, Source, event_of, taken_by, step_with, cut_with, stopped, stopped_host, stepped_host, Committed, Leads, ShowsAll, AllGoes}
+use Rattle.qs_world_refine.proofs.Words.{KeepsDecided, Face, node_no, ShowsWorld, WorldGoes, StepShown, outcome_seen, place, BeginsNew, scene_of, sight, sight_during, same_flag, MayHappen, begun, Stands, IsSteady}
 use Rattle.qs_base.specs.declared.identifiers.Outcome.{Outcome}
 use Rattle.qs_base.specs.declared.identifiers.Outcome.TheVariants as outcomes
-use Rattle.qs_base.specs.declared.identifiers.Tid.{Tid}
-use Rattle.qs_engage.specs.Nodes.{same_node, has_node}
-use Rattle.qs_engage.specs.declared.nodes.Nodes.{Nodes}
-use Rattle.qs_book_journal.specs.declared.entry.CrashCause.{CrashCause}
-use Rattle.qs_node_kept.specs.Keeping.{is_outcome_of}
-use Rattle.qs_record.specs.declared.record.Record.{Record}
+use Rattle.qs_engage.specs.Nodes.{has_node}
 use Rattle.qs_tm.specs.Manager as tm
-use Rattle.qs_tm.specs.declared.participant.Participant.{Participant}
-use Rattle.qs_node_step.specs.Answering.{was_committed, is_kept_commit}
-use Rattle.qs_node_step.specs.State.{NodeValue, Work, part_of}
-use Rattle.qs_node_step.specs.Step.{step_work, after_step, effects_of}
 use Rattle.qs_node_step.specs.declared.event.Event.{Event}
-use Rattle.qs_world.specs.Moves.{Source, event_of, taken_by, step_with, cut_with, stopped, stopped_host, stepped_host}
 use Rattle.qs_world.specs.World.{World}
 use Rattle.qs_world_agree.specs.World as machine
-use Rattle.qs_world_agree.specs.World.{Committed}
-use Rattle.qs_world_agree.specs.Carry.{Leads}
-use Rattle.qs_world_refine.specs.EachMove.{ShowsOutcome, ShowsAll, AllGoes, KeepsDecided}
-use Rattle.qs_world_refine.specs.Faces.{Face}
-use Rattle.qs_world_refine.specs.Links.{node_no}
-use Rattle.qs_world_refine.specs.MoveLaws.{ShowsWorld, WorldGoes, StepShown}
-use Rattle.qs_world_refine.specs.NodeFaces.{outcome_seen}
-use Rattle.qs_world_refine.specs.Places.{place}
-use Rattle.qs_world_refine.specs.SaidLaws.{BeginsNew}
-use Rattle.qs_world_refine.specs.Shows.{scene_of, sight, sight_during}
-use Rattle.qs_world_refine.specs.Sound.{same_flag}
-use Rattle.qs_world_refine.specs.SoundSteps.{MayHappen, begun}
-use Rattle.qs_world_refine.specs.Stands.{Stands}
-use Rattle.qs_world_refine.specs.Steady.{IsSteady}
+use Rattle.qs_world_refine.specs.EachMove.{ShowsOutcome}
 use Rattle.qs_world_refine.proofs.EachCame.{case_of}
 use Rattle.qs_world_refine.proofs.EachEvent.{StepCame}
 use Rattle.qs_world_refine.proofs.Heads.{face_is}
@@ -152,13 +127,10 @@ module _ (t : Tid) (world : World) (w : machine.World) (steady : IsSteady world)
       by : (b : Bool) → same_node t.home work.node.setting.node ≡ b → then_f.cell ≡ Committed
       by false away = committed_is then_f.cell (turned.learnt away part.acknowledged (fate_is part known ∙ ap (λ (o : Option Outcome). became o part.acknowledged) decided))
       by true at = stood.lawful.agreed.knows_commit (place n (world.channels.inc n)) ((joined.face_then t world w steady home_in all n stamp free n_in on source event is came may).outcome
-          ∙ (ap (λ (f : Face). f.outcome) (face_is t _ n work then_f stood part known) ∙ (ap (λ (o : Option Outcome). outcome_seen o (part.engage.home || part.involved)) decided ∙ seen (part.engage.home || part.involved) (either part.engage.home part.involved (home_flag at)))))
+          ∙ (ap (λ (f : Face). f.outcome) (face_is t _ n work then_f stood part known) ∙ (ap (λ (o : Option Outcome). outcome_seen o (part.engage.home || part.involved)) decided ∙ seen (part.engage.home || part.involved) (or_left part.engage.home part.involved (home_flag at)))))
         where
           seen : (b : Bool) → b ≡ true → outcome_seen (Some outcomes.Commit) b ≡ Committed
           seen b so = rw so refl
-
-          either : (a b : Bool) → a ≡ true → (a || b) ≡ true
-          either a b so = rw so refl
 
   -- what the home's node keeps as committed then was decided
   cell_then : n ≡ t.home.0 → was_committed t work.node ≡ true → then_f.cell ≡ Committed
@@ -222,12 +194,9 @@ module _ (t : Tid) (world : World) (w : machine.World) (steady : IsSteady world)
       home_kept false off = kept_same t world after w goes.next all goes.leads (node_at false off)
       home_kept true same = record {
         now = λ is. decided (subst (λ (node : NodeValue). was_committed t node ≡ true) (node_at true same) is);
-        saved = λ is. decided (first (is_kept_commit (find (is_outcome_of t) work.node.kept.now.outcomes)) (list_any (same_tid t) work.node.committed) (subst (λ (node : NodeValue). is_kept_commit (find (is_outcome_of t) node.kept.saved.outcomes) ≡ true) (node_at true same) is));
+        saved = λ is. decided (or_left (is_kept_commit (find (is_outcome_of t) work.node.kept.now.outcomes)) (list_any (same_tid t) work.node.committed) (subst (λ (node : NodeValue). is_kept_commit (find (is_outcome_of t) node.kept.saved.outcomes) ≡ true) (node_at true same) is));
       }
         where
-          first : (a b : Bool) → a ≡ true → (a || b) ≡ true
-          first a b so = rw so refl
-
           decided : was_committed t work.node ≡ true → goes.next.cell ≡ Committed
           decided is = commit_stays then_f goes.next stood.lawful then_leads (cell_then (sym (eqb-true t.home.0 n same)) is)
 

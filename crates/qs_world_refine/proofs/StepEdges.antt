@@ -1,16 +1,6 @@
 -- What shows the world shows the work as a step begins, and the other way round as it ends.
-use Rattle.std.proofs.Common.{◌≡◌, ℕ, ◌==◌, ◌&&◌, not, Bool, true, false, List, [], ◌++◌, refl, if◌then◌else◌}
-use Rattle.std.specs.List.{filter}
-use Rattle.std.proofs.lemmas.Bool.{eqb-true}
-use Rattle.qs_packet.specs.declared.message.Message.{Message}
-use Rattle.qs_restart.specs.Recovery.{recovery}
-use Rattle.qs_node_step.specs.Bringing.{is_forced}
-use Rattle.qs_node_step.specs.State.{work_on}
-use Rattle.qs_node_step.specs.Step.{accept}
-use Rattle.qs_world_refine.specs.Links.{Said}
-use Rattle.qs_world_refine.specs.Messages.{all_said}
-use Rattle.qs_world_refine.specs.NodeFaces.{face_at}
-use Rattle.qs_world_refine.specs.Shows.{sight, sent_to, sight_during, said_during, unmet_during}
+use Rattle.qs_world_refine.proofs.Words.{◌≡◌, ℕ, ◌==◌, ◌&&◌, not, Bool, true, false, List, [], ◌++◌, refl, if◌then◌else◌, filter, eqb-true, Message, recovery, is_forced, work_on, accept, Said, all_said, face_at, sight, sight_during, said_during, unmet_during}
+use Rattle.qs_world_refine.specs.Shows.{sent_to}
 use Rattle.qs_world_refine.specs.StepLaws.{StepBegins, stepped, StepEnds}
 use Rattle.qs_world_refine.proofs.Alike.{SameFace, SameFound, same_itself, found_itself, sight_alike}
 use Rattle.qs_world_refine.proofs.Reading.{face_for}

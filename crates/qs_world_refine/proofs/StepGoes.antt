@@ -1,20 +1,7 @@
 -- A whole step of a node, for one transaction.
-use Rattle.std.proofs.Common.{◌≡◌, ℕ, ◌==◌, ◌++◌, Bool, true, List, [], refl, sym, ap, ◌∙◌, arith, if◌then◌else◌}
-use Rattle.std.specs.List.{filter}
-use Rattle.std.proofs.lemmas.Bool.Decides.{nat_tests}
-use Rattle.qs_base.specs.declared.identifiers.Tid.{Tid}
-use Rattle.qs_record.specs.declared.record.Record.{Record}
-use Rattle.qs_restart.specs.Recovery.{recovery}
-use Rattle.qs_node_step.specs.Bringing.{is_forced}
-use Rattle.qs_node_step.specs.State.{NodeValue, Work, work_on}
-use Rattle.qs_node_step.specs.Step.{happen, step_work, accept}
+use Rattle.qs_world_refine.proofs.Words.{◌≡◌, ℕ, ◌==◌, ◌++◌, Bool, true, List, [], refl, sym, ap, ◌∙◌, if◌then◌else◌, filter, Tid, Record, recovery, is_forced, NodeValue, Work, work_on, happen, step_work, accept, Leads, IsLawful, leads_on, Scene, Shows, sight_during, is_in_doubt, begun, may_doubt, Stands, eqb-self}
 use Rattle.qs_world_agree.specs.World.{World}
-use Rattle.qs_world_agree.specs.Carry.{Leads, IsLawful}
-use Rattle.qs_world_agree.proofs.Carries.{leads_on}
-use Rattle.qs_world_refine.specs.Shows.{Scene, Shows, sight_during}
-use Rattle.qs_world_refine.specs.Sights.{is_in_doubt}
-use Rattle.qs_world_refine.specs.SoundSteps.{begun, settled}
-use Rattle.qs_world_refine.specs.Stands.{may_doubt, Stands}
+use Rattle.qs_world_refine.specs.SoundSteps.{settled}
 use Rattle.qs_world_refine.specs.StepLaws.{SaysSame, stepped}
 use Rattle.qs_world_refine.specs.StepWhole.{IsReady, Stepped, StepGoes}
 use Rattle.qs_world_refine.proofs.BeginStands.{begin_incarnation_goes}
@@ -22,9 +9,6 @@ use Rattle.qs_world_refine.proofs.SettleGoes.{settle_goes}
 use Rattle.qs_world_refine.proofs.Sending.{append_nil}
 use Rattle.qs_world_refine.proofs.StepEdges.{step_begins, step_ends}
 use Rattle.qs_world_refine.proofs.WaitStands.{answer_waiting_goes}
-
-same_node : (n : ℕ) → (n == n) ≡ true
-same_node n = grind (arith, nat_tests)
 
 picked : {A : Type 0} (b : Bool) (x y : A) → b ≡ true → (if b then x else y) ≡ x
 picked b x y is = rw is refl
@@ -44,19 +28,19 @@ begins t scene n free w lawful shown is = record {
 }
   where
     found : (sight_during t scene n (work_on (scene.node n) free)).found n ≡ recovery (scene.log n)
-    found = picked (n == n) (recovery (scene.log n ++ [])) (recovery (scene.log n)) (same_node n) ∙ ap recovery (append_nil (scene.log n))
+    found = picked (n == n) (recovery (scene.log n ++ [])) (recovery (scene.log n)) (eqb-self n) ∙ ap recovery (append_nil (scene.log n))
 
 -- ---- it ends
 
 module _ (t : Tid) (scene : Scene) (n : ℕ) (work : Work) (log : List Record) (w : World) (is : Stands t scene n work w) (same : SaysSame t (recovery (scene.log n ++ filter is_forced work.out.records)) (recovery log)) where
   node_is : (stepped scene n work log).node n ≡ accept work.node
-  node_is = picked (n == n) (accept work.node) (scene.node n) (same_node n)
+  node_is = picked (n == n) (accept work.node) (scene.node n) (eqb-self n)
 
   log_is : (stepped scene n work log).log n ≡ log
-  log_is = picked (n == n) log (scene.log n) (same_node n)
+  log_is = picked (n == n) log (scene.log n) (eqb-self n)
 
   found_is : (sight_during t scene n work).found n ≡ recovery (scene.log n ++ filter is_forced work.out.records)
-  found_is = picked (n == n) (recovery (scene.log n ++ filter is_forced work.out.records)) (recovery (scene.log n)) (same_node n)
+  found_is = picked (n == n) (recovery (scene.log n ++ filter is_forced work.out.records)) (recovery (scene.log n)) (eqb-self n)
 
   ready : IsReady t (stepped scene n work log) n
   ready = record {

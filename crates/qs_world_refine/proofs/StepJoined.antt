@@ -1,35 +1,14 @@
 -- A whole step, joined: from what its event leaves standing of a transaction to what shows that after the step.
-use Rattle.std.proofs.Common.{inl, ◌≡◌, ℕ, ◌<◌, ◌||◌, Bool, true, false, List, [], ◌∷◌, ◌++◌, Option, Some, None, refl, sym, ap, subst, ◌∙◌, if◌then◌else◌}
-use Rattle.std.specs.List.{list_any, filter}
+use Rattle.qs_world_refine.proofs.Words.{inl, ◌≡◌, ℕ, ◌<◌, ◌||◌, true, List, [], ◌∷◌, ◌++◌, Option, Some, None, refl, sym, ap, subst, ◌∙◌, if◌then◌else◌, list_any, filter, Tid, Nodes, Record, recovery, Participant, is_forced, NodeValue, Work, part_of, happen, step_work, effects_of, Source, event_of, Open, Committed, Aborted, Leads, leads_on, ShowsAll, Face, ShowsFace, AllClose, StepShown, taken_scene, face_at, outcome_seen, place, BeginsNew, Scene, sight_during, Shows, MayHappen, begun, Stands}
+use Rattle.qs_world_refine.proofs.Words.{GoesOn, IsSteady, or_right, or_left}
 use Rattle.qs_base.specs.declared.identifiers.Outcome.{Outcome}
 use Rattle.qs_base.specs.declared.identifiers.Outcome.TheVariants as outcomes
-use Rattle.qs_base.specs.declared.identifiers.Tid.{Tid}
-use Rattle.qs_engage.specs.declared.nodes.Nodes.{Nodes}
-use Rattle.qs_record.specs.declared.record.Record.{Record}
 use Rattle.qs_record.specs.declared.record.Record.TheVariants as records
-use Rattle.qs_restart.specs.Recovery.{recovery}
-use Rattle.qs_tm.specs.declared.participant.Participant.{Participant}
-use Rattle.qs_node_step.specs.Bringing.{is_forced}
-use Rattle.qs_node_step.specs.State.{NodeValue, Work, part_of}
-use Rattle.qs_node_step.specs.Step.{happen, step_work, effects_of}
 use Rattle.qs_node_step.specs.declared.event.Event.{Event}
-use Rattle.qs_world.specs.Moves.{Source, event_of}
 use Rattle.qs_world.specs.World.{World}
 use Rattle.qs_world_agree.specs.World as machine
-use Rattle.qs_world_agree.specs.World.{Open, Committed, Aborted}
-use Rattle.qs_world_agree.specs.Carry.{Leads}
-use Rattle.qs_world_agree.proofs.Carries.{leads_on}
-use Rattle.qs_world_refine.specs.EachMove.{ShowsAll}
-use Rattle.qs_world_refine.specs.Faces.{Face, ShowsFace}
 use Rattle.qs_world_refine.specs.JoinLaws.{is_loose, StepForced}
-use Rattle.qs_world_refine.specs.MoveLaws.{AllClose, StepShown, taken_scene}
-use Rattle.qs_world_refine.specs.NodeFaces.{face_at, outcome_seen}
-use Rattle.qs_world_refine.specs.Places.{place}
-use Rattle.qs_world_refine.specs.SaidLaws.{BeginsNew}
-use Rattle.qs_world_refine.specs.Shows.{Scene, sight_during, Shows}
-use Rattle.qs_world_refine.specs.SoundSteps.{MayHappen, begun, settled}
-use Rattle.qs_world_refine.specs.Stands.{Stands, GoesOn}
-use Rattle.qs_world_refine.specs.Steady.{IsSteady}
+use Rattle.qs_world_refine.specs.SoundSteps.{settled}
 use Rattle.qs_world_refine.specs.StepLaws.{stepped}
 use Rattle.qs_world_refine.proofs.ClosingAll.{stays_closed}
 use Rattle.qs_world_refine.proofs.EachCame.{case_of, IsEnding}
@@ -103,11 +82,7 @@ module _ (t : Tid) (world : World) (w : machine.World) (steady : IsSteady world)
     where
       among : (xs ys : List Record) → list_any (is_aborted_of t) ys ≡ true → list_any (is_aborted_of t) (xs ++ ys) ≡ true
       among [] ys some = some
-      among (x ∷ xs) ys some = more (is_aborted_of t x) (list_any (is_aborted_of t) (xs ++ ys)) (among xs ys some)
-        where
-          more : (a b : Bool) → b ≡ true → (a || b) ≡ true
-          more true b so = refl
-          more false b so = so
+      among (x ∷ xs) ys some = or_right (is_aborted_of t x) (list_any (is_aborted_of t) (xs ++ ys)) (among xs ys some)
 
       its : (acks : Nodes) × (fate_at t last_work.node ≡ became (Some outcomes.Abort) acks)
       its = turned.aborted (among (world.hosts n).waiting last_work.out.records has)
@@ -125,16 +100,9 @@ module _ (t : Tid) (world : World) (w : machine.World) (steady : IsSteady world)
 
   loose_close : (rs : List Record) → (list_any (is_aborted_of t) rs ≡ true → f.outcome q ≡ Aborted) → (list_any (is_end_of t) rs ≡ true → IsEnding t n q f) → AllClose t n q f (filter is_loose rs)
   loose_close [] aborts ends = tt
-  loose_close (r ∷ rs) aborts ends = by r (λ so. aborts (first (is_aborted_of t r) (list_any (is_aborted_of t) rs) so)) (λ so. ends (first (is_end_of t r) (list_any (is_end_of t) rs) so))
-      (loose_close rs (λ so. aborts (more (is_aborted_of t r) (list_any (is_aborted_of t) rs) so)) (λ so. ends (more (is_end_of t r) (list_any (is_end_of t) rs) so)))
+  loose_close (r ∷ rs) aborts ends = by r (λ so. aborts (or_left (is_aborted_of t r) (list_any (is_aborted_of t) rs) so)) (λ so. ends (or_left (is_end_of t r) (list_any (is_end_of t) rs) so))
+      (loose_close rs (λ so. aborts (or_right (is_aborted_of t r) (list_any (is_aborted_of t) rs) so)) (λ so. ends (or_right (is_end_of t r) (list_any (is_end_of t) rs) so)))
     where
-      first : (a b : Bool) → a ≡ true → (a || b) ≡ true
-      first a b so = rw so refl
-
-      more : (a b : Bool) → b ≡ true → (a || b) ≡ true
-      more true b so = refl
-      more false b so = so
-
       by : (r : Record) → (is_aborted_of t r ≡ true → f.outcome q ≡ Aborted) → (is_end_of t r ≡ true → IsEnding t n q f) → AllClose t n q f (filter is_loose rs) → AllClose t n q f (if is_loose r then r ∷ filter is_loose rs else filter is_loose rs)
       by (records.Prepare u server covers changes) aborts ends rest = rest
       by (records.Commit u told) aborts ends rest = rest

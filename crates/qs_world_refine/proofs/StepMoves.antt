@@ -1,27 +1,12 @@
 -- What shows the world before a step, a step that is cut off, or a stop shows it after.
-use Rattle.std.proofs.Common.{◌≡◌, ◌≢◌, ◌⊎◌, inl, inr, ℕ, ◌+◌, ◌*◌, ◌<◌, ◌≤◌, ◌==◌, ◌&&◌, not, nat_lt, nat_le, Bool, true, false, List, [], ◌∷◌, ◌++◌, fold, Option, Some, None, refl, sym, ap, subst, ◌∙◌, arith, if◌then◌else◌}
-use Rattle.std.specs.List.{list_any}
-use Rattle.std.proofs.lemmas.Bool.{eqb-true}
-use Rattle.std.proofs.lemmas.List.Sums.{fold-append}
-use Rattle.qs_base.specs.declared.identifiers.Tid.{Tid}
+use Rattle.qs_world_refine.proofs.Words.{◌≡◌, ◌≢◌, ◌⊎◌, inl, inr, ℕ, ◌+◌, ◌*◌, ◌<◌, ◌≤◌, ◌==◌, ◌&&◌, not, nat_lt, nat_le, Bool, true, false, List, [], ◌∷◌, ◌++◌, fold, Option, Some, None, refl, sym, ap, subst, ◌∙◌, arith, if◌then◌else◌, list_any, eqb-true, fold-append, Tid, CrashCause, Record, recovery, found_record, nothing_said, effects_of, step_work, Effects, Source, Move, Cut, Stop, Rise, event_of, taken_by, log_after, step_with, cut_with, cut_log, stopped, stopped_host, risen, reopened}
+use Rattle.qs_world_refine.proofs.Words.{may_move, moved, is_later, is_in_order, Leads, leads_on, IsSeated, MayClose, AllClose, sight_logged, ShowsWorld, WorldGoes, taken_scene, StepShown, is_record_of, is_cut_with, place, SightGoes, scene_of, sight, Shows, Sight}
 use Rattle.qs_session_channels.specs.Network.{with_at}
-use Rattle.qs_book_journal.specs.declared.entry.CrashCause.{CrashCause}
-use Rattle.qs_record.specs.declared.record.Record.{Record}
 use Rattle.qs_record.specs.declared.record.Record.TheVariants as records
-use Rattle.qs_restart.specs.Recovery.{recovery, found_record, nothing_said}
-use Rattle.qs_node_step.specs.Step.{effects_of, step_work}
-use Rattle.qs_node_step.specs.declared.event.Effects.{Effects}
 use Rattle.qs_node_step.specs.declared.event.Event.{Event}
-use Rattle.qs_world.specs.Moves.{Source, Move, Step, Cut, Stop, Rise, Meet, event_of, taken_by, log_after, waiting_after, step_with, cut_with, cut_log, stopped, stopped_host, risen, met, reopened, may_move, moved, is_later, is_in_order, has_begun}
+use Rattle.qs_world.specs.Moves.{Step, Meet, waiting_after, met, has_begun}
 use Rattle.qs_world.specs.World.{World}
 use Rattle.qs_world_agree.specs.World as machine
-use Rattle.qs_world_agree.specs.Carry.{Leads}
-use Rattle.qs_world_agree.proofs.Carries.{leads_on}
-use Rattle.qs_world_refine.specs.MoveLaws.{IsSeated, MayClose, AllClose, sight_logged, ShowsWorld, WorldGoes, taken_scene, StepShown, is_record_of, is_cut_with}
-use Rattle.qs_world_refine.specs.Places.{place}
-use Rattle.qs_world_refine.specs.Seen.{SightGoes}
-use Rattle.qs_world_refine.specs.Shows.{scene_of, sight, Shows}
-use Rattle.qs_world_refine.specs.Sights.{Sight}
 use Rattle.qs_world_refine.specs.StepLaws.{stepped}
 use Rattle.qs_world_refine.proofs.Alike.{sight_alike}
 use Rattle.qs_world_refine.proofs.ClosingAll.{stays_closed, closed_goes}

@@ -1,11 +1,7 @@
 -- What an event leaves as it was.
-use Rattle.std.proofs.Common.{◌≡◌, ◌≢◌, ℕ, ◌==◌, ◌&&◌, Bool, true, false, arith, refl, ◌∙◌, if◌then◌else◌}
-use Rattle.std.proofs.lemmas.Bool.{eqb-true}
-use Rattle.std.proofs.lemmas.Bool.Decides.{nat_tests}
-use Rattle.qs_base.specs.declared.identifiers.Tid.{Tid}
+use Rattle.qs_world_refine.proofs.Words.{◌≡◌, ◌≢◌, ℕ, ◌==◌, ◌&&◌, Bool, true, false, arith, refl, ◌∙◌, if◌then◌else◌, eqb-true, nat_tests, Tid, Recovery, Sight, ShowsStage, ShowsLog}
 use Rattle.qs_world_agree.specs.World.{World}
-use Rattle.qs_restart.specs.Recovery.{Recovery}
-use Rattle.qs_world_refine.specs.Sights.{with_at4, Sight, ShowsStage, ShowsLog}
+use Rattle.qs_world_refine.specs.Sights.{with_at4}
 
 -- nodes, incarnations and sessions
 pub record SameStage (w v : World) : Type 0 where

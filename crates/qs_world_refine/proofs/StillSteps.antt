@@ -1,15 +1,9 @@
 -- A step of a node of a steady world that begins no transaction leaves it tidy, with as many numbers given as before.
-use Rattle.std.proofs.Common.{◌≡◌, ℕ, ◌<◌, Bool, true, false}
-use Rattle.qs_node_step.specs.Step.{happen, step_work}
-use Rattle.qs_node_step.specs.State.{Work, work_on}
+use Rattle.qs_world_refine.proofs.Words.{◌≡◌, ℕ, ◌<◌, Bool, true, false, happen, step_work, Work, work_on, is_sound, begun, IsSteadyWorld, MachineGives, Stage, IsStage, IsTidy, begins_one}
 use Rattle.qs_node_step.specs.declared.event.Event.{Event}
 use Rattle.qs_node_step.specs.declared.event.Event.TheVariants as events
 use Rattle.qs_world.specs.World.{World}
-use Rattle.qs_world_refine.specs.Sound.{is_sound}
-use Rattle.qs_world_refine.specs.SoundSteps.{begun}
-use Rattle.qs_world_refine.specs.Steadies.{IsSteadyWorld, MachineGives}
-use Rattle.qs_world_refine.specs.Tidy.{Stage, IsStage, IsTidy}
-use Rattle.qs_world_refine.specs.Walks.{begins_one, MayStepOn}
+use Rattle.qs_world_refine.specs.Walks.{MayStepOn}
 use Rattle.qs_world_refine.proofs.SoundHappen.{happen_sound}
 use Rattle.qs_world_refine.proofs.SoundRestart.{begin_incarnation_sound}
 use Rattle.qs_world_refine.proofs.SteadyBegins.{ComesFit, c, stage, begun_tidy, comes_may, comes_on}

@@ -1,7 +1,6 @@
 -- What is on its way stays so while the machine's link does, and what is put comes behind it.
-use Rattle.std.proofs.Common.{◌≡◌, inl, inr, ℕ, ◌+◌, ◌≤◌, Bool, true, false, List, [], ◌∷◌, ◌++◌, arith, refl, sym, ◌∙◌, subst}
-use Rattle.qs_base.specs.declared.identifiers.NodeNo.{NodeNo}
-use Rattle.qs_world_refine.specs.Links.{Said, Requested, Closed, Outcome_told, Taken_in, Inquired, Link, IsLink, IsEmpty, IsTold, IsTaken}
+use Rattle.qs_world_refine.proofs.Words.{◌≡◌, inl, inr, ℕ, ◌+◌, ◌≤◌, Bool, true, false, List, [], ◌∷◌, ◌++◌, arith, refl, sym, ◌∙◌, subst, NodeNo, Said, Requested, Closed, Outcome_told, Taken_in, Inquired, Link, IsLink, IsEmpty, IsTold}
+use Rattle.qs_world_refine.specs.Links.{IsTaken}
 
 -- the later link has the same messages up to where the earlier one ends; whatever was put once stays put
 pub record Carries (l k : Link) : Type 0 where

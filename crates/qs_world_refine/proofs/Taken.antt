@@ -1,21 +1,12 @@
 -- Scenes after a message was handed up, and after a restart was noticed, are the same to all that is seen.
-use Rattle.std.proofs.Common.{◌≡◌, ℕ, ◌==◌, ◌&&◌, not, Bool, true, false, List, [], ◌∷◌, ◌++◌, drop, length, map, Option, refl, sym, ap, subst, if◌then◌else◌}
-use Rattle.qs_base.specs.declared.identifiers.Tid.{Tid}
+use Rattle.qs_world_refine.proofs.Words.{◌≡◌, ℕ, ◌==◌, ◌&&◌, not, Bool, true, false, List, [], ◌∷◌, ◌++◌, drop, length, map, Option, refl, sym, ap, subst, if◌then◌else◌, Tid, Channels, Message, Record, Work, Noticed, hand_next, Parcel, all_said, taken_scene, noticed, message_of, scene_of, handed, sight, Shows, Sight, rest_behind}
 use Rattle.qs_session_channels.specs.Channels as channel
-use Rattle.qs_session_channels.specs.Channels.{Channels}
-use Rattle.qs_packet.specs.declared.message.Message.{Message}
-use Rattle.qs_record.specs.declared.record.Record.{Record}
-use Rattle.qs_node_step.specs.State.{Work}
-use Rattle.qs_world.specs.Moves.{Noticed, hand_next}
-use Rattle.qs_world.specs.World.{Parcel, World}
+use Rattle.qs_world.specs.World.{World}
 use Rattle.qs_world_agree.specs.World as machine
-use Rattle.qs_world_refine.specs.Messages.{all_said}
-use Rattle.qs_world_refine.specs.MoveLaws.{taken_scene}
-use Rattle.qs_world_refine.specs.RestartLaws.{noticed}
-use Rattle.qs_world_refine.specs.Shows.{message_of, scene_of, handed, sent_to, sight, Shows}
-use Rattle.qs_world_refine.specs.Sights.{Sight, with_at4}
+use Rattle.qs_world_refine.specs.Shows.{sent_to}
+use Rattle.qs_world_refine.specs.Sights.{with_at4}
 use Rattle.qs_world_refine.specs.StepLaws.{stepped}
-use Rattle.qs_world_refine.specs.TakenLaws.{rest_behind, HandedTaken, NoticedTaken}
+use Rattle.qs_world_refine.specs.TakenLaws.{HandedTaken, NoticedTaken}
 use Rattle.qs_world_refine.proofs.Alike.{same_itself, found_itself, sight_alike}
 use Rattle.qs_world_refine.proofs.Channelled.{four_at}
 use Rattle.qs_world_refine.proofs.Moving.{knows_as}

@@ -1,22 +1,9 @@
 -- A commit that a node takes up from its log is one of those that the log names.
-use Rattle.std.proofs.Common.{◌≡◌, ◌⊎◌, inl, inr, ◌==◌, ◌&&◌, ◌||◌, not, Bool, true, false, List, [], ◌∷◌, ◌++◌, fold, map, length, Option, Some, None, is_some, refl, sym, ap, subst, ◌∙◌, arith, if◌then◌else◌}
-use Rattle.std.specs.Global.{Global}
-use Rattle.std.specs.List.{list_all, filter}
-use Rattle.qs_base.specs.declared.identifiers.NodeNo.{NodeNo}
+use Rattle.qs_world_refine.proofs.Words.{◌≡◌, ◌⊎◌, inl, inr, ◌==◌, ◌&&◌, ◌||◌, not, Bool, true, false, List, [], ◌∷◌, ◌++◌, fold, map, length, Option, Some, None, is_some, refl, sym, ap, subst, ◌∙◌, arith, if◌then◌else◌, Global, list_all, filter, NodeNo, ServerNo, Tid, Record, Recovery, Prepared, Untold, commit_of, in_doubt, names_transaction, prepare_of, untold, new_manager, opened_manager, recovered_as, take_up, Setting, committed_before, voted_before, new_participant, Manager, Participant}
 use Rattle.qs_base.specs.declared.identifiers.Outcome.TheVariants as outcomes
-use Rattle.qs_base.specs.declared.identifiers.ServerNo.{ServerNo}
-use Rattle.qs_base.specs.declared.identifiers.Tid.{Tid}
-use Rattle.qs_record.specs.declared.record.Record.{Record}
 use Rattle.qs_record.specs.declared.record.Record.TheVariants as records
 use Rattle.qs_restart.specs.Recovery as restart
-use Rattle.qs_restart.specs.Recovery.{Recovery, Prepared, Untold, commit_of, in_doubt, names_transaction, prepare_of, untold}
-use Rattle.qs_node_step.specs.Opening.{new_manager, opened_manager, recovered_as, take_up}
-use Rattle.qs_node_step.specs.declared.setting.Setting.{Setting}
 use Rattle.qs_tm.specs.Manager as tm
-use Rattle.qs_tm.specs.Outcomes.{committed_before, voted_before}
-use Rattle.qs_tm.specs.Participant.{new_participant}
-use Rattle.qs_tm.specs.declared.manager.Manager.{Manager}
-use Rattle.qs_tm.specs.declared.participant.Participant.{Participant}
 use Rattle.qs_world_refine.proofs.PartsAfter.{IsSame, IsChanged, IsPut, changed_seen, put_seen}
 use Rattle.qs_world_refine.proofs.SaidTidy.{all_joined}
 use Rattle.qs_world_refine.proofs.SoundParts.{and_both, both_and}

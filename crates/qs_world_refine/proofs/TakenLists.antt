@@ -1,28 +1,10 @@
 -- A node that opens over its log takes up the last Commit of each transaction, and is to tell those that it names.
-use Rattle.std.proofs.Common.{◌≡◌, ℕ, ◌==◌, ◌||◌, not, Bool, true, false, List, [], ◌∷◌, ◌++◌, fold, map, length, Option, Some, None, refl, sym, ap, subst, ◌∙◌, arith, if◌then◌else◌}
-use Rattle.std.specs.Global.{Global}
-use Rattle.std.specs.List.{filter, list_all, list_any}
-use Rattle.std.proofs.lemmas.Bool.Decides.{nat_tests}
-use Rattle.std.proofs.lemmas.List.Sums.{fold-append}
-use Rattle.qs_base.specs.Order.{tid_cmp}
-use Rattle.qs_base.specs.declared.identifiers.NodeNo.{NodeNo}
-use Rattle.qs_base.specs.declared.identifiers.Tid.{Tid}
-use Rattle.qs_engage.specs.Nodes.{same_node, has_node, no_nodes}
-use Rattle.qs_engage.specs.declared.nodes.Nodes.{Nodes}
-use Rattle.qs_node_kept.specs.declared.kept.Kept.{Kept}
-use Rattle.qs_record.specs.declared.record.Record.{Record}
-use Rattle.qs_restart.specs.Recovery.{Recovery, Untold, commit_of, in_doubt, is_untold_of, names_transaction, nothing_said, recovery, untold}
-use Rattle.qs_node_step.specs.Opening.{new_manager, opened_manager, opened_node, recovered_as, recovered_of, take_up}
-use Rattle.qs_node_step.specs.declared.setting.Setting.{Setting}
+use Rattle.qs_world_refine.proofs.Words.{◌≡◌, ℕ, ◌==◌, ◌||◌, not, Bool, true, false, List, [], ◌∷◌, ◌++◌, fold, map, length, Option, Some, None, refl, sym, ap, subst, ◌∙◌, arith, if◌then◌else◌, Global, filter, list_all, list_any, nat_tests, fold-append, tid_cmp, NodeNo, Tid, same_node, no_nodes, Nodes, Kept, Record, Recovery, Untold, commit_of, in_doubt, is_untold_of, names_transaction, nothing_said, recovery, untold, new_manager, opened_manager, opened_node, recovered_as, recovered_of, take_up}
+use Rattle.qs_world_refine.proofs.Words.{Setting, committed_before, Manager, Participant, is_untold, names_node, node_no, AreListed, later_list, last_list, tell_at, tell_of_part, are_left_open, list_of}
+use Rattle.qs_engage.specs.Nodes.{has_node}
 use Rattle.qs_tm.specs.Manager as tm
-use Rattle.qs_tm.specs.Outcomes.{committed_before}
-use Rattle.qs_tm.specs.declared.manager.Manager.{Manager}
-use Rattle.qs_tm.specs.declared.participant.Participant.{Participant}
-use Rattle.qs_world.specs.Openings.{is_untold}
-use Rattle.qs_world_refine.specs.Links.{names_node, node_no}
-use Rattle.qs_world_refine.specs.Lists.{AreListed, AreTaken, later_list, last_list, tell_at, tell_of_part}
-use Rattle.qs_world_refine.specs.SaidLaws.{are_left_open, is_open_vote}
-use Rattle.qs_world_refine.specs.Sights.{list_of}
+use Rattle.qs_world_refine.specs.Lists.{AreTaken}
+use Rattle.qs_world_refine.specs.SaidLaws.{is_open_vote}
 use Rattle.qs_world_refine.proofs.Maps.{lookup_put}
 use Rattle.qs_world_refine.proofs.NodeLists.{unlisted}
 use Rattle.qs_world_refine.proofs.RisenFaces.{lists_from}

@@ -1,16 +1,7 @@
 -- What a node that opens over its log has taken up of a transaction.
-use Rattle.std.proofs.Common.{◌≡◌, ℕ, ◌==◌, ◌||◌, Bool, true, false, List, [], ◌∷◌, Some, None, refl, sym, ap, subst, ◌∙◌}
-use Rattle.std.specs.List.{list_all, list_any}
-use Rattle.qs_base.specs.declared.identifiers.NodeNo.{NodeNo}
+use Rattle.qs_world_refine.proofs.Words.{◌≡◌, ℕ, ◌==◌, ◌||◌, Bool, true, false, List, [], ◌∷◌, Some, None, refl, sym, ap, subst, ◌∙◌, list_all, list_any, NodeNo, Tid, same_node, no_nodes, Untold, Recovery, is_untold_of, committed_before, Manager, Participant, is_list_of, same_Some}
 use Rattle.qs_base.specs.declared.identifiers.Outcome.TheVariants as outcomes
-use Rattle.qs_base.specs.declared.identifiers.Tid.{Tid}
-use Rattle.qs_engage.specs.Nodes.{same_node, no_nodes}
-use Rattle.qs_restart.specs.Recovery.{Untold, Recovery, is_untold_of}
 use Rattle.qs_tm.specs.Manager as tm
-use Rattle.qs_tm.specs.Outcomes.{committed_before}
-use Rattle.qs_tm.specs.declared.manager.Manager.{Manager}
-use Rattle.qs_tm.specs.declared.participant.Participant.{Participant}
-use Rattle.qs_world_refine.specs.Sound.{is_list_of}
 use Rattle.qs_world_refine.proofs.SoundKnown.{same_is}
 use Rattle.qs_world_refine.proofs.SoundParts.{and_both}
 use Rattle.qs_world_refine.proofs.TakingUp.{Known}
@@ -24,21 +15,15 @@ pub record IsTakenOf (t : Tid) (said : Recovery) (part : Participant) : Type 0 w
 pub taken_of : (t : Tid) (home : Bool) (said : Recovery) (m : Manager) (a b : Bool) → list_any (is_untold_of t) said.untold ≡ a → Known t home a b m → (part : Participant) → tm.part_of t m ≡ Some part → IsTakenOf t said part
 taken_of t home said m true b untold found part known = record {
   committed = λ _. untold;
-  nobody = ap (λ (p : Participant). p.acknowledged) (one part (committed_before home found.0) (sym known ∙ found.1));
+  nobody = ap (λ (p : Participant). p.acknowledged) (same_Some part (committed_before home found.0) (sym known ∙ found.1));
 }
-  where
-    one : (p q : Participant) → Some p ≡ Some q → p ≡ q
-    one p q is = cc (is)
 taken_of t home said m false true untold found part known = record {
   committed = λ decided. absurd (by home refl decided);
   nobody = ap (λ (p : Participant). p.acknowledged) its ∙ found.2.bare.acknowledged;
 }
   where
-    one : (p q : Participant) → Some p ≡ Some q → p ≡ q
-    one p q is = cc (is)
-
     its : part ≡ found.0
-    its = one part found.0 (sym known ∙ found.1)
+    its = same_Some part found.0 (sym known ∙ found.1)
 
     by : (h : Bool) → home ≡ h → part.outcome ≡ Some outcomes.Commit → ⊥
     by true at decided = let both : Some outcomes.Abort ≡ Some outcomes.Commit = sym (found.2.aborted at) ∙ (sym (ap (λ (p : Participant). p.outcome) its) ∙ decided) in cc (both)

@@ -1,16 +1,9 @@
 -- Events that take a message from one link: Join and Ignore, and the requests that are dropped where abort is known.
-use Rattle.std.proofs.Common.{◌≡◌, ◌≢◌, ℕ, ◌+◌, ◌<◌, true, false, List, [], ◌∷◌, arith, refl, sym, ◌∙◌, subst, ap}
-use Rattle.std.proofs.lemmas.Bool.Decides.{nat_tests}
-use Rattle.qs_base.specs.declared.identifiers.Tid.{Tid}
-use Rattle.qs_world_agree.specs.World.{World, Open, Aborted, with_at, with_at2}
-use Rattle.qs_world_agree.specs.Guards.{NextAt, next, next_server}
-use Rattle.qs_world_agree.specs.Step.{Step, Join, Ignore, Drop_engage, Drop_join}
+use Rattle.qs_world_refine.proofs.Words.{◌≡◌, ◌≢◌, ℕ, ◌+◌, ◌<◌, true, false, List, [], ◌∷◌, arith, refl, sym, ◌∙◌, subst, ap, nat_tests, Tid, Open, Aborted, next, next_server, Join, Ignore, Drop_engage, Drop_join, Face, ShowsFace, Said, Requested, Closed, Link, link, waiting_link, IsLink, place, Runs, Meets, took_in, engaged_by, sight_taken, Sight, ShowsSight}
+use Rattle.qs_world_agree.specs.World.{World, with_at, with_at2}
+use Rattle.qs_world_agree.specs.Guards.{NextAt}
+use Rattle.qs_world_agree.specs.Step.{Step}
 use Rattle.qs_world_refine.specs.EventLaws.{JoinGoes, IgnoreGoes, DropEngageGoes, DropJoinGoes}
-use Rattle.qs_world_refine.specs.Faces.{Face, ShowsFace}
-use Rattle.qs_world_refine.specs.Links.{Said, Requested, Closed, Link, link, waiting_link, IsLink}
-use Rattle.qs_world_refine.specs.Places.{place}
-use Rattle.qs_world_refine.specs.Seen.{Runs, Meets, took_in, engaged_by, sight_taken}
-use Rattle.qs_world_refine.specs.Sights.{Sight, ShowsSight}
 use Rattle.qs_world_refine.proofs.Around.{faces_around, links_around, known_is}
 use Rattle.qs_world_refine.proofs.EventFaces.{face_join}
 use Rattle.qs_world_refine.proofs.Requesting.{after_join, join_stays, join_took, join_waiting, join_other}

@@ -1,12 +1,8 @@
 -- The home's node takes in one more whom an abort is to be told: Take_names.
-use Rattle.std.proofs.Common.{◌≢◌, ℕ, true, [], ◌∷◌, arith, refl}
-use Rattle.std.proofs.lemmas.Bool.Decides.{nat_tests}
-use Rattle.qs_world_agree.specs.World.{World, Committed, Aborted, with_at, with_at2}
-use Rattle.qs_world_agree.specs.Step.{Step, Take_names}
-use Rattle.qs_world_refine.specs.Faces.{Face, ShowsFace}
-use Rattle.qs_world_refine.specs.InquiryLaws.{telling_face, TakeNameGoes}
-use Rattle.qs_world_refine.specs.Links.{link, waiting_link}
-use Rattle.qs_world_refine.specs.Places.{place}
+use Rattle.qs_world_refine.proofs.Words.{◌≢◌, ℕ, true, [], ◌∷◌, arith, refl, nat_tests, Committed, Aborted, Take_names, Face, ShowsFace, telling_face, link, waiting_link, place}
+use Rattle.qs_world_agree.specs.World.{World, with_at, with_at2}
+use Rattle.qs_world_agree.specs.Step.{Step}
+use Rattle.qs_world_refine.specs.InquiryLaws.{TakeNameGoes}
 use Rattle.qs_world_refine.proofs.Inquired.{IsToTell, tells_abort, not_committed, to_tell}
 use Rattle.qs_world_refine.proofs.Local.{Local, local_sight}
 use Rattle.qs_world_refine.proofs.Streams.{Stays}

@@ -1,14 +1,9 @@
 -- The home takes in that a node acknowledged the commit: Take_told.
-use Rattle.std.proofs.Common.{◌≡◌, inl, inr, ℕ, true, false, List, [], ◌∷◌, arith, refl, ◌∙◌, subst}
-use Rattle.std.proofs.lemmas.Bool.Decides.{nat_tests}
-use Rattle.qs_base.specs.declared.identifiers.Tid.{Tid}
-use Rattle.qs_world_agree.specs.World.{World, Committed, with_at}
-use Rattle.qs_world_agree.specs.Step.{Step, Take_told}
-use Rattle.qs_world_refine.specs.Faces.{Face, ShowsFace}
-use Rattle.qs_world_refine.specs.Links.{Said, Taken_in, link, waiting_link, is_aborted, IsLink, IsTaken}
+use Rattle.qs_world_refine.proofs.Words.{◌≡◌, inl, inr, ℕ, true, false, List, [], ◌∷◌, arith, refl, ◌∙◌, subst, nat_tests, Tid, Committed, Take_told, Face, ShowsFace, Said, Taken_in, link, waiting_link, IsLink, place, Sight, ShowsSight}
+use Rattle.qs_world_agree.specs.World.{World, with_at}
+use Rattle.qs_world_agree.specs.Step.{Step}
+use Rattle.qs_world_refine.specs.Links.{is_aborted, IsTaken}
 use Rattle.qs_world_refine.specs.OutcomeLaws.{TakeToldGoes}
-use Rattle.qs_world_refine.specs.Places.{place}
-use Rattle.qs_world_refine.specs.Sights.{Sight, ShowsSight}
 use Rattle.qs_world_refine.proofs.Learning.{uncounted_taken}
 use Rattle.qs_world_refine.proofs.Still.{SameStage, stage_still, SameLogs, log_still}
 use Rattle.qs_world_refine.proofs.Streams.{Stays, still}

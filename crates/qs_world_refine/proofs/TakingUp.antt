@@ -1,44 +1,16 @@
 -- What a node that opens over its log knows of one transaction: its votes in doubt, and a Commit that is still to be told.
-use Rattle.std.proofs.Common.{◌≡◌, ℕ, ◌-◌, ◌<◌, ◌==◌, ◌&&◌, ◌||◌, not, Bool, true, false, List, [], ◌∷◌, ◌++◌, length, map, fold, Option, Some, None, is_some, unwrap_or, refl, sym, ap, subst, ◌∙◌, arith, if◌then◌else◌}
-use Rattle.std.specs.List.{filter, list_all, list_any}
-use Rattle.std.specs.BTreeMap.{insert_entry, is_at}
-use Rattle.std.specs.declared.cmp.Ordering.TheVariants.{Equal}
-use Rattle.std.proofs.lemmas.Bool.Decides.{nat_tests}
-use Rattle.std.proofs.lemmas.List.{length-set}
-use Rattle.std.proofs.lemmas.List.Sums.{fold-append}
-use Rattle.qs_base.specs.Order.{same_tid, tid_cmp}
-use Rattle.qs_base.specs.declared.identifiers.NodeNo.{NodeNo}
+use Rattle.qs_world_refine.proofs.Words.{◌≡◌, ℕ, ◌-◌, ◌<◌, ◌==◌, ◌||◌, not, Bool, true, false, List, [], ◌∷◌, ◌++◌, length, map, fold, Option, Some, None, is_some, unwrap_or, refl, sym, ap, subst, ◌∙◌, arith, if◌then◌else◌, filter, list_all, list_any, insert_entry, is_at, Equal, nat_tests, length-set, fold-append, same_tid, tid_cmp, NodeNo, ServerNo, Tid, new_engage, no_nodes, same_node, is_recoverable, Record, Prepared, Untold, Recovery, names_transaction, is_untold_of, prepare_of, commit_of}
+use Rattle.qs_world_refine.proofs.Words.{in_doubt, untold, no_member, voted_before, committed_before, new_participant, member_of, Manager, Participant, take_up, uncast_of, server_no, may_vote, is_of_other, false-or, and_parts}
 use Rattle.qs_base.specs.declared.identifiers.Outcome.TheVariants as outcomes
-use Rattle.qs_base.specs.declared.identifiers.ServerNo.{ServerNo}
-use Rattle.qs_base.specs.declared.identifiers.Tid.{Tid}
-use Rattle.qs_engage.specs.Engage.{new_engage}
-use Rattle.qs_engage.specs.Nodes.{no_nodes, same_node}
-use Rattle.qs_book_machine.specs.Nodes.{is_recoverable}
-use Rattle.qs_record.specs.declared.record.Record.{Record}
 use Rattle.qs_record.specs.declared.record.Record.TheVariants as records
 use Rattle.qs_restart.specs.Recovery as restart
-use Rattle.qs_restart.specs.Recovery.{Prepared, Untold, Recovery, names_transaction, is_untold_of, prepare_of, commit_of, in_doubt, untold}
 use Rattle.qs_tm.specs.Manager as tm
-use Rattle.qs_tm.specs.Members.{no_member}
-use Rattle.qs_tm.specs.Outcomes.{voted_before, committed_before}
-use Rattle.qs_tm.specs.Participant.{new_participant, member_of}
-use Rattle.qs_tm.specs.declared.manager.Manager.{Manager}
-use Rattle.qs_tm.specs.declared.participant.Participant.{Participant}
-use Rattle.qs_node_step.specs.Opening.{take_up}
-use Rattle.qs_world_refine.specs.NodeFaces.{uncast_of}
-use Rattle.qs_world_refine.specs.Sights.{server_no}
-use Rattle.qs_world_refine.specs.Sound.{may_vote}
-use Rattle.qs_world_refine.specs.Starts.{is_of_other}
 use Rattle.qs_world_refine.proofs.Arrays.{member_put}
 use Rattle.qs_world_refine.proofs.Doubts.{is_doubt_of}
 use Rattle.qs_world_refine.proofs.Maps.{lookup_changed, lookup_put}
 use Rattle.qs_world_refine.proofs.SoundKnown.{same_is}
 use Rattle.qs_world_refine.proofs.StartLogs.{taken_apart}
 use Rattle.qs_world_refine.proofs.StartWorlds.{alike_at}
-
-first_two : (a b : Bool) → (a && b) ≡ true → (a ≡ true) × (b ≡ true)
-first_two true b so = (refl, so)
-first_two false b so = absurd (cc (so))
 
 -- ---- a participant that was taken up from votes
 
@@ -148,12 +120,8 @@ module _ (tid : Tid) where
 
   votes_taken : (home : Bool) → names_transaction tid ≡ true → (votes : List Prepared) (seen : Bool) (m : Manager) → list_all may_vote votes ≡ true → tm.is_home tid m ≡ home → Voted home seen m
       → Voted home (seen || list_any (is_doubt_of tid) votes) (fold take_up m (map prepare_of (filter restart.is_in_doubt votes)))
-  votes_taken home numbered [] seen m may here v = subst (λ (b : Bool). Voted home b m) (or_false seen) v
-    where
-      or_false : (b : Bool) → b ≡ (b || false)
-      or_false true = refl
-      or_false false = refl
-  votes_taken home numbered (v ∷ votes) seen m may here is = by (same_tid v.tid tid) (restart.is_in_doubt v) refl refl (λ seen m here is. votes_taken home numbered votes seen m (first_two (may_vote v) (list_all may_vote votes) may).1 here is)
+  votes_taken home numbered [] seen m may here v = subst (λ (b : Bool). Voted home b m) (false-or seen) v
+  votes_taken home numbered (v ∷ votes) seen m may here is = by (same_tid v.tid tid) (restart.is_in_doubt v) refl refl (λ seen m here is. votes_taken home numbered votes seen m (and_parts (may_vote v) (list_all may_vote votes) may).1 here is)
     where
       node_is : tm.is_home tid (take_up m (prepare_of v)) ≡ home
       node_is = ap (λ (k : NodeNo). same_node tid.home k) (node_taken (prepare_of v) m) ∙ here
@@ -169,7 +137,7 @@ module _ (tid : Tid) where
           → ((seen : Bool) (m : Manager) → tm.is_home tid m ≡ home → Voted home seen m → Voted home (seen || list_any (is_doubt_of tid) votes) (fold take_up m (map prepare_of (filter restart.is_in_doubt votes))))
           → Voted home (seen || (is_doubt_of tid v || list_any (is_doubt_of tid) votes)) (fold take_up m (map prepare_of (if b then v ∷ filter restart.is_in_doubt votes else filter restart.is_in_doubt votes)))
       by true true same stands again = subst (λ (b : Bool). Voted home b (fold take_up (take_up m (prepare_of v)) (map prepare_of (filter restart.is_in_doubt votes)))) (or_first seen (is_doubt_of tid v) (list_any (is_doubt_of tid) votes) doubt)
-          (again true (take_up m (prepare_of v)) node_is (subst (λ (t : Tid). Voted home true (tm.take_up_vote t v.server v.covers m)) (sym (same_is v.tid tid same)) (voted_more home seen m here v.server v.covers (first_two (may_vote v) (list_all may_vote votes) may).0 is)))
+          (again true (take_up m (prepare_of v)) node_is (subst (λ (t : Tid). Voted home true (tm.take_up_vote t v.server v.covers m)) (sym (same_is v.tid tid same)) (voted_more home seen m here v.server v.covers (and_parts (may_vote v) (list_all may_vote votes) may).0 is)))
         where
           doubt : is_doubt_of tid v ≡ true
           doubt = grind (arith, nat_tests, same, stands)
@@ -210,12 +178,8 @@ module _ (tid : Tid) where
 
   told_taken : (home : Bool) → names_transaction tid ≡ true → (commits : List Untold) (seen : Bool) (first m : Manager) → list_all has_list commits ≡ true → tm.is_home tid m ≡ home → Told home seen first m
       → Told home (seen || list_any (is_untold_of tid) commits) first (fold take_up m (map commit_of (filter (λ (commit : Untold). names_transaction commit.tid) commits)))
-  told_taken home numbered [] seen start m all here is = subst (λ (b : Bool). Told home b start m) (or_false seen) is
-    where
-      or_false : (b : Bool) → b ≡ (b || false)
-      or_false true = refl
-      or_false false = refl
-  told_taken home numbered (c ∷ commits) seen start m all here is = by (is_untold_of tid c) (names_transaction c.tid) refl refl (λ seen m here is. told_taken home numbered commits seen start m (first_two (has_list c) (list_all has_list commits) all).1 here is)
+  told_taken home numbered [] seen start m all here is = subst (λ (b : Bool). Told home b start m) (false-or seen) is
+  told_taken home numbered (c ∷ commits) seen start m all here is = by (is_untold_of tid c) (names_transaction c.tid) refl refl (λ seen m here is. told_taken home numbered commits seen start m (and_parts (has_list c) (list_all has_list commits) all).1 here is)
     where
       node_is : tm.is_home tid (take_up m (commit_of c)) ≡ home
       node_is = ap (λ (k : NodeNo). same_node tid.home k) (node_taken (commit_of c) m) ∙ here
@@ -229,7 +193,7 @@ module _ (tid : Tid) where
           → Told home (seen || (a || list_any (is_untold_of tid) commits)) start (fold take_up m (map commit_of (if b then c ∷ filter (λ (commit : Untold). names_transaction commit.tid) commits else filter (λ (commit : Untold). names_transaction commit.tid) commits)))
       by true false same off again = absurd (let is_it : c.tid ≡ tid = same_is c.tid tid same in let so : names_transaction c.tid ≡ true = subst (λ (t : Tid). names_transaction t ≡ true) (sym is_it) numbered in cc (so, off))
       by true true same on again = subst (λ (b : Bool). Told home b start (fold take_up (take_up m (commit_of c)) (map commit_of (filter (λ (commit : Untold). names_transaction commit.tid) commits)))) (or_first seen (list_any (is_untold_of tid) commits))
-          (again true (take_up m (commit_of c)) node_is (c.told, put (length c.told == 0) (first_two (has_list c) (list_all has_list commits) all).0))
+          (again true (take_up m (commit_of c)) node_is (c.told, put (length c.told == 0) (and_parts (has_list c) (list_all has_list commits) all).0))
         where
           put : (b : Bool) → not b ≡ true → tm.part_of tid (if b then m else tm.put_part c.tid (committed_before (tm.is_home c.tid m) c.told) m) ≡ Some (committed_before home c.told)
           put true so = absurd (cc (so))

@@ -1,33 +1,12 @@
 -- A Tell with abort comes to another node than the home: Learn_abort or Name_again; and Told goes, with the names of all whom it drew in.
-use Rattle.std.proofs.Common.{◌≡◌, ◌≢◌, ℕ, ◌<◌, ◌==◌, Bool, true, false, List, [], ◌∷◌, Option, Some, None, length, refl, sym, subst, ap, ◌∙◌, arith, if◌then◌else◌}
-use Rattle.std.proofs.lemmas.Bool.Decides.{nat_tests}
-use Rattle.std.proofs.lemmas.List.{length-set}
-use Rattle.qs_base.specs.declared.identifiers.NodeNo.{NodeNo}
+use Rattle.qs_world_refine.proofs.Words.{◌≡◌, ◌≢◌, ℕ, ◌<◌, ◌==◌, Bool, true, false, List, [], ◌∷◌, Option, Some, None, length, refl, sym, subst, ap, ◌∙◌, arith, if◌then◌else◌, nat_tests, length-set, NodeNo, Tid, peer_of, no_nodes, same_node, listed, Message, drawn_in, named_by, is_undecided, Participant, send, Work, here, message_came, learn, learn_unknown, names_at, names_of, take_outcome, Aborted, IsLawful, Face, Said, Outcome_told, link, IsLink, node_no, names_node, all_said, face, face_at}
+use Rattle.qs_world_refine.proofs.Words.{began_here, place, NamedGoes, drew, sight_faced, Scene, sight_during, ShowsWork, handed, Sight, IsAt, IsWhole, Goes}
 use Rattle.qs_base.specs.declared.identifiers.Outcome.TheVariants as outcomes
-use Rattle.qs_base.specs.declared.identifiers.Tid.{Tid}
-use Rattle.qs_engage.specs.Engage.{peer_of}
-use Rattle.qs_engage.specs.Nodes.{all_nodes, no_nodes, same_node, has_node, listed}
-use Rattle.qs_packet.specs.declared.message.Message.{Message}
+use Rattle.qs_engage.specs.Nodes.{all_nodes, has_node}
 use Rattle.qs_packet.specs.declared.message.Message.TheVariants as messages
-use Rattle.qs_tm.specs.Outcomes.{drawn_in, named_by}
-use Rattle.qs_tm.specs.Participant.{is_undecided}
-use Rattle.qs_tm.specs.declared.participant.Participant.{Participant}
-use Rattle.qs_node_step.specs.Bringing.{send}
-use Rattle.qs_node_step.specs.State.{Work, here}
-use Rattle.qs_node_step.specs.Step.{message_came}
-use Rattle.qs_node_step.specs.Telling.{learn, learn_unknown, names_at, names_of, take_outcome}
-use Rattle.qs_world_agree.specs.World.{World, Aborted}
-use Rattle.qs_world_agree.specs.Carry.{IsLawful}
+use Rattle.qs_world_agree.specs.World.{World}
 use Rattle.qs_world_refine.specs.AbortRules.{IsToldAbort, TellAbortAgainGoes}
-use Rattle.qs_world_refine.specs.Faces.{Face}
-use Rattle.qs_world_refine.specs.Links.{Said, Outcome_told, link, IsLink, node_no, names_node}
-use Rattle.qs_world_refine.specs.Messages.{all_said}
-use Rattle.qs_world_refine.specs.NodeFaces.{face, face_at, began_here}
-use Rattle.qs_world_refine.specs.Places.{place}
-use Rattle.qs_world_refine.specs.Seen.{NamedGoes, drew, sight_faced}
-use Rattle.qs_world_refine.specs.Shows.{Scene, sight_during, ShowsWork, handed}
-use Rattle.qs_world_refine.specs.Sights.{Sight}
-use Rattle.qs_world_refine.specs.Steps.{IsAt, IsWhole, Knows, Goes}
+use Rattle.qs_world_refine.specs.Steps.{Knows}
 use Rattle.qs_world_refine.proofs.Alike.{same_itself}
 use Rattle.qs_world_refine.proofs.Around.{known_is, place_some}
 use Rattle.qs_world_refine.proofs.Arrays.{node_dropped}

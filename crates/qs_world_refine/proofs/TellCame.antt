@@ -1,40 +1,15 @@
 -- A Tell with commit comes to a node that is undecided: Learn where it is involved, else Acknowledge; and Told goes.
-use Rattle.std.proofs.Common.{◌≡◌, ◌≢◌, inl, inr, ℕ, ◌<◌, ◌==◌, ◌&&◌, Bool, true, false, List, [], ◌∷◌, ◌++◌, Option, Some, None, refl, sym, subst, ap, ◌∙◌, arith, if◌then◌else◌}
-use Rattle.std.specs.List.{filter}
-use Rattle.std.specs.BTreeMap.{is_at}
-use Rattle.std.proofs.lemmas.Bool.{eqb-true}
-use Rattle.std.proofs.lemmas.Bool.Decides.{nat_tests}
-use Rattle.qs_base.specs.Order.{tid_cmp}
-use Rattle.qs_base.specs.declared.identifiers.NodeNo.{NodeNo}
+use Rattle.qs_world_refine.proofs.Words.{◌≡◌, ◌≢◌, inl, inr, ℕ, ◌<◌, ◌==◌, ◌&&◌, Bool, true, false, List, [], ◌∷◌, ◌++◌, Option, Some, None, refl, sym, subst, ap, ◌∙◌, arith, if◌then◌else◌, filter, is_at, eqb-true, nat_tests, tid_cmp, NodeNo, Tid, same_node, Message, Record, Recovery, recovery, found_record, is_undecided, Participant, is_other, is_forced, send, log, log_if, give_notices, Sending, Setting, Work, here, part_of, with_manager, tell_came, take_outcome, learn, learn_unknown, names_at}
+use Rattle.qs_world_refine.proofs.Words.{names_of, Open, Committed, IsLawful, Face, Said, Outcome_told, Taken_in, Link, link, IsLink, IsEmpty, node_no, all_said, face, face_at, began_here, place, sight_faced, Scene, sight_during, ShowsWork, handed, Sight, ShowsSight, is_in_doubt, IsAt, IsNext, IsKnown, Goes}
 use Rattle.qs_base.specs.declared.identifiers.Outcome.TheVariants as outcomes
-use Rattle.qs_base.specs.declared.identifiers.Tid.{Tid}
-use Rattle.qs_engage.specs.Nodes.{same_node}
 use Rattle.qs_packet.specs.declared.message.Message.TheVariants as messages
-use Rattle.qs_packet.specs.declared.message.Message.{Message}
-use Rattle.qs_record.specs.declared.record.Record.{Record}
 use Rattle.qs_record.specs.declared.record.Record.TheVariants as records
-use Rattle.qs_restart.specs.Recovery.{Recovery, recovery, found_record}
 use Rattle.qs_tm.specs.Manager as tm
 use Rattle.qs_tm.specs.Outcomes as outcome_rules
-use Rattle.qs_tm.specs.Participant.{is_undecided}
-use Rattle.qs_tm.specs.declared.participant.Participant.{Participant}
-use Rattle.qs_node_step.specs.Bringing.{is_other, is_forced, send, log, log_if}
-use Rattle.qs_node_step.specs.Deciding.{give_notices}
-use Rattle.qs_node_step.specs.declared.event.Sending.{Sending}
-use Rattle.qs_node_step.specs.declared.setting.Setting.{Setting}
-use Rattle.qs_node_step.specs.State.{Work, here, part_of, with_manager}
-use Rattle.qs_node_step.specs.Telling.{tell_came, take_outcome, learn, learn_unknown, names_at, names_of}
-use Rattle.qs_world_agree.specs.World.{World, Open, Committed}
-use Rattle.qs_world_agree.specs.Carry.{IsLawful}
-use Rattle.qs_world_refine.specs.Faces.{Face}
-use Rattle.qs_world_refine.specs.Links.{Said, Outcome_told, Taken_in, Link, link, IsLink, IsEmpty, node_no}
-use Rattle.qs_world_refine.specs.Messages.{all_said}
-use Rattle.qs_world_refine.specs.NodeFaces.{face, face_at, began_here}
-use Rattle.qs_world_refine.specs.Places.{place}
-use Rattle.qs_world_refine.specs.Seen.{AckGoes, sight_faced, sight_learnt}
-use Rattle.qs_world_refine.specs.Shows.{Scene, sent_to, sight_during, ShowsWork, handed}
-use Rattle.qs_world_refine.specs.Sights.{Sight, ShowsSight, is_in_doubt}
-use Rattle.qs_world_refine.specs.Steps.{IsAt, Knows, IsNext, IsKnown, Goes}
+use Rattle.qs_world_agree.specs.World.{World}
+use Rattle.qs_world_refine.specs.Seen.{AckGoes, sight_learnt}
+use Rattle.qs_world_refine.specs.Shows.{sent_to}
+use Rattle.qs_world_refine.specs.Steps.{Knows}
 use Rattle.qs_world_refine.proofs.Alike.{SameFace, SameFound, face_on, same_itself, found_itself, sight_alike}
 use Rattle.qs_world_refine.proofs.Around.{known_is, place_some}
 use Rattle.qs_world_refine.proofs.During.{Quiet, quiet_itself, forced_log, local_shown, face_here, runs, meets}

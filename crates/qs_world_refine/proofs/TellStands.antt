@@ -1,34 +1,13 @@
 -- A Tell comes to another node than the home, and what stood of its transaction stands.
-use Rattle.std.proofs.Common.{◌≡◌, ℕ, ◌≤◌, ◌==◌, ◌&&◌, ◌||◌, not, Bool, true, false, List, Option, Some, None, is_some, refl, sym, subst, ap, ◌∙◌, arith, if◌then◌else◌}
-use Rattle.std.specs.Prelude.{is_none}
-use Rattle.std.specs.BTreeMap.{is_at}
-use Rattle.std.proofs.lemmas.Bool.Decides.{nat_tests}
-use Rattle.qs_base.specs.Order.{tid_cmp}
-use Rattle.qs_base.specs.declared.identifiers.NodeNo.{NodeNo}
+use Rattle.qs_world_refine.proofs.Words.{◌≡◌, ℕ, ◌≤◌, ◌==◌, ◌&&◌, ◌||◌, not, Bool, true, false, List, Option, Some, None, is_some, refl, sym, subst, ap, ◌∙◌, if◌then◌else◌, is_none, is_at, tid_cmp, NodeNo, Tid, same_node, is_no_node, Message, is_abort, aborted_participant, is_undecided, Participant, send, log_if, tid_of, give_notices, NodeValue, Work, part_of, with_manager, message_came, end_record, record_learnt, learn, learn_unknown, take_outcome, names_at, node_no, AgreesWith, Scene, handed}
+use Rattle.qs_world_refine.proofs.Words.{same_flag, where_so, StaysSound, Stands, GoesOn, IsNext, Goes, ne_eqb}
 use Rattle.qs_base.specs.declared.identifiers.Outcome.{Outcome}
 use Rattle.qs_base.specs.declared.identifiers.Outcome.TheVariants as outcomes
-use Rattle.qs_base.specs.declared.identifiers.Tid.{Tid}
-use Rattle.qs_engage.specs.Nodes.{same_node, is_no_node}
-use Rattle.qs_packet.specs.declared.message.Message.{Message}
 use Rattle.qs_packet.specs.declared.message.Message.TheVariants as messages
 use Rattle.qs_tm.specs.Manager as tm
 use Rattle.qs_tm.specs.Outcomes as outcome_rules
-use Rattle.qs_tm.specs.Outcomes.{is_abort, aborted_participant}
-use Rattle.qs_tm.specs.Participant.{is_undecided}
-use Rattle.qs_tm.specs.declared.participant.Participant.{Participant}
-use Rattle.qs_node_step.specs.Bringing.{send, log_if, tid_of}
-use Rattle.qs_node_step.specs.Deciding.{give_notices}
-use Rattle.qs_node_step.specs.State.{NodeValue, Work, part_of, with_manager}
-use Rattle.qs_node_step.specs.Step.{message_came}
-use Rattle.qs_node_step.specs.Telling.{end_record, record_learnt, learn, learn_unknown, take_outcome, names_at}
 use Rattle.qs_world_agree.specs.World.{World}
-use Rattle.qs_world_refine.specs.Links.{node_no}
-use Rattle.qs_world_refine.specs.OutcomeWhole.{AgreesWith, TellStands}
-use Rattle.qs_world_refine.specs.Shows.{Scene, handed}
-use Rattle.qs_world_refine.specs.Sound.{same_flag, where_so}
-use Rattle.qs_world_refine.specs.SoundLaws.{StaysSound}
-use Rattle.qs_world_refine.specs.Stands.{Stands, GoesOn}
-use Rattle.qs_world_refine.specs.Steps.{IsNext, Goes}
+use Rattle.qs_world_refine.specs.OutcomeWhole.{TellStands}
 use Rattle.qs_world_refine.proofs.DecidedStands.{KeepsOutcome, KeepOutcomes, outcome_itself, outcome_on, outcome_sent, outcome_notices, outcome_logged}
 use Rattle.qs_world_refine.proofs.During.{Leaves}
 use Rattle.qs_world_refine.proofs.KindsKept.{KeepsKinds}
@@ -50,10 +29,7 @@ use Rattle.qs_world_refine.proofs.OutcomeAfter.{decided_after, unknown_after, se
 
 module _ (t : Tid) (scene : Scene) (n m i : ℕ) (outcome : Outcome) (rest : List Message) (work : Work) (w : World) (next : IsNext scene n m i (messages.Tell t outcome) rest) (from_home : m ≡ t.home.0) (is : Stands t scene n work w) where
   away : (t.home.0 == n) ≡ false
-  away = differs t.home.0 n (λ same. next.from.other (from_home ∙ same))
-    where
-      differs : (a b : ℕ) → (a ≡ b → ⊥) → (a == b) ≡ false
-      differs a b off = grind (arith, nat_tests, off)
+  away = ne_eqb t.home.0 n (λ same. next.from.other (from_home ∙ same))
 
   comes_is : message_came (node_no m) (messages.Tell t outcome) work ≡ send (node_no m) (messages.Told t (names_at t outcome work)) (take_outcome t outcome work)
   comes_is = ap (λ (b : Bool). if b then work else send (node_no m) (messages.Told t (names_at t outcome work)) (take_outcome t outcome work)) (ap (λ (k : NodeNo). same_node t.home k) is.at.node ∙ away)

@@ -1,16 +1,8 @@
 -- The home tells an outcome, to a place that is known or to one that is to come: Tell and Tell_abort.
-use Rattle.std.proofs.Common.{◌≡◌, ◌⊎◌, inl, inr, ℕ, ◌<◌, true, false, [], ◌∷◌, arith, refl, sym, ◌∙◌, subst, ap}
-use Rattle.std.proofs.lemmas.Bool.Decides.{nat_tests}
-use Rattle.qs_base.specs.declared.identifiers.Tid.{Tid}
-use Rattle.qs_world_agree.specs.World.{World, Aborted, with_at}
-use Rattle.qs_world_agree.specs.Step.{Step, Tell, Tell_abort}
-use Rattle.qs_world_refine.specs.Faces.{Face, ShowsFace}
-use Rattle.qs_world_refine.specs.Links.{Outcome_told, link, waiting_link, IsLink}
+use Rattle.qs_world_refine.proofs.Words.{◌≡◌, ◌⊎◌, inl, inr, ℕ, ◌<◌, true, false, [], ◌∷◌, arith, refl, sym, ◌∙◌, subst, ap, nat_tests, Tid, Aborted, Tell, Tell_abort, Face, ShowsFace, Outcome_told, link, waiting_link, IsLink, place, Runs, SightGoes, sight_said, sight_waiting, Sight, ShowsSight}
+use Rattle.qs_world_agree.specs.World.{World, with_at}
+use Rattle.qs_world_agree.specs.Step.{Step}
 use Rattle.qs_world_refine.specs.OutcomeLaws.{TellWaitsGoes, TellAbortGoes, TellAbortWaitsGoes}
-use Rattle.qs_world_refine.specs.Places.{place}
-use Rattle.qs_world_refine.specs.Seen.{Runs, SightGoes, sight_said}
-use Rattle.qs_world_refine.specs.SeenOutcome.{sight_waiting}
-use Rattle.qs_world_refine.specs.Sights.{Sight, ShowsSight}
 use Rattle.qs_world_refine.proofs.Learning.{uncounted_said, stays_itself}
 use Rattle.qs_world_refine.proofs.Putting.{put_sight}
 use Rattle.qs_world_refine.proofs.Streams.{Stays, carries_itself, ended}

@@ -1,24 +1,10 @@
 -- Time goes on at a node.
-use Rattle.std.proofs.Common.{◌≡◌, ℕ, ◌&&◌, Bool, true, false, List, [], ◌∷◌, Option, Some, None, fold, refl, sym, subst, ap, if◌then◌else◌}
-use Rattle.std.specs.List.{list_all}
-use Rattle.qs_base.specs.declared.identifiers.Tid.{Tid}
+use Rattle.qs_world_refine.proofs.Words.{◌≡◌, ℕ, ◌&&◌, Bool, true, false, List, [], ◌∷◌, Option, Some, None, fold, refl, sym, subst, ap, if◌then◌else◌, list_all, Tid, ticked, timers_no, is_one, is_undecided, Which, Participant, enter, Work, part_of, with_manager, change_server, abort_old, age_rule, Scene, in_order, where_so, Stands, GoesOn}
 use Rattle.qs_book_journal.specs.declared.entry.Act.TheVariants as acts
-use Rattle.qs_ops.specs.Timers.{ticked}
 use Rattle.qs_ops.specs.declared.answer.Cause.TheVariants as causes
-use Rattle.qs_node_servers.specs.Servers.{timers_no}
 use Rattle.qs_tm.specs.Manager as tm
-use Rattle.qs_tm.specs.Manager.{is_one}
-use Rattle.qs_tm.specs.Participant.{is_undecided}
-use Rattle.qs_tm.specs.declared.manager.Which.{Which}
 use Rattle.qs_tm.specs.declared.manager.Which.TheVariants as whiches
-use Rattle.qs_tm.specs.declared.participant.Participant.{Participant}
-use Rattle.qs_node_step.specs.Bringing.{enter}
-use Rattle.qs_node_step.specs.State.{Work, part_of, with_manager, change_server}
-use Rattle.qs_node_step.specs.Step.{abort_old, age_rule}
 use Rattle.qs_world_agree.specs.World.{World}
-use Rattle.qs_world_refine.specs.Shows.{Scene}
-use Rattle.qs_world_refine.specs.Sound.{in_order, where_so}
-use Rattle.qs_world_refine.specs.Stands.{Stands, GoesOn}
 use Rattle.qs_world_refine.specs.TickLaws.{TickGoes}
 use Rattle.qs_world_refine.proofs.Frames.{out_leaves}
 use Rattle.qs_world_refine.proofs.HomeAborts.{aborts}

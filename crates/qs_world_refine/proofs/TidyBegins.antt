@@ -1,39 +1,13 @@
 -- A tidy node stays tidy where a client begins a transaction, of which nothing was known, and where more is known to have begun.
-use Rattle.std.proofs.Common.{◌≡◌, inl, inr, ℕ, ◌+◌, ◌≤◌, ◌==◌, ◌&&◌, ◌||◌, Bool, true, false, Option, Some, None, is_some, refl, sym, ap, subst, ◌∙◌, arith, nat_le}
-use Rattle.std.proofs.lemmas.Bool.Decides.{nat_tests}
-use Rattle.std.specs.Prelude.{◌⊎◌}
-use Rattle.std.specs.List.{list_all, list_any}
-use Rattle.qs_base.specs.Order.{same_tid}
-use Rattle.qs_base.specs.declared.identifiers.ClientNo.{ClientNo}
-use Rattle.qs_base.specs.declared.identifiers.NodeNo.{NodeNo}
+use Rattle.qs_world_refine.proofs.Words.{◌≡◌, inl, inr, ℕ, ◌+◌, ◌≤◌, ◌==◌, ◌&&◌, ◌||◌, Bool, true, false, Option, Some, None, is_some, refl, sym, ap, subst, ◌∙◌, arith, nat_le, nat_tests, ◌⊎◌, list_all, list_any, same_tid, ClientNo, NodeNo, ServerNo, Tid, same_node, QueueValue, is_outcome_of, Decided, Lent, Message, Record, names_transaction, kept_outcome, was_committed, is_other, NodeValue, Work, Sending, begun_participant, Manager, Participant, fits, fits_record, is_drawn, is_list_at, began_here}
+use Rattle.qs_world_refine.proofs.Words.{where_so, same_flag, is_owned, Stage, IsTidyNode, IsTidy, IsCrossed, is_settled, is_tidy_part, is_tidy_superior, is_tidy_label, is_tidy_loan, is_tidy_outcome, is_tidy_sending, is_tidy_record, is_begun_delivery, is_begun_queue, is_run, or_left, or_right, or_cases}
 use Rattle.qs_base.specs.declared.identifiers.Outcome.TheVariants as outcomes
-use Rattle.qs_base.specs.declared.identifiers.ServerNo.{ServerNo}
-use Rattle.qs_base.specs.declared.identifiers.Tid.{Tid}
-use Rattle.qs_engage.specs.Nodes.{same_node}
-use Rattle.qs_ipc.specs.Queue.{QueueValue}
-use Rattle.qs_node_kept.specs.Keeping.{is_outcome_of}
 use Rattle.qs_node_kept.specs.declared.kept.KeptLabel.{KeptLabel}
-use Rattle.qs_node_kept.specs.declared.kept.Decided.{Decided}
-use Rattle.qs_node_kept.specs.declared.kept.Lent.{Lent}
-use Rattle.qs_packet.specs.declared.message.Message.{Message}
 use Rattle.qs_packet.specs.declared.message.Message.TheVariants as messages
-use Rattle.qs_record.specs.declared.record.Record.{Record}
 use Rattle.qs_record.specs.declared.record.Record.TheVariants as records
-use Rattle.qs_restart.specs.Recovery.{names_transaction}
-use Rattle.qs_node_step.specs.Answering.{kept_outcome, was_committed}
-use Rattle.qs_node_step.specs.Bringing.{is_other}
-use Rattle.qs_node_step.specs.State.{NodeValue, Work}
-use Rattle.qs_node_step.specs.declared.event.Sending.{Sending}
 use Rattle.qs_tm.specs.Manager as tm
-use Rattle.qs_tm.specs.Participant.{begun_participant}
-use Rattle.qs_tm.specs.declared.manager.Manager.{Manager}
-use Rattle.qs_tm.specs.declared.participant.Participant.{Participant}
-use Rattle.qs_world_refine.specs.Begun.{fits, fits_record, is_drawn, is_list_at}
-use Rattle.qs_world_refine.specs.NodeFaces.{began_here}
-use Rattle.qs_world_refine.specs.Sound.{where_so, same_flag, is_owned}
-use Rattle.qs_world_refine.specs.Tidy.{Stage, IsTidyNode, IsTidyOut, IsTidy, IsCrossed, is_settled, is_tidy_part, is_tidy_superior, is_tidy_label, is_tidy_loan, is_tidy_outcome, is_tidy_sending, is_tidy_record, is_begun_delivery, is_begun_queue}
-use Rattle.qs_world_refine.specs.Walks.{is_run}
-use Rattle.qs_world_refine.proofs.CrossedKept.{or_left, or_right, or_both, owned_on}
+use Rattle.qs_world_refine.specs.Tidy.{IsTidyOut}
+use Rattle.qs_world_refine.proofs.CrossedKept.{owned_on}
 use Rattle.qs_world_refine.proofs.PartsAfter.{IsSame, IsPut, put_seen, told_is, as_told, is_known, as_known, put_known}
 use Rattle.qs_world_refine.proofs.SoundBegin.{all_put, order_put, all_implied}
 use Rattle.qs_world_refine.proofs.SoundParts.{and_both, both_and, all_found}
@@ -191,7 +165,7 @@ module _ (c d : Stage) (wide : Widens c d) where
         early t part home later (inr put) = absurd (let on : began_here node t ≡ true = subst (λ (u : Tid). began_here node u ≡ true) (sym put.same) begins in cc (on, later))
 
         owns : (t : Tid) → is_owned node t ≡ true → is_owned begun_node t ≡ true
-        owns t owned = by (or_both (is_some (kept_outcome t node)) (tm.told_of t false is_run node.manager) owned) (same_tid t next) refl
+        owns t owned = by (or_cases (is_some (kept_outcome t node)) (tm.told_of t false is_run node.manager) owned) (same_tid t next) refl
           where
             by : ((is_some (kept_outcome t node) ≡ true) ⊎ (tm.told_of t false is_run node.manager ≡ true)) → (b : Bool) → same_tid t next ≡ b → is_owned begun_node t ≡ true
             by (inl kept) b same = or_left (is_some (kept_outcome t node)) _ kept
@@ -224,7 +198,7 @@ module _ (c d : Stage) (wide : Widens c d) where
         past t here names true same low = or_left (tm.knows t (tm.begin client node.manager)) (was_committed t node)
             (subst (λ (u : Tid). tm.knows u (tm.begin client node.manager) ≡ true) (sym (Rattle.qs_world_refine.proofs.SoundKnown.same_is t next same))
             (as_known next (tm.begin client node.manager) (begun_participant client node.manager.ticks) (Rattle.qs_world_refine.proofs.Maps.lookup_put Rattle.qs_base.specs.Order.tid_cmp next (begun_participant client node.manager.ticks) (grind (arith, nat_tests)) node.manager.known)))
-        past t here names false apart low = old (or_both (tm.knows t node.manager) (was_committed t node) (n.crossed.pasts t here names (low_one t apart here (n.own ∙ ap (λ (s : Rattle.qs_node_step.specs.declared.setting.Setting.Setting). s.node) (sym n.setting)) (n.inc ∙ ap (λ (s : Rattle.qs_node_step.specs.declared.setting.Setting.Setting). s.inc) (sym n.setting)) low)))
+        past t here names false apart low = old (or_cases (tm.knows t node.manager) (was_committed t node) (n.crossed.pasts t here names (low_one t apart here (n.own ∙ ap (λ (s : Rattle.qs_node_step.specs.declared.setting.Setting.Setting). s.node) (sym n.setting)) (n.inc ∙ ap (λ (s : Rattle.qs_node_step.specs.declared.setting.Setting.Setting). s.inc) (sym n.setting)) low)))
           where
             old : ((tm.knows t node.manager ≡ true) ⊎ (was_committed t node ≡ true)) → (tm.knows t (tm.begin client node.manager) || was_committed t node) ≡ true
             old (inl knows) = let part : (part : Participant) × (tm.part_of t node.manager ≡ Some part) = is_known t node.manager knows in

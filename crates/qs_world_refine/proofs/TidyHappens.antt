@@ -1,31 +1,12 @@
 -- A tidy node stays tidy through a whole step.
-use Rattle.std.proofs.Common.{◌≡◌, inl, inr, ℕ, ◌+◌, ◌≤◌, ◌<◌, ◌||◌, Bool, true, false, Option, Some, None, is_some, refl, sym, ap, subst, ◌∙◌, arith}
-use Rattle.std.proofs.lemmas.Bool.Decides.{nat_tests}
-use Rattle.std.specs.Prelude.{◌⊎◌}
-use Rattle.std.specs.List.{list_all}
-use Rattle.qs_base.specs.declared.identifiers.NodeNo.{NodeNo}
-use Rattle.qs_base.specs.declared.identifiers.Tid.{Tid}
-use Rattle.qs_engage.specs.Nodes.{same_node}
-use Rattle.qs_book_journal.specs.declared.script_line.Command.{Command}
+use Rattle.qs_world_refine.proofs.Words.{◌≡◌, inl, inr, ℕ, ◌+◌, ◌≤◌, ◌<◌, Bool, true, false, Option, Some, None, is_some, refl, sym, ap, subst, ◌∙◌, arith, nat_tests, ◌⊎◌, list_all, NodeNo, Tid, same_node, Command, ScriptLine, begin_as, begin_or_refuse, begin_command, put_label, settle, NodeValue, Work, with_manager, with_command, happen, answer_waiting, Setting, BeginFault, fits, may_command, is_sound, is_owned_label, Stage, IsStage, IsTidyNode, IsTidy, is_tidy_label, begins_one, is_run, or_right}
 use Rattle.qs_book_journal.specs.declared.script_line.Command.TheVariants as commands
-use Rattle.qs_book_journal.specs.declared.script_line.ScriptLine.{ScriptLine}
 use Rattle.qs_node_kept.specs.declared.kept.KeptLabel.{KeptLabel}
 use Rattle.qs_ops.specs.declared.answer.Answer.TheVariants as answers
-use Rattle.qs_node_step.specs.Commands.{begin_as, begin_or_refuse, begin_command}
-use Rattle.qs_node_step.specs.Serving.{put_label}
-use Rattle.qs_node_step.specs.Settling.{settle}
-use Rattle.qs_node_step.specs.State.{NodeValue, Work, with_manager}
-use Rattle.qs_node_step.specs.Step.{with_command, happen, answer_waiting}
 use Rattle.qs_node_step.specs.declared.event.Event.{Event}
 use Rattle.qs_node_step.specs.declared.event.Event.TheVariants as events
-use Rattle.qs_node_step.specs.declared.setting.Setting.{Setting}
 use Rattle.qs_tm.specs.Manager as tm
-use Rattle.qs_tm.specs.declared.manager.BeginFault.{BeginFault}
 use Rattle.qs_tm.specs.declared.manager.BeginFault.TheVariants as faults
-use Rattle.qs_world_refine.specs.Begun.{fits, may_command}
-use Rattle.qs_world_refine.specs.Sound.{is_sound, is_owned_label}
-use Rattle.qs_world_refine.specs.Tidy.{Stage, IsStage, IsTidyNode, IsTidy, is_tidy_label}
-use Rattle.qs_world_refine.specs.Walks.{begins_one, is_run}
 use Rattle.qs_world_refine.proofs.SoundBegin.{all_last}
 use Rattle.qs_world_refine.proofs.SoundParts.{both_and}
 use Rattle.qs_world_refine.proofs.TidyBegins.{Widens, begun_tidy, begun_runs, out_wide}
@@ -90,16 +71,12 @@ module _ (c : Stage) (stage : IsStage c) where
     out = record { messages = t.out.messages; records = t.out.records };
   }
 
-  or_last : (a b : Bool) → b ≡ true → (a || b) ≡ true
-  or_last true b is = refl
-  or_last false b is = is
-
   begin_tidy : (d : Stage) (later : Later c d) (line : ScriptLine) (work : Work) → IsTidy c work → IsTidy d (begin_as line (tm.next_tid work.node.manager) work)
   begin_tidy d later line work t =
       let keeps = tidy_keeps d later.stage in
       keeps.answer line.client answers.Done _ (keeps.enter _ _ (with_label d begun (record { label = line.label; tid = Some next; owner = Some line.client })
       (both_and (d.begun next) (same_node work.node.manager.node d.setting.node) (later.begun work.node t.node) here)
-      (or_last (is_some (Rattle.qs_node_step.specs.Answering.kept_outcome next begun.node)) (tm.told_of next false is_run begun.node.manager) (begun_runs c d later.wide later.count work.node t.node fresh its line.client))
+      (or_right (is_some (Rattle.qs_node_step.specs.Answering.kept_outcome next begun.node)) (tm.told_of next false is_run begun.node.manager) (begun_runs c d later.wide later.count work.node t.node fresh its line.client))
       (record { node = begun_tidy c d later.wide later.count work.node t.node fresh its line.client; begun = t.begun; out = out_wide c d later.wide work.out t.out })))
     where
       next : Tid

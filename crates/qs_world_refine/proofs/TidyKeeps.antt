@@ -1,37 +1,12 @@
 -- A node in the middle of a step stays tidy through each thing that a rule does.
-use Rattle.std.proofs.Common.{◌≡◌, ◌⊎◌, inl, inr, ℕ, ◌&&◌, not, Bool, true, false, List, [], ◌∷◌, ◌++◌, Option, Some, None, is_some, refl, sym, ap, subst, ◌∙◌, arith, nat_lt, nat_le, if◌then◌else◌}
-use Rattle.std.proofs.lemmas.Bool.Decides.{nat_tests}
-use Rattle.std.specs.List.{list_all}
-use Rattle.std.specs.BTreeMap.{is_at, insert_entry}
-use Rattle.std.specs.Map.{lookup, remove_entry}
-use Rattle.qs_base.specs.declared.identifiers.ClientNo.{ClientNo}
-use Rattle.qs_base.specs.declared.identifiers.NodeNo.{NodeNo}
+use Rattle.qs_world_refine.proofs.Words.{◌≡◌, ◌⊎◌, inl, inr, ℕ, ◌&&◌, not, Bool, true, false, List, [], ◌∷◌, ◌++◌, Option, Some, None, is_some, refl, sym, ap, subst, ◌∙◌, arith, nat_lt, nat_le, if◌then◌else◌, nat_tests, list_all, is_at, insert_entry, lookup, remove_entry, ClientNo, NodeNo, ServerNo, Tid, same_node, ScriptLine, take_first, give_back, last_taken, is_taken, is_untaken, Lent, ServerValue, number_of, Answer, Message, Record, send, answer, is_other, log, tid_of, with_issued, NodeValue}
+use Rattle.qs_world_refine.proofs.Words.{Work, with_manager, with_queues, with_kept, change_server, client_cmp, with_command, Setting, Issued, OpenCommand, fits, fits_record, may_command, is_owned_label, Stage, IsStage, IsTidy, IsTidyNode, is_tidy_label, is_tidy_loan, is_tidy_command, is_tidy_sending, is_tidy_record, Keeps, IsPlain, MayForget, TicksOn}
 use Rattle.qs_base.specs.declared.identifiers.Outcome.TheVariants as outcomes
-use Rattle.qs_base.specs.declared.identifiers.ServerNo.{ServerNo}
-use Rattle.qs_base.specs.declared.identifiers.Tid.{Tid}
-use Rattle.qs_engage.specs.Nodes.{same_node}
 use Rattle.qs_book_journal.specs.declared.entry.Act.TheVariants as acts
-use Rattle.qs_book_journal.specs.declared.script_line.ScriptLine.{ScriptLine}
-use Rattle.qs_node_kept.specs.Loans.{take_first, give_back, last_taken, is_taken, is_untaken}
 use Rattle.qs_node_kept.specs.declared.kept.KeptLabel.{KeptLabel}
-use Rattle.qs_node_kept.specs.declared.kept.Lent.{Lent}
-use Rattle.qs_ops.specs.Server.{ServerValue, number_of}
-use Rattle.qs_ops.specs.declared.answer.Answer.{Answer}
-use Rattle.qs_packet.specs.declared.message.Message.{Message}
-use Rattle.qs_record.specs.declared.record.Record.{Record}
-use Rattle.qs_node_step.specs.Bringing.{send, answer, is_other, log, tid_of}
-use Rattle.qs_node_step.specs.Commands.{with_issued}
-use Rattle.qs_node_step.specs.State.{NodeValue, Work, with_manager, with_queues, with_kept, change_server, client_cmp}
-use Rattle.qs_node_step.specs.Step.{with_command}
-use Rattle.qs_node_step.specs.declared.setting.Setting.{Setting}
-use Rattle.qs_node_step.specs.declared.state.Issued.{Issued}
-use Rattle.qs_node_step.specs.declared.state.OpenCommand.{OpenCommand}
 use Rattle.qs_tm.specs.Manager as tm
 use Rattle.qs_tm.specs.Outcomes as outcome_rules
-use Rattle.qs_world_refine.specs.Begun.{fits, fits_record, may_command}
-use Rattle.qs_world_refine.specs.Sound.{is_owned_label}
-use Rattle.qs_world_refine.specs.Tidy.{Stage, IsStage, IsTidy, IsTidyNode, is_tidy_label, is_tidy_loan, is_tidy_command, is_tidy_sending, is_tidy_record}
-use Rattle.qs_world_refine.specs.Walks.{Keeps, IsPlain, MayForget, TicksOn, same_kind}
+use Rattle.qs_world_refine.specs.Walks.{same_kind}
 use Rattle.qs_world_refine.proofs.Entries.{all_changed_value, all_inserted, all_but_removed}
 use Rattle.qs_world_refine.proofs.ServerKinds.{kind_kept}
 use Rattle.qs_world_refine.proofs.SoundBegin.{all_last}

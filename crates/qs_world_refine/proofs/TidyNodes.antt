@@ -1,32 +1,13 @@
 -- A node stays tidy through each change of what it keeps of transactions.
-use Rattle.std.proofs.Common.{◌≡◌, inl, inr, ℕ, ◌&&◌, Bool, true, false, [], ◌∷◌, ◌++◌, Option, Some, None, is_some, is_none, refl, sym, ap, subst, ◌∙◌, arith, if◌then◌else◌}
-use Rattle.std.proofs.lemmas.Bool.Decides.{nat_tests}
-use Rattle.std.specs.Prelude.{◌⊎◌}
-use Rattle.std.specs.List.{list_all, list_any}
-use Rattle.qs_base.specs.Order.{same_tid}
-use Rattle.qs_base.specs.declared.identifiers.NodeNo.{NodeNo}
+use Rattle.qs_world_refine.proofs.Words.{◌≡◌, inl, inr, ℕ, ◌&&◌, Bool, true, false, [], ◌∷◌, ◌++◌, Option, Some, None, is_some, is_none, refl, sym, ap, subst, ◌∙◌, arith, if◌then◌else◌, nat_tests, ◌⊎◌, list_all, list_any, same_tid, NodeNo, Tid, same_node, is_outcome_of, Decided, Cause, kept_outcome, was_committed, NodeValue, aborted_participant, is_undecided, new_participant, Manager, Participant, began_here, where_so, same_flag, Stage, IsTidyNode, is_settled, is_tidy_part, is_tidy_superior}
+use Rattle.qs_world_refine.proofs.Words.{is_tidy_outcome, is_run, is_homed, or_left, none_is}
 use Rattle.qs_base.specs.declared.identifiers.Outcome.{Outcome}
 use Rattle.qs_base.specs.declared.identifiers.Outcome.TheVariants as outcomes
-use Rattle.qs_base.specs.declared.identifiers.Tid.{Tid}
 use Rattle.qs_engage.specs.Engage as engage
-use Rattle.qs_engage.specs.Nodes.{same_node}
-use Rattle.qs_node_kept.specs.Keeping.{is_outcome_of}
-use Rattle.qs_node_kept.specs.declared.kept.Decided.{Decided}
-use Rattle.qs_ops.specs.declared.answer.Cause.{Cause}
-use Rattle.qs_node_step.specs.Answering.{kept_outcome, was_committed}
-use Rattle.qs_node_step.specs.State.{NodeValue}
 use Rattle.qs_tm.specs.Manager as tm
 use Rattle.qs_tm.specs.Outcomes as outcome_rules
-use Rattle.qs_tm.specs.Outcomes.{aborted_participant}
 use Rattle.qs_tm.specs.Participant as participant
-use Rattle.qs_tm.specs.Participant.{is_undecided, new_participant}
-use Rattle.qs_tm.specs.declared.manager.Manager.{Manager}
-use Rattle.qs_tm.specs.declared.participant.Participant.{Participant}
-use Rattle.qs_world_refine.specs.NodeFaces.{began_here}
-use Rattle.qs_world_refine.specs.Sound.{where_so, same_flag}
-use Rattle.qs_world_refine.specs.Tidy.{Stage, IsTidyNode, is_settled, is_tidy_part, is_tidy_superior, is_tidy_outcome}
-use Rattle.qs_world_refine.specs.Walks.{is_run, is_homed}
-use Rattle.qs_world_refine.proofs.CrossedKept.{Crosses, crossed_manager, Decides, crossed_decided, or_left}
+use Rattle.qs_world_refine.proofs.CrossedKept.{Crosses, crossed_manager, Decides, crossed_decided}
 use Rattle.qs_world_refine.proofs.Entries.{all_of_tid, none_found}
 use Rattle.qs_world_refine.proofs.Forgetting.{order_changed}
 use Rattle.qs_world_refine.proofs.Frames.{part_apart}
@@ -238,10 +219,6 @@ module _ (c : Stage) (node : NodeValue) (is : IsTidyNode c node) where
       its_own part (inl same) = absurd (let it : same_tid tid tid ≡ true = grind (arith, nat_tests) in let off : same_tid tid tid ≡ false = same.apart in cc (it, off))
       its_own part (inr changed) = ap (λ (p : Participant). p.outcome) changed.now
 
-      undecided : (o : Option Outcome) → is_none o ≡ true → o ≡ None
-      undecided None is = refl
-      undecided (Some x) is = absurd (cc (is))
-
       never : (b : Bool) → is_settled None b ≡ true → ⊥
       never b so = cc (so)
 
@@ -252,7 +229,7 @@ module _ (c : Stage) (node : NodeValue) (is : IsTidyNode c node) where
         knows = λ t knows. let part : (part : Participant) × (tm.part_of t node.manager ≡ Some part) = is_known t node.manager knows in changed_known t tid (outcome_rules.decided outcome) node.manager part.0 part.1;
         others = λ t part apart now. other t part (changed_seen t tid (outcome_rules.decided outcome) node.manager part now) apart;
         its = λ part now. its_own part (changed_seen tid tid (outcome_rules.decided outcome) node.manager part now);
-        new = λ so. let part : (part : Participant) × ((tm.part_of tid node.manager ≡ Some part) × (is_undecided part ≡ true)) = told_is is_undecided tid node.manager (open_now so) in is.crossed.fresh tid part.0 part.1.0 (undecided part.0.outcome part.1.1);
+        new = λ so. let part : (part : Participant) × ((tm.part_of tid node.manager ≡ Some part) × (is_undecided part ≡ true)) = told_is is_undecided tid node.manager (open_now so) in is.crossed.fresh tid part.0 part.1.0 (none_is part.0.outcome part.1.1);
         here = λ so home later. let part : (part : Participant) × ((tm.part_of tid node.manager ≡ Some part) × (is_undecided part ≡ true)) = told_is is_undecided tid node.manager (open_now so) in
-            never (list_any (same_tid tid) node.committed) (subst (λ (o : Option Outcome). is_settled o (list_any (same_tid tid) node.committed) ≡ true) (undecided part.0.outcome part.1.1) (is.crossed.earlier tid part.0 part.1.0 home later));
+            never (list_any (same_tid tid) node.committed) (subst (λ (o : Option Outcome). is_settled o (list_any (same_tid tid) node.committed) ≡ true) (none_is part.0.outcome part.1.1) (is.crossed.earlier tid part.0 part.1.0 home later));
       }

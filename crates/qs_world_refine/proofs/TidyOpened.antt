@@ -1,30 +1,12 @@
 -- A node that opens over a log whose records fit is tidy, and has only taken up what the log left open.
-use Rattle.std.proofs.Common.{◌≡◌, inl, inr, ℕ, ◌≤◌, ◌<◌, ◌==◌, ◌&&◌, ◌||◌, not, Bool, true, false, List, [], ◌∷◌, ◌++◌, fold, Option, Some, None, is_some, is_none, refl, sym, ap, subst, ◌∙◌, arith, if◌then◌else◌}
-use Rattle.std.proofs.lemmas.Bool.Decides.{nat_tests}
-use Rattle.std.specs.Prelude.{◌⊎◌}
-use Rattle.std.specs.List.{list_all, list_any, find}
-use Rattle.std.specs.Global.{Global}
-use Rattle.qs_base.specs.Order.{same_tid}
-use Rattle.qs_base.specs.declared.identifiers.NodeNo.{NodeNo}
+use Rattle.qs_world_refine.proofs.Words.{◌≡◌, inl, inr, ℕ, ◌≤◌, ◌<◌, ◌==◌, ◌&&◌, ◌||◌, not, Bool, true, false, List, [], ◌∷◌, ◌++◌, fold, Option, Some, None, is_some, is_none, refl, sym, ap, subst, ◌∙◌, arith, if◌then◌else◌, nat_tests, ◌⊎◌, list_all, list_any, find, Global, same_tid, NodeNo, Tid, same_node, is_outcome_of, Decided, Kept, Recovery, in_doubt, names_transaction, kept_outcome, recovered_as, opened_node, NodeValue, Participant, began_here, in_order, where_so, same_flag, is_owned}
+use Rattle.qs_world_refine.proofs.Words.{is_owned_label, Stage, IsStage, IsTidyNode, IsCrossed, is_settled, is_tidy_part, is_tidy_label, is_tidy_loan, is_tidy_outcome, or_left}
 use Rattle.qs_base.specs.declared.identifiers.Outcome.{Outcome}
 use Rattle.qs_base.specs.declared.identifiers.Outcome.TheVariants as outcomes
-use Rattle.qs_base.specs.declared.identifiers.Tid.{Tid}
-use Rattle.qs_engage.specs.Nodes.{same_node}
-use Rattle.qs_node_kept.specs.Keeping.{is_outcome_of}
 use Rattle.qs_node_kept.specs.declared.kept.KeptLabel.{KeptLabel}
-use Rattle.qs_node_kept.specs.declared.kept.Decided.{Decided}
-use Rattle.qs_node_kept.specs.declared.kept.Kept.{Kept}
-use Rattle.qs_restart.specs.Recovery.{Recovery, in_doubt, names_transaction}
-use Rattle.qs_node_step.specs.Answering.{kept_outcome}
-use Rattle.qs_node_step.specs.Opening.{recovered_as, opened_servers, outcome_in_log, is_left_open, close_tid, close_outcome, opened_node}
-use Rattle.qs_node_step.specs.State.{NodeValue}
+use Rattle.qs_node_step.specs.Opening.{opened_servers, outcome_in_log, is_left_open, close_tid, close_outcome}
 use Rattle.qs_tm.specs.Manager as tm
-use Rattle.qs_tm.specs.declared.participant.Participant.{Participant}
-use Rattle.qs_world_refine.specs.NodeFaces.{began_here}
-use Rattle.qs_world_refine.specs.Sound.{in_order, where_so, same_flag, is_owned, is_owned_label}
 use Rattle.qs_world_refine.specs.Steadies.{IsFirst}
-use Rattle.qs_world_refine.specs.Tidy.{Stage, IsStage, IsTidyNode, IsCrossed, is_settled, is_tidy_part, is_tidy_label, is_tidy_loan, is_tidy_outcome}
-use Rattle.qs_world_refine.proofs.CrossedKept.{or_left}
 use Rattle.qs_world_refine.proofs.Entries.{none_found}
 use Rattle.qs_world_refine.proofs.SaidTidy.{IsSaidTidy}
 use Rattle.qs_world_refine.proofs.SoundBegin.{all_put, all_last}

@@ -1,46 +1,17 @@
 -- What a tidy node says of what a rule takes up.
-use Rattle.std.proofs.Common.{◌≡◌, inl, inr, ℕ, ◌<◌, ◌==◌, ◌&&◌, ◌||◌, not, Bool, true, false, List, [], ◌∷◌, ◌++◌, fold, length, Option, Some, None, is_some, refl, sym, ap, subst, ◌∙◌, arith, nat_lt, nat_le, if◌then◌else◌}
-use Rattle.std.proofs.lemmas.Bool.Decides.{nat_tests}
-use Rattle.std.proofs.lemmas.List.{get_or-set_other}
-use Rattle.std.specs.List.{list_all, find}
-use Rattle.std.specs.BTreeMap.{is_at}
-use Rattle.std.specs.Map.{lookup}
-use Rattle.qs_base.specs.declared.identifiers.ClientNo.{ClientNo}
-use Rattle.qs_base.specs.declared.identifiers.NodeNo.{NodeNo}
-use Rattle.qs_base.specs.declared.identifiers.ServerNo.{ServerNo}
-use Rattle.qs_base.specs.declared.identifiers.Tid.{Tid}
-use Rattle.qs_engage.specs.Engage.{peer_of}
-use Rattle.qs_engage.specs.declared.nodes.Nodes.{Nodes}
-use Rattle.qs_engage.specs.Nodes.{same_node, has_node, put_node, listed, with_listed, all_nodes}
+use Rattle.qs_world_refine.proofs.Words.{◌≡◌, inl, inr, ℕ, ◌<◌, ◌==◌, ◌&&◌, ◌||◌, not, Bool, true, false, List, [], ◌∷◌, ◌++◌, fold, length, Option, Some, None, is_some, refl, sym, ap, subst, ◌∙◌, arith, nat_lt, nat_le, if◌then◌else◌, nat_tests, get_or-set_other, list_all, find, is_at, lookup, ClientNo, NodeNo, ServerNo, Tid, peer_of, Nodes, same_node, put_node, listed, with_listed, server_cmp, QueueValue, first_of, Delivery, has_label, is_recoverable, ServerValue, number_of, vote_of, ServerKind}
+use Rattle.qs_world_refine.proofs.Words.{server_at, kept_outcome, label_at, Work, part_of, client_cmp, Setting, OpenCommand, is_one, told_with_own, is_undecided, Participant, fits, is_drawn, may_command, is_sound, fits_setting, is_owned, is_owned_label, where_so, same_flag, Stage, IsStage, IsTidy, is_tidy_part, is_tidy_superior, is_tidy_label, is_tidy_command, is_begun_delivery, is_begun_queue, Reads, is_run, is_homed, not-true}
+use Rattle.qs_engage.specs.Nodes.{has_node, all_nodes}
 use Rattle.qs_ipc.specs.Ipc as ipc
-use Rattle.qs_ipc.specs.Ipc.{server_cmp}
-use Rattle.qs_ipc.specs.Queue.{QueueValue, first_of}
-use Rattle.qs_ipc.specs.declared.delivery.Delivery.{Delivery}
-use Rattle.qs_node_kept.specs.Keeping.{has_label}
 use Rattle.qs_node_kept.specs.declared.kept.KeptLabel.{KeptLabel}
-use Rattle.qs_book_machine.specs.Nodes.{is_recoverable}
-use Rattle.qs_ops.specs.Server.{ServerValue, number_of, vote_of, changes_vote, names_vote}
+use Rattle.qs_ops.specs.Server.{changes_vote, names_vote}
 use Rattle.qs_ops.specs.Table.{has_changes, least_taken}
-use Rattle.qs_ops.specs.declared.server.ServerKind.{ServerKind}
 use Rattle.qs_ops.specs.declared.server.ServerKind.TheVariants as kinds
 use Rattle.qs_ops.specs.declared.vote.Vote.TheVariants as votes
 use Rattle.qs_packet.specs.declared.message.Message.TheVariants as messages
-use Rattle.qs_node_servers.specs.Servers.{server_at}
-use Rattle.qs_node_step.specs.Answering.{kept_outcome}
-use Rattle.qs_node_step.specs.Serving.{label_at}
-use Rattle.qs_node_step.specs.State.{Work, part_of, client_cmp}
-use Rattle.qs_node_step.specs.declared.setting.Setting.{Setting}
-use Rattle.qs_node_step.specs.declared.state.OpenCommand.{OpenCommand}
 use Rattle.qs_tm.specs.Manager as tm
-use Rattle.qs_tm.specs.Manager.{put_tid, is_one}
+use Rattle.qs_tm.specs.Manager.{put_tid}
 use Rattle.qs_tm.specs.declared.manager.Which.TheVariants as whiches
-use Rattle.qs_tm.specs.Outcomes.{told_with_own}
-use Rattle.qs_tm.specs.Participant.{is_undecided}
-use Rattle.qs_tm.specs.declared.participant.Participant.{Participant}
-use Rattle.qs_world_refine.specs.Begun.{fits, is_drawn, may_command}
-use Rattle.qs_world_refine.specs.Sound.{is_sound, fits_setting, is_owned, is_owned_label, where_so, same_flag}
-use Rattle.qs_world_refine.specs.Tidy.{Stage, IsStage, IsTidy, is_tidy_part, is_tidy_superior, is_tidy_label, is_tidy_command, is_begun_delivery, is_begun_queue}
-use Rattle.qs_world_refine.specs.Walks.{Reads, is_run, is_homed}
 use Rattle.qs_world_refine.proofs.Entries.{found_passes, one_found}
 use Rattle.qs_world_refine.proofs.SoundBegin.{all_last}
 use Rattle.qs_world_refine.proofs.SoundHolds.{known_sound}
@@ -125,11 +96,7 @@ module _ (c : Stage) (stage : IsStage c) where
       me_in = subst (λ (s : Setting). nat_lt s.node.0 s.nodes ≡ true) t.node.setting (in_it work.node (seen work.node sound).fits)
 
       home_out : has_node part.told tid.home ≡ false
-      home_out = off (has_node part.told tid.home) s.outside
-        where
-          off : (a : Bool) → not a ≡ true → a ≡ false
-          off true is = absurd (cc (is))
-          off false is = refl
+      home_out = not-true (has_node part.told tid.home) s.outside
 
       -- of its told set
       drawn : (n : NodeNo) → Rattle.qs_world_refine.specs.Sound.is_sound_peer work.node part n ≡ true → where_so (has_node part.told n) (is_drawn c.setting.nodes tid n) ≡ true

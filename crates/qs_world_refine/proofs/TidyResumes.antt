@@ -1,25 +1,10 @@
 -- A tidy node stays tidy through the first step of an incarnation, where who is committed is at home.
-use Rattle.std.proofs.Common.{◌≡◌, ℕ, inl, inr, Bool, true, false, List, [], ◌∷◌, fold, Option, Some, None, refl, sym, ap, subst, ◌∙◌, if◌then◌else◌}
-use Rattle.std.specs.Prelude.{◌⊎◌}
-use Rattle.qs_base.specs.declared.identifiers.NodeNo.{NodeNo}
+use Rattle.qs_world_refine.proofs.Words.{◌≡◌, ℕ, inl, inr, Bool, true, false, List, [], ◌∷◌, fold, Option, Some, None, refl, sym, ap, subst, ◌∙◌, if◌then◌else◌, ◌⊎◌, NodeNo, ServerNo, Tid, listed, Record, send, log_if, tid_of, end_member, due_endings, end_members, learn_member, learners_at, give_notices, resume_home, resume_part, resume_tid, known_tids, begin_incarnation, NodeValue, Work, part_of, with_node, record_learnt, Manager, Participant, Stage, IsStage, IsTidy, IsTidyNode, Keeps, Reads}
 use Rattle.qs_base.specs.declared.identifiers.Outcome.{Outcome}
 use Rattle.qs_base.specs.declared.identifiers.Outcome.TheVariants as outcomes
-use Rattle.qs_base.specs.declared.identifiers.ServerNo.{ServerNo}
-use Rattle.qs_base.specs.declared.identifiers.Tid.{Tid}
-use Rattle.qs_engage.specs.Nodes.{listed}
 use Rattle.qs_packet.specs.declared.message.Message.TheVariants as messages
-use Rattle.qs_record.specs.declared.record.Record.{Record}
-use Rattle.qs_node_step.specs.Bringing.{send, log_if, tid_of}
-use Rattle.qs_node_step.specs.Deciding.{end_member, due_endings, end_members, learn_member, learners_at, give_notices}
-use Rattle.qs_node_step.specs.Restarts.{resume_home, resume_part, resume_tid, known_tids, begin_incarnation}
-use Rattle.qs_node_step.specs.State.{NodeValue, Work, part_of, with_node}
-use Rattle.qs_node_step.specs.Telling.{record_learnt}
 use Rattle.qs_tm.specs.Manager as tm
 use Rattle.qs_tm.specs.Outcomes as outcome_rules
-use Rattle.qs_tm.specs.declared.manager.Manager.{Manager}
-use Rattle.qs_tm.specs.declared.participant.Participant.{Participant}
-use Rattle.qs_world_refine.specs.Tidy.{Stage, IsStage, IsTidy, IsTidyNode}
-use Rattle.qs_world_refine.specs.Walks.{Keeps, Reads}
 use Rattle.qs_world_refine.proofs.PartsAfter.{IsSame, IsChanged, changed_seen}
 use Rattle.qs_world_refine.proofs.SoundRules.{send_node, sends_node}
 use Rattle.qs_world_refine.proofs.TidyKeeps.{tidy_keeps}

@@ -1,32 +1,12 @@
 -- What a node takes up from a log whose records fit: who is not decided left a Prepare, and a Commit is of the home; and each server is of its kind.
-use Rattle.std.proofs.Common.{◌≡◌, inl, inr, ℕ, ◌<◌, ◌==◌, ◌&&◌, Bool, true, false, List, [], ◌∷◌, ◌++◌, fold, length, Option, Some, None, is_some, refl, sym, ap, subst, ◌∙◌, arith, if◌then◌else◌}
-use Rattle.std.proofs.lemmas.Bool.Decides.{nat_tests}
-use Rattle.std.specs.Prelude.{◌⊎◌, zero, suc}
-use Rattle.std.specs.List.{list_all}
-use Rattle.std.specs.Global.{Global}
-use Rattle.qs_base.specs.Order.{same_tid}
-use Rattle.qs_base.specs.declared.identifiers.NodeNo.{NodeNo}
+use Rattle.qs_world_refine.proofs.Words.{◌≡◌, inl, inr, ℕ, ◌<◌, ◌==◌, ◌&&◌, Bool, true, false, List, [], ◌∷◌, ◌++◌, fold, length, Option, Some, None, is_some, refl, sym, ap, subst, ◌∙◌, arith, if◌then◌else◌, nat_tests, ◌⊎◌, zero, suc, list_all, Global, same_tid, NodeNo, ServerNo, Tid, new_engage, same_node, ServerValue, number_of, Op, Record, Recovery, in_doubt, untold, ServersValue, server_at, with_server, recovered_as, take_up, new_manager, opened_manager, voted_before, committed_before}
+use Rattle.qs_world_refine.proofs.Words.{new_participant, Manager, Participant, server_no, same_flag, Stage, is_tidy_part}
 use Rattle.qs_base.specs.declared.identifiers.Outcome.TheVariants as outcomes
-use Rattle.qs_base.specs.declared.identifiers.ServerNo.{ServerNo}
-use Rattle.qs_base.specs.declared.identifiers.Tid.{Tid}
-use Rattle.qs_engage.specs.Engage.{new_engage}
-use Rattle.qs_engage.specs.Nodes.{same_node}
-use Rattle.qs_ops.specs.Server.{ServerValue, number_of, is_logged, after_keeping}
-use Rattle.qs_ops.specs.declared.operation.Op.{Op}
-use Rattle.qs_record.specs.declared.record.Record.{Record}
+use Rattle.qs_ops.specs.Server.{is_logged, after_keeping}
 use Rattle.qs_record.specs.declared.record.Record.TheVariants as records
-use Rattle.qs_restart.specs.Recovery.{Recovery, in_doubt, untold}
-use Rattle.qs_node_servers.specs.Servers.{ServersValue, server_at, with_server}
-use Rattle.qs_node_step.specs.Opening.{recovered_as, take_up, new_manager, opened_manager, opened_servers, keep_changes}
+use Rattle.qs_node_step.specs.Opening.{opened_servers, keep_changes}
 use Rattle.qs_tm.specs.Manager as tm
-use Rattle.qs_tm.specs.Outcomes.{voted_before, committed_before}
-use Rattle.qs_tm.specs.Participant.{new_participant}
-use Rattle.qs_tm.specs.declared.manager.Manager.{Manager}
-use Rattle.qs_tm.specs.declared.participant.Participant.{Participant}
-use Rattle.qs_world_refine.specs.Sights.{server_no}
-use Rattle.qs_world_refine.specs.Sound.{same_flag}
 use Rattle.qs_world_refine.specs.Steadies.{IsTaken}
-use Rattle.qs_world_refine.specs.Tidy.{Stage, is_tidy_part}
 use Rattle.qs_world_refine.proofs.Entries.{all_of_tid}
 use Rattle.qs_world_refine.proofs.PartsAfter.{IsSame, IsChanged, IsPut, changed_seen, put_seen}
 use Rattle.qs_world_refine.proofs.SaidTidy.{IsSaidTidy, taken_records, is_taken_record}

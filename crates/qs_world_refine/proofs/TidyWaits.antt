@@ -1,19 +1,7 @@
 -- A node in the middle of a step stays tidy through each change of what waits.
-use Rattle.std.proofs.Common.{◌≡◌, ◌==◌, Bool, true, false, List, [], ◌∷◌, drop, Option, Some, None, refl, ◌∙◌, nat_lt, if◌then◌else◌}
-use Rattle.std.specs.List.{list_all}
-use Rattle.std.specs.BTreeMap.{is_at, insert_entry}
-use Rattle.std.specs.Map.{lookup, set_value}
-use Rattle.qs_base.specs.declared.identifiers.NodeNo.{NodeNo}
-use Rattle.qs_base.specs.declared.identifiers.ServerNo.{ServerNo}
-use Rattle.qs_base.specs.declared.identifiers.Tid.{Tid}
+use Rattle.qs_world_refine.proofs.Words.{◌≡◌, ◌==◌, Bool, true, false, List, [], ◌∷◌, drop, Option, Some, None, refl, ◌∙◌, nat_lt, if◌then◌else◌, list_all, is_at, insert_entry, lookup, set_value, NodeNo, ServerNo, Tid, IpcValue, server_cmp, QueueValue, added, after_first, no_queue, mark_stale, Delivery, NodeValue, Work, with_queues, drop_counts, Stage, IsTidy, IsTidyNode, is_begun_delivery, is_begun_queue, are_servers_apart}
 use Rattle.qs_ipc.specs.Ipc as ipc
-use Rattle.qs_ipc.specs.Ipc.{IpcValue, server_cmp}
 use Rattle.qs_ipc.specs.Queue as queue
-use Rattle.qs_ipc.specs.Queue.{QueueValue, added, after_first, no_queue, mark_stale}
-use Rattle.qs_ipc.specs.declared.delivery.Delivery.{Delivery}
-use Rattle.qs_node_step.specs.State.{NodeValue, Work, with_queues}
-use Rattle.qs_node_step.specs.Telling.{drop_counts}
-use Rattle.qs_world_refine.specs.Tidy.{Stage, IsTidy, IsTidyNode, is_begun_delivery, is_begun_queue, are_servers_apart}
 use Rattle.qs_world_refine.proofs.Entries.{found_passes, all_changed_value, all_inserted, all_mapped, all_set_value, apart_set, apart_put, apart_mapped}
 use Rattle.qs_world_refine.proofs.SoundBegin.{all_last}
 use Rattle.qs_world_refine.proofs.SoundParts.{and_both, both_and}

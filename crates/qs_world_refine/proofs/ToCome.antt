@@ -1,17 +1,6 @@
 -- The number of a transaction is still to be given: what that says, and what keeps it so.
-use Rattle.std.proofs.Common.{◌≡◌, ◌⊎◌, inl, inr, ℕ, ◌+◌, ◌<◌, ◌==◌, ◌&&◌, ◌||◌, not, nat_lt, nat_le, Bool, true, false, List, refl, sym, ap, subst, ◌∙◌, arith}
-use Rattle.std.proofs.lemmas.Bool.Decides.{nat_tests}
-use Rattle.qs_base.specs.declared.identifiers.NodeNo.{NodeNo}
-use Rattle.qs_base.specs.declared.identifiers.Tid.{Tid}
-use Rattle.qs_book_journal.specs.declared.entry.CrashCause.{CrashCause}
-use Rattle.qs_record.specs.declared.record.Record.{Record}
-use Rattle.qs_restart.specs.Recovery.{names_transaction}
-use Rattle.qs_world.specs.Moves.{stopped}
+use Rattle.qs_world_refine.proofs.Words.{◌≡◌, ◌⊎◌, inl, inr, ℕ, ◌+◌, ◌<◌, ◌==◌, ◌&&◌, ◌||◌, not, nat_lt, nat_le, Bool, true, false, List, refl, sym, ap, subst, ◌∙◌, arith, nat_tests, NodeNo, Tid, CrashCause, Record, names_transaction, stopped, Begins, past_among, inc_in, count_in, IsUnbegun, ShowsAll}
 use Rattle.qs_world.specs.World.{World}
-use Rattle.qs_world_agree.specs.Carry.{Begins}
-use Rattle.qs_world_refine.specs.Begun.{past_among, inc_in, count_in}
-use Rattle.qs_world_refine.specs.BeginLaws.{IsUnbegun}
-use Rattle.qs_world_refine.specs.EachMove.{ShowsAll}
 
 -- a number that is still to be given: of a later incarnation, or a later one of this
 abbrev pub IsToCome : Tid → (ℕ → ℕ) → (ℕ → ℕ) → Type 0

@@ -1,37 +1,16 @@
 -- A Told comes to the home's node, which knows abort: Take_names for each name, then Tell_abort for each new one.
-use Rattle.std.proofs.Common.{◌≡◌, inl, inr, ℕ, ◌<◌, ◌==◌, ◌&&◌, ◌||◌, not, Bool, true, false, List, [], ◌∷◌, Option, Some, None, length, refl, sym, subst, ap, ◌∙◌, arith, if◌then◌else◌}
-use Rattle.std.specs.BTreeMap.{is_at}
-use Rattle.std.proofs.lemmas.Bool.{eqb-true}
-use Rattle.std.proofs.lemmas.Bool.Decides.{nat_tests}
-use Rattle.std.proofs.lemmas.List.{length-set}
-use Rattle.qs_base.specs.Order.{tid_cmp}
-use Rattle.qs_base.specs.declared.identifiers.NodeNo.{NodeNo}
+use Rattle.qs_world_refine.proofs.Words.{◌≡◌, inl, inr, ℕ, ◌<◌, ◌==◌, ◌&&◌, ◌||◌, not, Bool, true, false, List, [], ◌∷◌, Option, Some, None, length, refl, sym, subst, ap, ◌∙◌, arith, if◌then◌else◌, is_at, eqb-true, nat_tests, length-set, tid_cmp, NodeNo, Tid, no_nodes, same_node, joined, without, listed, Nodes, Message, new_names, Participant, send_each, Work, here, part_of, with_manager, message_came, told_unknown, told_known, Aborted, Face, ShowsFace, telling_face, Said, Taken_in, link, IsLink}
+use Rattle.qs_world_refine.proofs.Words.{node_no, names_node, all_said, face, face_at, place, Runs, sight_faced, Scene, sight_during, ShowsWork, handed, Sight, ShowsSight, IsAt, IsNext, Goes, leads_on, or-false, and_first}
 use Rattle.qs_base.specs.declared.identifiers.Outcome.{Outcome}
 use Rattle.qs_base.specs.declared.identifiers.Outcome.TheVariants as outcomes
-use Rattle.qs_base.specs.declared.identifiers.Tid.{Tid}
-use Rattle.qs_engage.specs.Nodes.{all_nodes, no_nodes, same_node, has_node, joined, without, listed}
-use Rattle.qs_engage.specs.declared.nodes.Nodes.{Nodes}
-use Rattle.qs_packet.specs.declared.message.Message.{Message}
+use Rattle.qs_engage.specs.Nodes.{all_nodes, has_node}
 use Rattle.qs_packet.specs.declared.message.Message.TheVariants as messages
 use Rattle.qs_tm.specs.Manager as tm
 use Rattle.qs_tm.specs.Outcomes as outcome_rules
-use Rattle.qs_tm.specs.Outcomes.{new_names}
-use Rattle.qs_tm.specs.declared.participant.Participant.{Participant}
-use Rattle.qs_node_step.specs.Bringing.{send_each}
-use Rattle.qs_node_step.specs.State.{Work, here, part_of, with_manager}
-use Rattle.qs_node_step.specs.Step.{message_came}
-use Rattle.qs_node_step.specs.Telling.{told_unknown, told_known}
-use Rattle.qs_world_agree.specs.World.{World, Aborted}
-use Rattle.qs_world_refine.specs.Faces.{Face, ShowsFace}
-use Rattle.qs_world_refine.specs.InquiryLaws.{telling_face, NamesGoes}
-use Rattle.qs_world_refine.specs.Links.{Said, Taken_in, link, IsLink, IsTaken, node_no, names_node}
-use Rattle.qs_world_refine.specs.Messages.{all_said}
-use Rattle.qs_world_refine.specs.NodeFaces.{face, face_at}
-use Rattle.qs_world_refine.specs.Places.{place}
-use Rattle.qs_world_refine.specs.Seen.{Runs, sight_faced}
-use Rattle.qs_world_refine.specs.Shows.{Scene, sight_during, ShowsWork, handed}
-use Rattle.qs_world_refine.specs.Sights.{Sight, ShowsSight}
-use Rattle.qs_world_refine.specs.Steps.{IsAt, IsNext, Knows, Goes}
+use Rattle.qs_world_agree.specs.World.{World}
+use Rattle.qs_world_refine.specs.InquiryLaws.{NamesGoes}
+use Rattle.qs_world_refine.specs.Links.{IsTaken}
+use Rattle.qs_world_refine.specs.Steps.{Knows}
 use Rattle.qs_world_refine.specs.ToldRules.{ToldAbortGoes}
 use Rattle.qs_world_refine.proofs.Alike.{SameFace, same_itself, found_itself, sight_alike}
 use Rattle.qs_world_refine.proofs.Arrays.{node_dropped}
@@ -48,7 +27,6 @@ use Rattle.qs_world_refine.proofs.Same.{tid_same}
 use Rattle.qs_world_refine.proofs.SendGoes.{goes_on, tells_abort}
 use Rattle.qs_world_refine.proofs.StartWorlds.{nobody}
 use Rattle.qs_world_refine.proofs.TakingNames.{take_name}
-use Rattle.qs_world_agree.proofs.Carries.{leads_on}
 
 -- ---- one name after another
 
@@ -65,15 +43,11 @@ pub take_all : (tid : Tid) (n q : ℕ) (list : List NodeNo) (x : Sight) (w : Wor
     → NamesGoes tid (sight_faced x n (naming_face (x.face n) list)) w q
 take_all tid n q [] x w shown at home aborted named = record { next = w; leads = record { events = []; run = refl }; shown = seen; kept = λ k has. has }
   where
-    or_false : (b : Bool) → (b || false) ≡ b
-    or_false true = refl
-    or_false false = refl
-
     seen : ShowsSight tid (sight_faced x n (naming_face (x.face n) [])) w
     seen = sight_alike tid x (sight_faced x n (naming_face (x.face n) [])) w (record { size = refl; inc = refl; up = refl; knows = refl; face = λ k. by k (k == n) refl; said = λ a k b l. refl; unmet = λ a b. refl; found = λ k. found_itself tid (x.found k) }) shown
       where
         by : (k : ℕ) (b : Bool) → (k == n) ≡ b → SameFace (x.face k) (if b then naming_face (x.face n) [] else x.face k)
-        by k true is = rw (eqb-true k n is) (record { is_home = refl; on = refl; superior = refl; last = λ m. refl; sent = λ m. refl; covered = λ m. refl; waits = λ s. refl; uncast = λ s. refl; loans = refl; asked = refl; blocked = refl; involved = refl; told = λ m. refl; outcome = refl; tell = λ m. or_false ((x.face n).tell m) })
+        by k true is = rw (eqb-true k n is) (record { is_home = refl; on = refl; superior = refl; last = λ m. refl; sent = λ m. refl; covered = λ m. refl; waits = λ s. refl; uncast = λ s. refl; loans = refl; asked = refl; blocked = refl; involved = refl; told = λ m. refl; outcome = refl; tell = λ m. or-false ((x.face n).tell m) })
         by k false is = same_itself (x.face k)
 take_all tid n q (node ∷ list) x w shown at home aborted named =
     rest (take_all tid n q list (sight_faced x n (telling_face (x.face n) node.0)) first.next first.shown (record { in_run = at.in_run; up = at.up }) home (rw (faced_here x n (telling_face (x.face n) node.0)) refl) (λ k has. first.kept k (named k (named_more k has))))
@@ -140,17 +114,13 @@ new_among home further part k home_in has = by (k == home.0) (sym (node_dropped 
     whole : length (without (joined no_nodes further) part.tell).has ≡ 16
     whole = where_length _ all_nodes no_nodes
 
-    first : (a b : Bool) → (a && b) ≡ true → a ≡ true
-    first true b is = refl
-    first false b is = absurd (cc is)
-
     joined_names : has_node (joined no_nodes further) (node_no k) ≡ true → k < 16 → names_node further (node_no k) ≡ true
     joined_names has below = sym (joined_has further no_nodes k (λ _. below) ∙ ap (λ (b : Bool). b || names_node further (node_no k)) (nobody k)) ∙ has
 
     there : has_node (without (joined no_nodes further) part.tell) (node_no k) ≡ true → names_node further (node_no k) ≡ true
     there has =
         let below = in_run (without (joined no_nodes further) part.tell) k whole has in
-        joined_names (first (has_node (joined no_nodes further) (node_no k)) (not (has_node part.tell (node_no k))) (sym (where_is (λ node. has_node (joined no_nodes further) node && not (has_node part.tell node)) k below) ∙ has)) below
+        joined_names (and_first (has_node (joined no_nodes further) (node_no k)) (not (has_node part.tell (node_no k))) (sym (where_is (λ node. has_node (joined no_nodes further) node && not (has_node part.tell node)) k below) ∙ has)) below
 
     by : (b : Bool) → (if b then false else has_node (without (joined no_nodes further) part.tell) (node_no k)) ≡ true → names_node further (node_no k) ≡ true
     by true has = absurd (cc has)

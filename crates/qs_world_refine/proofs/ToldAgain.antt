@@ -1,30 +1,12 @@
 -- Messages about an outcome that bring nothing new: Acknowledge where commit is told again, and no event otherwise.
-use Rattle.std.proofs.Common.{◌≡◌, ◌≢◌, ◌⊎◌, inl, inr, ℕ, ◌<◌, Bool, true, false, List, [], ◌∷◌, ◌++◌, Option, Some, None, unwrap_or, refl, sym, subst, ap, ◌∙◌, arith, if◌then◌else◌}
-use Rattle.std.proofs.lemmas.Bool.Decides.{nat_tests}
-use Rattle.qs_base.specs.declared.identifiers.NodeNo.{NodeNo}
+use Rattle.qs_world_refine.proofs.Words.{◌≡◌, ◌≢◌, ◌⊎◌, inl, inr, ℕ, ◌<◌, Bool, true, false, List, [], ◌∷◌, ◌++◌, Option, Some, None, unwrap_or, refl, sym, subst, ap, ◌∙◌, arith, if◌then◌else◌, nat_tests, NodeNo, Tid, same_node, Message, new_participant, is_undecided, Participant, send, Work, here, part_of, message_came, learn, learn_unknown, names_at, names_of, take_outcome, told_at_home, told_unknown, told_known, take_names, keep_abort_told, Open, Committed, Face, Said, Outcome_told, Taken_in}
+use Rattle.qs_world_refine.proofs.Words.{link, IsLink, node_no, said, all_said, face, face_at, part_at, unknown_at_home, began_here, place, sight_faced, Scene, sight_during, ShowsWork, handed, Sight, IsAt, IsNext, Goes}
 use Rattle.qs_base.specs.declared.identifiers.Outcome.{Outcome}
 use Rattle.qs_base.specs.declared.identifiers.Outcome.TheVariants as outcomes
-use Rattle.qs_base.specs.declared.identifiers.Tid.{Tid}
-use Rattle.qs_engage.specs.Nodes.{same_node}
-use Rattle.qs_packet.specs.declared.message.Message.{Message}
 use Rattle.qs_packet.specs.declared.message.Message.TheVariants as messages
-use Rattle.qs_tm.specs.Participant.{new_participant, is_undecided}
-use Rattle.qs_tm.specs.declared.participant.Participant.{Participant}
-use Rattle.qs_node_step.specs.Bringing.{send}
-use Rattle.qs_node_step.specs.State.{Work, here, part_of}
-use Rattle.qs_node_step.specs.Step.{message_came}
-use Rattle.qs_node_step.specs.Telling.{learn, learn_unknown, names_at, names_of, take_outcome, told_at_home, told_unknown, told_known, take_names, keep_abort_told}
-use Rattle.qs_world_agree.specs.World.{World, Open, Committed}
+use Rattle.qs_world_agree.specs.World.{World}
 use Rattle.qs_world_refine.specs.AgainLaws.{IsToldCommit, TellCommitUnknownGoes, TellCommitAgainGoes, TellHomeGoes, ToldElsewhereGoes, ToldRunningGoes, ToldNobodyGoes}
-use Rattle.qs_world_refine.specs.Faces.{Face}
-use Rattle.qs_world_refine.specs.Links.{Said, Outcome_told, Taken_in, link, IsLink, node_no}
-use Rattle.qs_world_refine.specs.Messages.{said, all_said}
-use Rattle.qs_world_refine.specs.NodeFaces.{face, face_at, part_at, unknown_at_home, began_here}
-use Rattle.qs_world_refine.specs.Places.{place}
-use Rattle.qs_world_refine.specs.Seen.{AckGoes, sight_faced}
-use Rattle.qs_world_refine.specs.Shows.{Scene, sight_during, ShowsWork, handed}
-use Rattle.qs_world_refine.specs.Sights.{Sight}
-use Rattle.qs_world_refine.specs.Steps.{IsAt, IsNext, Goes}
+use Rattle.qs_world_refine.specs.Seen.{AckGoes}
 use Rattle.qs_world_refine.proofs.Alike.{same_itself}
 use Rattle.qs_world_refine.proofs.Around.{known_is, place_some}
 use Rattle.qs_world_refine.proofs.During.{quiet_itself, local_shown, face_here, runs, meets}

@@ -1,40 +1,17 @@
 -- A Told comes to the home's node, which knows the commit: Take_told; with the last one the commit is over there.
-use Rattle.std.proofs.Common.{◌≡◌, ℕ, ◌<◌, ◌==◌, ◌&&◌, not, Bool, true, false, List, Option, Some, None, unwrap_or, refl, sym, subst, ap, ◌∙◌, arith, if◌then◌else◌}
-use Rattle.std.specs.Prelude.{is_some}
-use Rattle.std.specs.BTreeMap.{is_at}
-use Rattle.std.proofs.lemmas.Bool.{eqb-true}
-use Rattle.std.proofs.lemmas.Bool.Decides.{nat_tests}
-use Rattle.qs_base.specs.Order.{tid_cmp}
-use Rattle.qs_base.specs.declared.identifiers.NodeNo.{NodeNo}
+use Rattle.qs_world_refine.proofs.Words.{◌≡◌, ℕ, ◌<◌, ◌==◌, ◌&&◌, not, Bool, true, false, List, Option, Some, None, unwrap_or, refl, sym, subst, ap, ◌∙◌, arith, if◌then◌else◌, is_some, is_at, eqb-true, nat_tests, tid_cmp, NodeNo, Tid, same_node, put_node, has_all, Message, new_participant, Participant, log, Work, here, part_of, with_manager, message_came, told_unknown, told_known, end_told, forget, Committed, IsLawful, ShowsTold, Face, node_no, all_said, face, face_at, part_at, is_past_commit}
+use Rattle.qs_world_refine.proofs.Words.{unknown_at_home, began_here, place, sight_taken, Scene, sight_during, ShowsWork, handed, Sight, in_order, IsAt, IsNext, and_last}
 use Rattle.qs_base.specs.declared.identifiers.Outcome.{Outcome}
 use Rattle.qs_base.specs.declared.identifiers.Outcome.TheVariants as outcomes
-use Rattle.qs_base.specs.declared.identifiers.Tid.{Tid}
-use Rattle.qs_engage.specs.Nodes.{same_node, has_node, put_node, has_all}
-use Rattle.qs_packet.specs.declared.message.Message.{Message}
+use Rattle.qs_engage.specs.Nodes.{has_node}
 use Rattle.qs_packet.specs.declared.message.Message.TheVariants as messages
 use Rattle.qs_record.specs.declared.record.Record.TheVariants as records
 use Rattle.qs_tm.specs.Manager as tm
 use Rattle.qs_tm.specs.Outcomes as outcome_rules
-use Rattle.qs_tm.specs.Participant.{new_participant}
-use Rattle.qs_tm.specs.declared.participant.Participant.{Participant}
-use Rattle.qs_node_step.specs.Bringing.{log}
-use Rattle.qs_node_step.specs.State.{Work, here, part_of, with_manager}
-use Rattle.qs_node_step.specs.Step.{message_came}
-use Rattle.qs_node_step.specs.Telling.{told_unknown, told_known, end_told, forget}
-use Rattle.qs_world_agree.specs.World.{World, Committed}
-use Rattle.qs_world_agree.specs.Carry.{IsLawful}
-use Rattle.qs_world_refine.specs.DecisionLaws.{ShowsTold, GoesTold, GoesEnding, KnowsCommit, IsListed, ToldCommitGoes, ToldLastGoes}
-use Rattle.qs_world_refine.specs.Faces.{Face}
-use Rattle.qs_world_refine.specs.Links.{node_no}
-use Rattle.qs_world_refine.specs.Messages.{all_said}
-use Rattle.qs_world_refine.specs.NodeFaces.{face, face_at, part_at, is_past_commit, unknown_at_home, began_here}
-use Rattle.qs_world_refine.specs.Places.{place}
+use Rattle.qs_world_agree.specs.World.{World}
+use Rattle.qs_world_refine.specs.DecisionLaws.{GoesTold, GoesEnding, KnowsCommit, IsListed, ToldCommitGoes, ToldLastGoes}
 use Rattle.qs_world_refine.specs.SeenOutcome.{ToldGoes}
-use Rattle.qs_world_refine.specs.Seen.{sight_taken}
-use Rattle.qs_world_refine.specs.Shows.{Scene, sight_during, ShowsWork, handed}
-use Rattle.qs_world_refine.specs.Sights.{Sight, with_at4}
-use Rattle.qs_world_refine.specs.Sound.{in_order}
-use Rattle.qs_world_refine.specs.Steps.{IsAt, IsNext}
+use Rattle.qs_world_refine.specs.Sights.{with_at4}
 use Rattle.qs_world_refine.proofs.Alike.{SameFace, same_itself, found_itself}
 use Rattle.qs_world_refine.proofs.Arrays.{node_put}
 use Rattle.qs_world_refine.proofs.During.{Quiet, forced_log, recovery_same, face_here, runs, meets}
@@ -130,11 +107,7 @@ module _ (tid : Tid) (scene : Scene) (m i : ℕ) (further : List NodeNo) (rest :
     all_here = sym (told_is tid false (λ part. outcome_rules.is_all_told (outcome_rules.acknowledged (node_no m) part)) work.node.manager part knows.knows.known) ∙ all
 
     has_each : (k : ℕ) → has_node part.tell (node_no k) ≡ true → turn.next.acknowledged k ≡ true
-    has_each k tells = acked k (has_all_of done.acknowledged done.tell k knows.knows.whole.tell (second (done.log.listed) (has_all done.acknowledged done.tell) all_here) tells)
-      where
-        second : (a b : Bool) → (a && b) ≡ true → b ≡ true
-        second true b is = is
-        second false b is = absurd (cc is)
+    has_each k tells = acked k (has_all_of done.acknowledged done.tell k knows.knows.whole.tell (and_last (done.log.listed) (has_all done.acknowledged done.tell) all_here) tells)
 
     all_told : (k : ℕ) → turn.next.commit_list k ≡ true → turn.next.acknowledged k ≡ true
     all_told k names = has_each k (listed.named k (sym ((turn.shown.logs h at.in_run).named refl ((turn.shown.logs h at.in_run).unended refl ∙ listed.stands) k) ∙ names))

@@ -1,35 +1,15 @@
 -- A Told comes, and what stood of its transaction stands.
-use Rattle.std.proofs.Common.{◌≡◌, ◌≢◌, ℕ, ◌==◌, Bool, true, false, List, Option, Some, None, is_some, refl, sym, subst, ap, ◌∙◌, arith, if◌then◌else◌}
-use Rattle.std.specs.BTreeMap.{is_at}
-use Rattle.std.specs.List.{list_any}
-use Rattle.std.proofs.lemmas.Bool.Decides.{nat_tests}
-use Rattle.qs_base.specs.Order.{tid_cmp}
-use Rattle.qs_base.specs.declared.identifiers.NodeNo.{NodeNo}
+use Rattle.qs_world_refine.proofs.Words.{◌≡◌, ℕ, ◌==◌, Bool, true, false, List, Option, Some, None, is_some, refl, sym, subst, ap, ◌∙◌, arith, if◌then◌else◌, is_at, list_any, nat_tests, tid_cmp, NodeNo, Tid, same_node, listed, Message, aborted_participant, Participant, log, Work, part_of, with_manager, message_came, end_told, is_other_node, keep_abort_told, take_names, told_at_home, told_known, told_unknown, ShowsTold, node_no, Scene, handed, same_flag, StaysSound, FitsMessage, may_doubt, Stands}
+use Rattle.qs_world_refine.proofs.Words.{GoesOn, IsNext, Goes, TakesTold, ne_eqb}
 use Rattle.qs_base.specs.declared.identifiers.Outcome.{Outcome}
 use Rattle.qs_base.specs.declared.identifiers.Outcome.TheVariants as outcomes
-use Rattle.qs_base.specs.declared.identifiers.Tid.{Tid}
-use Rattle.qs_engage.specs.Nodes.{same_node, listed}
-use Rattle.qs_packet.specs.declared.message.Message.{Message}
 use Rattle.qs_packet.specs.declared.message.Message.TheVariants as messages
 use Rattle.qs_record.specs.declared.record.Record.TheVariants as records
 use Rattle.qs_tm.specs.Manager as tm
 use Rattle.qs_tm.specs.Outcomes as outcome_rules
-use Rattle.qs_tm.specs.Outcomes.{aborted_participant}
-use Rattle.qs_tm.specs.declared.participant.Participant.{Participant}
-use Rattle.qs_node_step.specs.Bringing.{log}
-use Rattle.qs_node_step.specs.State.{Work, part_of, with_manager}
-use Rattle.qs_node_step.specs.Step.{message_came}
-use Rattle.qs_node_step.specs.Telling.{end_told, is_other_node, keep_abort_told, take_names, told_at_home, told_known, told_unknown}
 use Rattle.qs_world_agree.specs.World.{World}
-use Rattle.qs_world_refine.specs.DecisionLaws.{ShowsTold, GoesTold, GoesEnding}
-use Rattle.qs_world_refine.specs.Links.{node_no}
-use Rattle.qs_world_refine.specs.Shows.{Scene, handed}
-use Rattle.qs_world_refine.specs.Sound.{same_flag}
-use Rattle.qs_world_refine.specs.SoundLaws.{StaysSound}
-use Rattle.qs_world_refine.specs.SoundSteps.{FitsMessage}
-use Rattle.qs_world_refine.specs.Stands.{may_doubt, Stands, GoesOn}
-use Rattle.qs_world_refine.specs.Steps.{IsNext, Goes}
-use Rattle.qs_world_refine.specs.ToldWhole.{TakesTold, ToldStands, ToldAwayStands}
+use Rattle.qs_world_refine.specs.DecisionLaws.{GoesTold, GoesEnding}
+use Rattle.qs_world_refine.specs.ToldWhole.{ToldStands, ToldAwayStands}
 use Rattle.qs_world_refine.proofs.DecidedStands.{KeepsOutcome, KeepOutcomes, outcome_on, outcome_sends}
 use Rattle.qs_world_refine.proofs.During.{Leaves}
 use Rattle.qs_world_refine.proofs.Forgetting.{forgotten, order_changed}
@@ -48,6 +28,7 @@ use Rattle.qs_world_refine.proofs.ToldAbort.{told_abort}
 use Rattle.qs_world_refine.proofs.ToldAgain.{told_elsewhere, told_nobody, told_running}
 use Rattle.qs_world_refine.proofs.ToldCame.{told_commit, told_last}
 use Rattle.qs_world_refine.proofs.ToldUnknown.{told_unknown_goes}
+use Rattle.std.proofs.lemmas.Option.{none-some}
 
 -- ---- it changes nothing
 
@@ -69,11 +50,8 @@ module _ (t : Tid) (scene : Scene) (n m i : ℕ) (further : List NodeNo) (rest :
 pub told_away_stands : ToldAwayStands
 told_away_stands t scene n m i further rest work w next fits elsewhere is =
     same_stands t scene n m i further rest work w next fits is
-    (ap (λ (b : Bool). if b then told_at_home (node_no m) t further work else work) (ap (λ (k : NodeNo). same_node t.home k) is.at.node ∙ differs t.home.0 n elsewhere))
+    (ap (λ (b : Bool). if b then told_at_home (node_no m) t further work else work) (ap (λ (k : NodeNo). same_node t.home k) is.at.node ∙ ne_eqb t.home.0 n elsewhere))
     (told_elsewhere t scene n m i further rest work w is.shown is.at next elsewhere)
-  where
-    differs : (a b : ℕ) → a ≢ b → (a == b) ≡ false
-    differs a b off = grind (arith, nat_tests, off)
 
 -- ---- at the home's node
 
@@ -173,10 +151,7 @@ module _ (t : Tid) (scene : Scene) (m i : ℕ) (further : List NodeNo) (rest : L
           clears so s = absurd (cc (sym here ∙ (sym (ap (may_doubt (t.home.0 == t.home.0)) none) ∙ so)))
 
           answers : Answers t scene t.home.0 (message_came (node_no m) (messages.Told t further) work)
-          answers p k its has = absurd (never p (sym none ∙ its))
-            where
-              never : (p : Participant) → None ≡ Some p → ⊥
-              never p e = cc e
+          answers p k its has = absurd (none-some p (sym none ∙ its))
 
       told : GoesOn t (handed scene m i t.home.0 rest) t.home.0 (message_came (node_no m) (messages.Told t further) work) w
       told = by (tm.all_acknowledged t (node_no m) work.node.manager) refl
@@ -208,11 +183,8 @@ module _ (t : Tid) (scene : Scene) (m i : ℕ) (further : List NodeNo) (rest : L
     others : list_any (is_other_node t) further ≡ true → GoesOn t (handed scene m i t.home.0 rest) t.home.0 (message_came (node_no m) (messages.Told t further) work) w
     others some = decided_after t scene t.home.0 m i rest work (message_came (node_no m) (messages.Told t further) work) w is
         (told_unknown_goes t scene m i further rest work w is.lawful is.shown is.at next (manager_fits t scene t.home.0 work w is) none some (takes.earlier none some)) its_left its_sound its_kinds
-        now.next (ap (λ (k : Work). part_of t k) (unknown_is true some) ∙ now.known) (ap is_some now.outcome) (λ k has. absurd (never (node_no k) (now.superior (node_no k) has)))
+        now.next (ap (λ (k : Work). part_of t k) (unknown_is true some) ∙ now.known) (ap is_some now.outcome) (λ k has. absurd (none-some (node_no k) (now.superior (node_no k) has)))
       where
-        never : (k : NodeNo) → None ≡ Some k → ⊥
-        never k e = cc e
-
         kept : tm.part_of t (tm.keep_abort t work.node.manager) ≡ Some (aborted_participant (tm.is_home t work.node.manager))
         kept = ap (λ (b : Bool). tm.part_of t (if b then work.node.manager else tm.put_part t (aborted_participant (tm.is_home t work.node.manager)) work.node.manager)) (ap is_some none)
             ∙ lookup_put tid_cmp t (aborted_participant (tm.is_home t work.node.manager)) (tid_itself t) work.node.manager.known

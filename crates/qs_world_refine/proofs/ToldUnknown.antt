@@ -1,38 +1,15 @@
 -- A Told that names others comes to a later incarnation of the home's node, which knows nothing of the transaction: Take_names for each name, then Tell_abort for each.
-use Rattle.std.proofs.Common.{◌≡◌, ◌≢◌, ◌⊎◌, inl, inr, ℕ, ◌<◌, ◌==◌, ◌&&◌, ◌||◌, Bool, true, false, List, [], ◌∷◌, Option, Some, None, length, refl, sym, subst, ap, ◌∙◌, arith, if◌then◌else◌}
-use Rattle.std.specs.List.{list_any}
-use Rattle.std.specs.BTreeMap.{is_at}
-use Rattle.std.proofs.lemmas.Bool.{eqb-true}
-use Rattle.std.proofs.lemmas.Bool.Decides.{nat_tests}
-use Rattle.std.proofs.lemmas.List.{length-set}
-use Rattle.qs_base.specs.Order.{tid_cmp}
-use Rattle.qs_base.specs.declared.identifiers.NodeNo.{NodeNo}
+use Rattle.qs_world_refine.proofs.Words.{◌≡◌, ◌≢◌, ◌⊎◌, inl, inr, ℕ, ◌<◌, ◌==◌, ◌&&◌, ◌||◌, Bool, true, false, List, [], ◌∷◌, Option, Some, None, length, refl, sym, subst, ap, ◌∙◌, arith, if◌then◌else◌, list_any, is_at, eqb-true, or_right, nat_tests, length-set, tid_cmp, NodeNo, Tid, no_nodes, same_node, joined, without, listed, Message, new_names, aborted_participant, Participant, send_each, Work, here, part_of, with_manager, message_came, told_unknown, told_known, told_at_home, keep_abort_told}
+use Rattle.qs_world_refine.proofs.Words.{is_other_node, take_names, Open, Committed, Aborted, IsLawful, Face, ShowsFace, telling_face, Taken_in, link, IsLink, node_no, names_node, all_said, face, face_at, unknown_at_home, began_here, is_past_commit, place, sight_faced, Scene, sight_during, ShowsWork, handed, Sight, ShowsSight, IsAt, IsNext, Goes, leads_on, and_false}
 use Rattle.qs_base.specs.declared.identifiers.Outcome.TheVariants as outcomes
-use Rattle.qs_base.specs.declared.identifiers.Tid.{Tid}
-use Rattle.qs_engage.specs.Nodes.{all_nodes, no_nodes, same_node, has_node, joined, without, listed}
-use Rattle.qs_packet.specs.declared.message.Message.{Message}
+use Rattle.qs_engage.specs.Nodes.{all_nodes, has_node}
 use Rattle.qs_packet.specs.declared.message.Message.TheVariants as messages
 use Rattle.qs_tm.specs.Manager as tm
 use Rattle.qs_tm.specs.Outcomes as outcome_rules
-use Rattle.qs_tm.specs.Outcomes.{new_names, aborted_participant}
-use Rattle.qs_tm.specs.declared.participant.Participant.{Participant}
-use Rattle.qs_node_step.specs.Bringing.{send_each}
-use Rattle.qs_node_step.specs.State.{Work, here, part_of, with_manager}
-use Rattle.qs_node_step.specs.Step.{message_came}
-use Rattle.qs_node_step.specs.Telling.{told_unknown, told_known, told_at_home, keep_abort_told, is_other_node, take_names}
-use Rattle.qs_world_agree.specs.World.{World, Open, Committed, Aborted}
+use Rattle.qs_world_agree.specs.World.{World}
 use Rattle.qs_world_agree.specs.World as machine
-use Rattle.qs_world_agree.specs.Carry.{IsLawful}
-use Rattle.qs_world_refine.specs.Faces.{Face, ShowsFace}
-use Rattle.qs_world_refine.specs.InquiryLaws.{telling_face, NamesGoes}
-use Rattle.qs_world_refine.specs.Links.{Taken_in, link, is_aborted, IsLink, IsTaken, node_no, names_node}
-use Rattle.qs_world_refine.specs.Messages.{all_said}
-use Rattle.qs_world_refine.specs.NodeFaces.{face, face_at, unknown_at_home, began_here, is_past_commit}
-use Rattle.qs_world_refine.specs.Places.{place}
-use Rattle.qs_world_refine.specs.Seen.{sight_faced}
-use Rattle.qs_world_refine.specs.Shows.{Scene, sight_during, ShowsWork, handed}
-use Rattle.qs_world_refine.specs.Sights.{Sight, ShowsSight}
-use Rattle.qs_world_refine.specs.Steps.{IsAt, IsNext, Goes}
+use Rattle.qs_world_refine.specs.InquiryLaws.{NamesGoes}
+use Rattle.qs_world_refine.specs.Links.{is_aborted, IsTaken}
 use Rattle.qs_world_refine.specs.ToldRules.{ToldUnknownGoes}
 use Rattle.qs_world_refine.proofs.Alike.{SameFace, same_itself, found_itself, sight_alike}
 use Rattle.qs_world_refine.proofs.Arrays.{node_put}
@@ -51,7 +28,6 @@ use Rattle.qs_world_refine.proofs.StartWorlds.{nobody}
 use Rattle.qs_world_refine.proofs.TakingNames.{take_name}
 use Rattle.qs_world_refine.proofs.ToldAbort.{naming_face, faced_here, take_all, new_among}
 use Rattle.qs_world_refine.proofs.ToldAgain.{first_link, handed_on, says_told}
-use Rattle.qs_world_agree.proofs.Carries.{leads_on}
 
 -- the later of two faces counts
 faced_twice : (tid : Tid) (y : Sight) (n : ℕ) (f g : Face) (w : World) → ShowsSight tid (sight_faced (sight_faced y n f) n g) w → ShowsSight tid (sight_faced y n g) w
@@ -120,11 +96,7 @@ module _ (tid : Tid) (scene : Scene) (m i : ℕ) (further : List NodeNo) (rest :
   not_here = by (tid.inc == work.node.setting.inc) (rw at.inc (grind (arith, nat_tests, later_inc)))
     where
       by : (b : Bool) → b ≡ false → (same_node tid.home work.node.setting.node && b) ≡ false
-      by b is = rw is (off (same_node tid.home work.node.setting.node))
-        where
-          off : (a : Bool) → (a && false) ≡ false
-          off true = refl
-          off false = refl
+      by b is = rw is (and_false (same_node tid.home work.node.setting.node))
 
   face_before : y.face h ≡ face work.node tid (unknown_at_home work.node tid)
   face_before = face_here tid later h work ∙ ap (λ (p : Participant). face work.node tid p) (home_unknown tid work home none)
@@ -219,13 +191,9 @@ module _ (tid : Tid) (scene : Scene) (m i : ℕ) (further : List NodeNo) (rest :
           tells : (k : ℕ) → has_node new_part.tell (node_no k) ≡ true → (second.next.to_tell (place h (scene.inc h)) k ≡ true) ⊎ (second.next.tell_abort k ≡ true)
           tells k has = by (among k has)
             where
-              or_true : (b c : Bool) → c ≡ true → (b || c) ≡ true
-              or_true true c is = refl
-              or_true false c is = is
-
               by : (k ≡ m) ⊎ (names_node further (node_no k) ≡ true) → (second.next.to_tell (place h (scene.inc h)) k ≡ true) ⊎ (second.next.tell_abort k ≡ true)
               by (inl is) = inr (ap second.next.tell_abort is ∙ sender_told)
-              by (inr named) = now.tell refl k (or_true ((telling_face (face work.node tid (unknown_at_home work.node tid)) (somebody tid further others).node).tell k) (names_node further (node_no k)) named)
+              by (inr named) = now.tell refl k (or_right ((telling_face (face work.node tid (unknown_at_home work.node tid)) (somebody tid further others).node).tell k) (names_node further (node_no k)) named)
 
   tells_new : (k : ℕ) → names_node (listed (new_names tid.home further told_part)) (node_no k) ≡ true → (face_at taken.node tid).tell k ≡ true
   tells_new k has = face_taken.tell k ∙ (union_has k (in_run (new_names tid.home further told_part) k new_whole fresh_has) ∙ by (has_node told_part.tell (node_no k)))

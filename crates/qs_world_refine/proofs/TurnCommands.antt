@@ -1,44 +1,15 @@
 -- What clients command leaves the records of a transaction in turn.
-use Rattle.std.proofs.Common.{◌≡◌, ℕ, ◌+◌, ◌||◌, Bool, true, false, List, [], ◌∷◌, ◌++◌, Option, Some, None, refl, sym, subst, ◌∙◌}
-use Rattle.std.specs.List.{list_any}
-use Rattle.qs_base.specs.Order.{same_tid}
-use Rattle.qs_base.specs.declared.identifiers.ClientNo.{ClientNo}
-use Rattle.qs_base.specs.declared.identifiers.Member.{Member}
+use Rattle.qs_world_refine.proofs.Words.{◌≡◌, ℕ, ◌+◌, ◌||◌, Bool, true, false, List, [], ◌∷◌, ◌++◌, Option, Some, None, refl, sym, subst, ◌∙◌, list_any, same_tid, ClientNo, Member, Tid, no_nodes, Nodes, Command, ScriptLine, first_untaken, last_taken, take_first, give_back, Decided, Lent, Op, Record, is_one, begun_participant, BeginFault, Participant, kept_outcome, is_void, take, take_command, yield, lent_command, with_loan, loan_command, borrower_command, begin_as, begin_or_refuse, begin_command}
+use Rattle.qs_world_refine.proofs.Words.{request_as, request_command, with_issued, enter_ask, ask, open_command, decided_answer, owner_command, enter, decide, next_number, label_at, put_label, Work, part_of, with_manager, is_owner, labelled, obey, with_command, command_came, Issued, is_loose_of, node_no, begun, or_left, or_right}
 use Rattle.qs_base.specs.declared.identifiers.Outcome.TheVariants as outcomes
-use Rattle.qs_base.specs.declared.identifiers.Tid.{Tid}
-use Rattle.qs_engage.specs.Nodes.{has_node, no_nodes}
-use Rattle.qs_engage.specs.declared.nodes.Nodes.{Nodes}
-use Rattle.qs_book_journal.specs.declared.script_line.Command.{Command}
+use Rattle.qs_engage.specs.Nodes.{has_node}
 use Rattle.qs_book_journal.specs.declared.script_line.Command.TheVariants as commands
-use Rattle.qs_book_journal.specs.declared.script_line.ScriptLine.{ScriptLine}
-use Rattle.qs_node_kept.specs.Loans.{first_untaken, last_taken, take_first, give_back}
 use Rattle.qs_node_kept.specs.declared.kept.KeptLabel.{KeptLabel}
-use Rattle.qs_node_kept.specs.declared.kept.Decided.{Decided}
-use Rattle.qs_node_kept.specs.declared.kept.Lent.{Lent}
 use Rattle.qs_ops.specs.declared.answer.Answer.TheVariants as answers
 use Rattle.qs_ops.specs.declared.answer.Cause.TheVariants as causes
-use Rattle.qs_ops.specs.declared.operation.Op.{Op}
-use Rattle.qs_record.specs.declared.record.Record.{Record}
 use Rattle.qs_record.specs.declared.record.Record.TheVariants as records
 use Rattle.qs_tm.specs.Manager as tm
-use Rattle.qs_tm.specs.Manager.{is_one}
-use Rattle.qs_tm.specs.Participant.{begun_participant}
-use Rattle.qs_tm.specs.declared.manager.BeginFault.{BeginFault}
 use Rattle.qs_tm.specs.declared.manager.BeginFault.TheVariants as faults
-use Rattle.qs_tm.specs.declared.participant.Participant.{Participant}
-use Rattle.qs_node_step.specs.Answering.{kept_outcome}
-use Rattle.qs_node_step.specs.Borrowing.{is_void, take, take_command, yield, lent_command, with_loan, loan_command, borrower_command}
-use Rattle.qs_node_step.specs.Commands.{begin_as, begin_or_refuse, begin_command, request_as, request_command, with_issued, enter_ask, ask, open_command, decided_answer, owner_command}
-use Rattle.qs_node_step.specs.Bringing.{enter}
-use Rattle.qs_node_step.specs.Deciding.{decide}
-use Rattle.qs_node_step.specs.Requests.{next_number}
-use Rattle.qs_node_step.specs.Serving.{label_at, put_label}
-use Rattle.qs_node_step.specs.State.{Work, part_of, with_manager}
-use Rattle.qs_node_step.specs.Step.{is_owner, labelled, obey, with_command, command_came}
-use Rattle.qs_node_step.specs.declared.state.Issued.{Issued}
-use Rattle.qs_world_refine.specs.JoinLaws.{is_loose_of}
-use Rattle.qs_world_refine.specs.Links.{node_no}
-use Rattle.qs_world_refine.specs.SoundSteps.{begun}
 use Rattle.qs_world_refine.proofs.TurnOn.{Case, fate_at, became, same_acks, open_apart, is_aborted_of, is_end_of, Turned, TurnedAs, TurnsOn, NoLoose, on_itself, on_then, if_on, rest_on, enter_on, answer_on, kept_on, doings_on}
 use Rattle.qs_world_refine.proofs.TurnRecords.{nobody, put_on}
 use Rattle.qs_world_refine.proofs.TurnOutcomes.{IsOpenAt, decide_on}
@@ -61,16 +32,9 @@ pub any_wider : {A : Type 0} (p q : A → Bool) → ((x : A) → p x ≡ true �
 any_wider p q each [] is = is
 any_wider p q each (x ∷ xs) is = by (p x) refl is (any_wider p q each xs)
   where
-    first : (a b : Bool) → a ≡ true → (a || b) ≡ true
-    first a b so = rw so refl
-
-    last : (a b : Bool) → b ≡ true → (a || b) ≡ true
-    last true b so = refl
-    last false b so = so
-
     by : (b : Bool) → p x ≡ b → (b || list_any p xs) ≡ true → (list_any p xs ≡ true → list_any q xs ≡ true) → (q x || list_any q xs) ≡ true
-    by true its has more = first (q x) (list_any q xs) (each x its)
-    by false its has more = last (q x) (list_any q xs) (more has)
+    by true its has more = or_left (q x) (list_any q xs) (each x its)
+    by false its has more = or_right (q x) (list_any q xs) (more has)
 
 -- ---- what clients command
 

@@ -1,43 +1,21 @@
 -- Messages, time and whole steps leave the records of a transaction in turn.
-use Rattle.std.proofs.Common.{◌≡◌, ℕ, ◌&&◌, Bool, true, false, List, [], ◌∷◌, fold, Option, Some, None, is_none, refl, sym, subst, if◌then◌else◌}
-use Rattle.std.specs.List.{list_all}
-use Rattle.std.specs.Map.{lookup}
-use Rattle.std.specs.BTreeMap.{is_at}
-use Rattle.qs_base.specs.declared.identifiers.ClientNo.{ClientNo}
-use Rattle.qs_base.specs.declared.identifiers.NodeNo.{NodeNo}
+use Rattle.qs_world_refine.proofs.Words.{◌≡◌, ℕ, ◌&&◌, Bool, true, false, List, [], ◌∷◌, fold, Option, Some, None, refl, sym, subst, if◌then◌else◌, list_all, lookup, is_at, ClientNo, NodeNo, Tid, Command, Decided, ticked, Message, timers_no, is_one, is_undecided, Which, Participant, kept_outcome, decided_answer, enter, label_at, NodeValue, Work, work_on, with_manager, change_server, client_cmp, is_owner, message_came, abort_old, age_rule, tick, happen, step_work, owner_waits, borrower_waits}
+use Rattle.qs_world_refine.proofs.Words.{wait_command, wait_on, waiting_clients, answer_waiting, Issued, OpenCommand, in_order, where_so, is_sound, MayHappen, begun, none_is}
 use Rattle.qs_base.specs.declared.identifiers.Outcome.{Outcome}
 use Rattle.qs_base.specs.declared.identifiers.Outcome.TheVariants as outcomes
-use Rattle.qs_base.specs.declared.identifiers.Tid.{Tid}
 use Rattle.qs_book_journal.specs.declared.entry.Act.TheVariants as acts
-use Rattle.qs_book_journal.specs.declared.script_line.Command.{Command}
 use Rattle.qs_book_journal.specs.declared.script_line.Command.TheVariants as commands
 use Rattle.qs_node_kept.specs.declared.kept.KeptLabel.{KeptLabel}
-use Rattle.qs_node_kept.specs.declared.kept.Decided.{Decided}
-use Rattle.qs_ops.specs.Timers.{ticked}
 use Rattle.qs_ops.specs.declared.answer.Answer.TheVariants as answers
 use Rattle.qs_ops.specs.declared.answer.Cause.TheVariants as causes
-use Rattle.qs_packet.specs.declared.message.Message.{Message}
 use Rattle.qs_packet.specs.declared.message.Message.TheVariants as messages
-use Rattle.qs_node_servers.specs.Servers.{timers_no}
 use Rattle.qs_tm.specs.Manager as tm
-use Rattle.qs_tm.specs.Manager.{is_one}
-use Rattle.qs_tm.specs.Participant.{is_undecided}
-use Rattle.qs_tm.specs.declared.manager.Which.{Which}
 use Rattle.qs_tm.specs.declared.manager.Which.TheVariants as whiches
-use Rattle.qs_tm.specs.declared.participant.Participant.{Participant}
-use Rattle.qs_node_step.specs.Answering.{kept_outcome}
 use Rattle.qs_node_step.specs.Borrowing.{is_aborted}
-use Rattle.qs_node_step.specs.Commands.{decided_answer}
-use Rattle.qs_node_step.specs.Bringing.{enter}
-use Rattle.qs_node_step.specs.Serving.{label_at}
-use Rattle.qs_node_step.specs.State.{NodeValue, Work, work_on, with_manager, change_server, client_cmp}
-use Rattle.qs_node_step.specs.Step.{is_owner, message_came, abort_old, age_rule, tick, happen, step_work, owner_waits, borrower_waits, waits_at, wait_command, wait_on, waiting_clients, answer_waiting}
+use Rattle.qs_node_step.specs.Step.{waits_at}
 use Rattle.qs_node_step.specs.declared.event.Event.{Event}
 use Rattle.qs_node_step.specs.declared.event.Event.TheVariants as events
-use Rattle.qs_node_step.specs.declared.state.Issued.{Issued}
-use Rattle.qs_node_step.specs.declared.state.OpenCommand.{OpenCommand}
-use Rattle.qs_world_refine.specs.Sound.{in_order, where_so, is_sound}
-use Rattle.qs_world_refine.specs.SoundSteps.{MayHappen, begun, settled}
+use Rattle.qs_world_refine.specs.SoundSteps.{settled}
 use Rattle.qs_world_refine.proofs.TurnOn.{Case, TurnsOn, on_itself, on_then, fold_on, if_on, rest_on, answer_on}
 use Rattle.qs_world_refine.proofs.TurnRecords.{MayTake}
 use Rattle.qs_world_refine.proofs.TurnOutcomes.{IsOpenAt, decide_on, tell_came_on}
@@ -78,10 +56,6 @@ message_came_on {k} peer (messages.Inquire tid) work ordered may = inquiry_came_
 one_old_on : {k : Case} (age : ℕ) (tid : Tid) (work : Work) → is_open_at work tid ≡ true → TurnsOn k work (abort_old age work tid)
 one_old_on {k} age tid work opened = decide_on tid outcomes.Abort (Some (causes.Old age)) work (λ same. undecided) (λ same away commit. absurd (cc (commit))) (λ commit. absurd (cc (commit)))
   where
-    none_is : (o : Option Outcome) → is_none o ≡ true → o ≡ None
-    none_is None is = refl
-    none_is (Some outcome) is = absurd (cc (is))
-
     undecided : IsOpenAt tid work
     undecided part known = none_is part.outcome (and_both part.engage.home (is_undecided part) (told_part is_home_open tid work.node.manager part known opened)).1
 

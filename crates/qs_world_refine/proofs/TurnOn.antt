@@ -1,36 +1,12 @@
 -- In a step no record of a transaction that must be forced comes behind one that need not: once one of these stands the node has decided; and what the node keeps as committed it knows as such. Pieces of a step keep to that, one after another.
-use Rattle.std.proofs.Common.{◌≡◌, ◌⊎◌, ℕ, ◌&&◌, ◌||◌, Bool, true, false, List, [], ◌∷◌, ◌++◌, fold, Option, Some, None, refl, sym, ap, subst, ◌∙◌, if◌then◌else◌}
-use Rattle.std.specs.Map.{lookup}
-use Rattle.std.specs.BTreeMap.{is_at}
-use Rattle.std.specs.List.{list_any, find}
-use Rattle.qs_base.specs.Order.{same_tid, tid_cmp}
-use Rattle.qs_base.specs.declared.identifiers.ClientNo.{ClientNo}
-use Rattle.qs_base.specs.declared.identifiers.NodeNo.{NodeNo}
+use Rattle.qs_world_refine.proofs.Words.{◌≡◌, ◌⊎◌, ℕ, ◌||◌, Bool, true, false, List, [], ◌∷◌, ◌++◌, fold, Option, Some, None, refl, sym, ap, subst, ◌∙◌, if◌then◌else◌, lookup, is_at, list_any, find, same_tid, tid_cmp, ClientNo, NodeNo, ServerNo, Tid, same_node, Nodes, IpcValue, is_outcome_of, Decided, Kept, ServerValue, Answer, Message, Record, Participant, was_committed, is_kept_commit, enter, send, send_next, send_each, answer, is_other, NodeValue, Work, with_manager, with_queues, with_kept}
+use Rattle.qs_world_refine.proofs.Words.{with_doings, change_server, client_cmp, Doings, OpenCommand, is_loose_of, are_in_turn, node_no, same_Some, and_false, or_first, or_last, or_from}
 use Rattle.qs_base.specs.declared.identifiers.Outcome.{Outcome}
 use Rattle.qs_base.specs.declared.identifiers.Outcome.TheVariants as outcomes
-use Rattle.qs_base.specs.declared.identifiers.ServerNo.{ServerNo}
-use Rattle.qs_base.specs.declared.identifiers.Tid.{Tid}
-use Rattle.qs_engage.specs.Nodes.{same_node, has_node}
-use Rattle.qs_engage.specs.declared.nodes.Nodes.{Nodes}
-use Rattle.qs_ipc.specs.Ipc.{IpcValue}
+use Rattle.qs_engage.specs.Nodes.{has_node}
 use Rattle.qs_book_journal.specs.declared.entry.Act.{Act}
-use Rattle.qs_node_kept.specs.Keeping.{is_outcome_of}
-use Rattle.qs_node_kept.specs.declared.kept.Decided.{Decided}
-use Rattle.qs_node_kept.specs.declared.kept.Kept.{Kept}
-use Rattle.qs_ops.specs.Server.{ServerValue}
-use Rattle.qs_ops.specs.declared.answer.Answer.{Answer}
-use Rattle.qs_packet.specs.declared.message.Message.{Message}
-use Rattle.qs_record.specs.declared.record.Record.{Record}
 use Rattle.qs_record.specs.declared.record.Record.TheVariants as records
 use Rattle.qs_tm.specs.Manager as tm
-use Rattle.qs_tm.specs.declared.participant.Participant.{Participant}
-use Rattle.qs_node_step.specs.Answering.{was_committed, is_kept_commit}
-use Rattle.qs_node_step.specs.Bringing.{enter, send, send_next, send_each, answer, is_other}
-use Rattle.qs_node_step.specs.State.{NodeValue, Work, with_manager, with_queues, with_kept, with_doings, change_server, client_cmp}
-use Rattle.qs_node_step.specs.declared.state.Doings.{Doings}
-use Rattle.qs_node_step.specs.declared.state.OpenCommand.{OpenCommand}
-use Rattle.qs_world_refine.specs.JoinLaws.{is_loose_of, are_in_turn}
-use Rattle.qs_world_refine.specs.Links.{node_no}
 use Rattle.qs_world_refine.proofs.Frames.{part_apart}
 use Rattle.qs_world_refine.proofs.SaysOn.{told_changed}
 
@@ -50,16 +26,10 @@ abbrev pub became : Option Outcome → Nodes → Option Fate
 became o acks = Some (o, acks)
 
 pub same_outcome : (o u : Option Outcome) (a b : Nodes) → became o a ≡ became u b → o ≡ u
-same_outcome o u a b same = ap (λ (f : Fate). f.0) (whole (o, a) (u, b) same)
-  where
-    whole : (f g : Fate) → Some f ≡ Some g → f ≡ g
-    whole f g is = cc (is)
+same_outcome o u a b same = ap (λ (f : Fate). f.0) (same_Some (o, a) (u, b) same)
 
 pub same_acks : (o u : Option Outcome) (a b : Nodes) → became o a ≡ became u b → a ≡ b
-same_acks o u a b same = ap (λ (f : Fate). f.1) (whole (o, a) (u, b) same)
-  where
-    whole : (f g : Fate) → Some f ≡ Some g → f ≡ g
-    whole f g is = cc (is)
+same_acks o u a b same = ap (λ (f : Fate). f.1) (same_Some (o, a) (u, b) same)
 
 -- an outcome is not another one, nor none
 pub open_apart : (outcome : Outcome) (a b : Nodes) → became (Some outcome) a ≡ became None b → ⊥
@@ -238,33 +208,14 @@ abbrev pub NoLoose : Case → List Record → Type 0
 NoLoose k more = list_any (is_loose_of k.tid) (k.before ++ more) ≡ false
 
 loose_is : (t : Tid) (rec : Record) → is_aborted_of t rec ≡ false → is_end_of t rec ≡ false → is_loose_of t rec ≡ false
-loose_is t (records.Prepare other server covers changes) a e = none (same_tid t other)
-  where
-    none : (b : Bool) → (b && false) ≡ false
-    none true = refl
-    none false = refl
-loose_is t (records.Commit other told) a e = none (same_tid t other)
-  where
-    none : (b : Bool) → (b && false) ≡ false
-    none true = refl
-    none false = refl
+loose_is t (records.Prepare other server covers changes) a e = and_false (same_tid t other)
+loose_is t (records.Commit other told) a e = and_false (same_tid t other)
 loose_is t (records.Aborted other) a e = rw a refl
 loose_is t (records.End other) a e = rw e refl
 
 pub none_loose : (t : Tid) (rs : List Record) → list_any (is_aborted_of t) rs ≡ false → list_any (is_end_of t) rs ≡ false → list_any (is_loose_of t) rs ≡ false
 none_loose t [] a e = refl
-none_loose t (r ∷ rs) a e = neither (is_loose_of t r) (list_any (is_loose_of t) rs) (loose_is t r (first (is_aborted_of t r) _ a) (first (is_end_of t r) _ e)) (none_loose t rs (last (is_aborted_of t r) _ a) (last (is_end_of t r) _ e))
-  where
-    first : (a b : Bool) → (a || b) ≡ false → a ≡ false
-    first true b is = absurd (cc (is))
-    first false b is = refl
-
-    last : (a b : Bool) → (a || b) ≡ false → b ≡ false
-    last true b is = absurd (cc (is))
-    last false b is = is
-
-    neither : (a b : Bool) → a ≡ false → b ≡ false → (a || b) ≡ false
-    neither a b x y = rw (x, y) refl
+none_loose t (r ∷ rs) a e = or_from (is_loose_of t r) (list_any (is_loose_of t) rs) (loose_is t r (or_first (is_aborted_of t r) _ a) (or_first (is_end_of t r) _ e)) (none_loose t rs (or_last (is_aborted_of t r) _ a) (or_last (is_end_of t r) _ e))
 
 pub open_loose : (k : Case) (node : NodeNo) (fate : Option Fate) (more : List Record) (acks : Nodes) → fate ≡ became None acks → TurnedAs k node fate more → NoLoose k more
 open_loose k node fate more acks its is = none_loose k.tid (k.before ++ more) (no_abort (list_any (is_aborted_of k.tid) (k.before ++ more)) refl) (no_end (list_any (is_end_of k.tid) (k.before ++ more)) refl)

@@ -1,35 +1,15 @@
 -- Decisions, outcomes that are told, and inquiries leave the records of a transaction in turn.
-use Rattle.std.proofs.Common.{◌≡◌, ◌⊎◌, inl, inr, ◌||◌, ℕ, Bool, true, false, List, [], ◌∷◌, ◌++◌, Option, Some, None, is_some, refl, ap, subst, ◌∙◌, if◌then◌else◌}
-use Rattle.std.specs.List.{list_any, find}
-use Rattle.std.specs.BTreeMap.{is_at}
-use Rattle.qs_base.specs.Order.{same_tid, tid_cmp}
-use Rattle.qs_base.specs.declared.identifiers.NodeNo.{NodeNo}
+use Rattle.qs_world_refine.proofs.Words.{◌≡◌, ◌⊎◌, inl, inr, ◌||◌, ℕ, Bool, true, false, List, [], ◌∷◌, ◌++◌, Option, Some, None, is_some, refl, ap, subst, ◌∙◌, if◌then◌else◌, list_any, find, is_at, same_tid, tid_cmp, NodeNo, ServerNo, Tid, listed, same_node, Nodes, after_notice, Cause, Record, aborted_participant, record_of, writes_commit, is_undecided, Decision, Participant, is_outcome_of, Decided, is_kept_commit, log_if, tid_of, notify, end_member, due_endings, end_members, learn_member}
+use Rattle.qs_world_refine.proofs.Words.{learners_at, learn_members, give_notices, keep_outcome, decide, decide_commit, Work, here, part_of, with_manager, change_server, names_at, end_record, record_learnt, learn, learn_unknown, take_outcome, tell_came, or_cases}
 use Rattle.qs_base.specs.declared.identifiers.Outcome.{Outcome}
 use Rattle.qs_base.specs.declared.identifiers.Outcome.TheVariants as outcomes
-use Rattle.qs_base.specs.declared.identifiers.ServerNo.{ServerNo}
-use Rattle.qs_base.specs.declared.identifiers.Tid.{Tid}
-use Rattle.qs_engage.specs.Nodes.{listed, same_node}
-use Rattle.qs_engage.specs.declared.nodes.Nodes.{Nodes}
-use Rattle.qs_ops.specs.Server.{after_notice}
-use Rattle.qs_ops.specs.declared.answer.Cause.{Cause}
 use Rattle.qs_ops.specs.declared.answer.Cause.TheVariants as causes
 use Rattle.qs_ops.specs.declared.vote.Notice.{Notice}
 use Rattle.qs_packet.specs.declared.message.Message.TheVariants as messages
-use Rattle.qs_record.specs.declared.record.Record.{Record}
 use Rattle.qs_record.specs.declared.record.Record.TheVariants as records
 use Rattle.qs_tm.specs.Manager as tm
 use Rattle.qs_tm.specs.Outcomes as outcome_rules
-use Rattle.qs_tm.specs.Outcomes.{aborted_participant, record_of, writes_commit}
-use Rattle.qs_tm.specs.Participant.{is_undecided}
-use Rattle.qs_tm.specs.declared.manager.Decision.{Decision}
-use Rattle.qs_tm.specs.declared.participant.Participant.{Participant}
-use Rattle.qs_node_kept.specs.Keeping.{is_outcome_of}
-use Rattle.qs_node_kept.specs.declared.kept.Decided.{Decided}
-use Rattle.qs_node_step.specs.Answering.{is_kept_commit}
-use Rattle.qs_node_step.specs.Bringing.{log_if, tid_of}
-use Rattle.qs_node_step.specs.Deciding.{notice_of, notify, end_member, due_endings, end_members, learn_member, learners_at, learn_members, give_notices, keep_outcome, decide, decide_commit}
-use Rattle.qs_node_step.specs.State.{Work, here, part_of, with_manager, change_server}
-use Rattle.qs_node_step.specs.Telling.{names_at, end_record, record_learnt, learn, learn_unknown, take_outcome, tell_came}
+use Rattle.qs_node_step.specs.Deciding.{notice_of}
 use Rattle.qs_world_refine.proofs.Maps.{changed_none}
 use Rattle.qs_world_refine.proofs.TurnOn.{Case, KeptSo, became, fate_at, Turned, TurnsOn, SameTurn, NoLoose, on_itself, on_then, same_on, same_then, fold_same, if_on, rest_on, enter_on, enter_same, send_on, sends_on, server_same, part_same, apart_same, open_loose}
 use Rattle.qs_world_refine.proofs.TurnRecords.{fate_logged_if, log_if_kept, MayEnter, MayTake, put_on, log_if_on, aborted_now, fate_unknown, open_fate, open_decided, take_on}
@@ -107,14 +87,10 @@ found_last p x (y ∷ ys) = by (p y) (found_last p x ys)
 
 keep_on : {k : Case} (tid : Tid) (outcome : Outcome) (cause : Option Cause) (work : Work) → (same_tid k.tid tid ≡ true → outcome ≡ outcomes.Commit → (acks : Nodes) × (fate_at k.tid work.node ≡ became (Some outcomes.Commit) acks))
     → TurnsOn k work (keep_outcome tid outcome cause work)
-keep_on {k} tid outcome cause work known = record { setting = refl; goes = λ is. is; kept = λ so open_end is. by so open_end (which (is_kept_commit (find (is_outcome_of k.tid) (work.node.kept.now.outcomes ++ last ∷ []))) (list_any (same_tid k.tid) work.node.committed) is) }
+keep_on {k} tid outcome cause work known = record { setting = refl; goes = λ is. is; kept = λ so open_end is. by so open_end (or_cases (is_kept_commit (find (is_outcome_of k.tid) (work.node.kept.now.outcomes ++ last ∷ []))) (list_any (same_tid k.tid) work.node.committed) is) }
   where
     last : Decided
     last = record { tid = tid; outcome = outcome; cause = cause }
-
-    which : (a b : Bool) → (a || b) ≡ true → (a ≡ true) ⊎ (b ≡ true)
-    which true b is = inl refl
-    which false b is = inr is
 
     before : (a b : Bool) → (a ≡ true) ⊎ (b ≡ true) → (a || b) ≡ true
     before true b is = refl

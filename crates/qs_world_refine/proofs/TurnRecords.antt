@@ -1,25 +1,10 @@
 -- Records that a step appends stand in turn, as transactions become known, decided and forgotten.
-use Rattle.std.proofs.Common.{◌≡◌, ℕ, ◌&&◌, ◌||◌, ◌⊎◌, inl, inr, not, Bool, true, false, List, [], ◌∷◌, ◌++◌, Option, Some, None, refl, sym, ap, subst, ◌∙◌, arith}
-use Rattle.std.specs.BTreeMap.{is_at}
-use Rattle.std.specs.List.{list_any}
-use Rattle.std.proofs.lemmas.Bool.Decides.{nat_tests}
-use Rattle.std.proofs.lemmas.List.Folds.{list_any-append}
-use Rattle.qs_base.specs.Order.{same_tid, tid_cmp}
-use Rattle.qs_base.specs.declared.identifiers.NodeNo.{NodeNo}
+use Rattle.qs_world_refine.proofs.Words.{◌≡◌, ℕ, ◌&&◌, ◌||◌, ◌⊎◌, inl, inr, not, Bool, true, false, List, [], ◌∷◌, ◌++◌, Option, Some, None, refl, sym, ap, subst, ◌∙◌, arith, is_at, list_any, nat_tests, list_any-append, same_tid, tid_cmp, NodeNo, Tid, same_node, no_nodes, Nodes, Record, Participant, was_committed, log, log_if, tid_of, Work, part_of, with_manager, is_loose_of, is_forced_of, are_in_turn, node_no, or_last, or_first}
 use Rattle.qs_base.specs.declared.identifiers.Outcome.{Outcome}
 use Rattle.qs_base.specs.declared.identifiers.Outcome.TheVariants as outcomes
-use Rattle.qs_base.specs.declared.identifiers.Tid.{Tid}
-use Rattle.qs_engage.specs.Nodes.{same_node, has_node, no_nodes}
-use Rattle.qs_engage.specs.declared.nodes.Nodes.{Nodes}
-use Rattle.qs_record.specs.declared.record.Record.{Record}
+use Rattle.qs_engage.specs.Nodes.{has_node}
 use Rattle.qs_record.specs.declared.record.Record.TheVariants as records
 use Rattle.qs_tm.specs.Manager as tm
-use Rattle.qs_tm.specs.declared.participant.Participant.{Participant}
-use Rattle.qs_node_step.specs.Answering.{was_committed}
-use Rattle.qs_node_step.specs.Bringing.{log, log_if, tid_of}
-use Rattle.qs_node_step.specs.State.{Work, part_of, with_manager}
-use Rattle.qs_world_refine.specs.JoinLaws.{is_loose_of, is_forced_of, are_in_turn}
-use Rattle.qs_world_refine.specs.Links.{node_no}
 use Rattle.qs_world_refine.proofs.Maps.{lookup_put, lookup_changed}
 use Rattle.qs_world_refine.proofs.Others.{put_apart}
 use Rattle.qs_world_refine.proofs.SaysOn.{append_three, told_changed}
@@ -36,18 +21,10 @@ turn_more t [] rec is may = last (is_loose_of t rec)
     last : (b : Bool) → ((not b || true) && true) ≡ true
     last true = refl
     last false = refl
-turn_more t (r ∷ rs) rec is may = by (is_forced_of t rec) refl (turn_more t rs rec both.1 (λ forced. rest_of (is_loose_of t r) (list_any (is_loose_of t) rs) (may forced)))
+turn_more t (r ∷ rs) rec is may = by (is_forced_of t rec) refl (turn_more t rs rec both.1 (λ forced. or_last (is_loose_of t r) (list_any (is_loose_of t) rs) (may forced)))
   where
     both : ((not (is_loose_of t r) || not (list_any (is_forced_of t) rs)) ≡ true) × (are_in_turn t rs ≡ true)
     both = and_both (not (is_loose_of t r) || not (list_any (is_forced_of t) rs)) (are_in_turn t rs) is
-
-    rest_of : (a b : Bool) → (a || b) ≡ false → b ≡ false
-    rest_of true b none = absurd (cc (none))
-    rest_of false b none = none
-
-    first_of : (a b : Bool) → (a || b) ≡ false → a ≡ false
-    first_of true b none = absurd (cc (none))
-    first_of false b none = refl
 
     any_is : list_any (is_forced_of t) (rs ++ rec ∷ []) ≡ (list_any (is_forced_of t) rs || (is_forced_of t rec || false))
     any_is = list_any-append (is_forced_of t) rs (rec ∷ [])
@@ -61,7 +38,7 @@ turn_more t (r ∷ rs) rec is may = by (is_forced_of t rec) refl (turn_more t rs
     off l x none = rw none refl
 
     by : (b : Bool) → is_forced_of t rec ≡ b → are_in_turn t (rs ++ rec ∷ []) ≡ true → ((not (is_loose_of t r) || not (list_any (is_forced_of t) (rs ++ rec ∷ []))) && are_in_turn t (rs ++ rec ∷ [])) ≡ true
-    by true forced more = both_and (off (is_loose_of t r) (not (list_any (is_forced_of t) (rs ++ rec ∷ []))) (first_of (is_loose_of t r) (list_any (is_loose_of t) rs) (may forced))) more
+    by true forced more = both_and (off (is_loose_of t r) (not (list_any (is_forced_of t) (rs ++ rec ∷ []))) (or_first (is_loose_of t r) (list_any (is_loose_of t) rs) (may forced))) more
       where
         both_and : {a b : Bool} → a ≡ true → b ≡ true → (a && b) ≡ true
         both_and x y = rw (x, y) refl

@@ -1,38 +1,15 @@
 -- Requests, votes and their answers leave the records of a transaction in turn.
-use Rattle.std.proofs.Common.{◌≡◌, ℕ, ◌+◌, ◌==◌, ◌||◌, Bool, true, false, List, Option, Some, None, is_none, is_some, refl, sym, ap, subst, if◌then◌else◌}
-use Rattle.std.specs.Map.{lookup}
-use Rattle.std.specs.BTreeMap.{is_at}
-use Rattle.qs_base.specs.declared.identifiers.ClientNo.{ClientNo}
-use Rattle.qs_base.specs.declared.identifiers.Member.{Member}
-use Rattle.qs_base.specs.declared.identifiers.NodeNo.{NodeNo}
+use Rattle.qs_world_refine.proofs.Words.{◌≡◌, ℕ, ◌+◌, ◌==◌, ◌||◌, Bool, true, false, List, Option, Some, None, is_none, is_some, refl, sym, ap, subst, if◌then◌else◌, lookup, is_at, ClientNo, Member, NodeNo, ServerNo, same_tid, Tid, last_number, uncovered, listed, same_node, Engaged, is_for, Delivery, after_serving, Cause, Op, Reply, is_client, client_of, class_here, is_told_class, is_by_files, is_undecided, new_participant, Outstanding, Participant, where_undecided, become_asked, asked_by}
+use Rattle.qs_world_refine.proofs.Words.{ask_came, count, closer_came, block, pass_unknown, refusal_came, send, member_here, enter_issue, with_local, issue_here, ask_on, is_asked, label_of, issue_away, issue_as, next_number, issue, waits_as, take_reply, reply_came, label_at, put_label, learn_label, cover_from, engage, is_dropped, take_in, request_came, change_served, enter_serve, lent_to, make_loan, give_reply, serve, reply_here, serve_or_drop, serve_next, serve_all, Work, here, part_of}
+use Rattle.qs_world_refine.proofs.Words.{with_manager, client_cmp}
 use Rattle.qs_base.specs.declared.identifiers.Outcome.{Outcome}
-use Rattle.qs_base.specs.declared.identifiers.ServerNo.{ServerNo}
-use Rattle.qs_base.specs.Order.{same_tid}
-use Rattle.qs_base.specs.declared.identifiers.Tid.{Tid}
-use Rattle.qs_engage.specs.Engage.{last_number, uncovered}
-use Rattle.qs_engage.specs.Nodes.{listed, same_node}
-use Rattle.qs_engage.specs.declared.engage.Engaged.{Engaged}
 use Rattle.qs_engage.specs.declared.engage.Engaged.TheVariants as engagements
 use Rattle.qs_ipc.specs.Ipc as ipc
-use Rattle.qs_ipc.specs.Queue.{is_for}
-use Rattle.qs_ipc.specs.declared.delivery.Delivery.{Delivery}
-use Rattle.qs_ops.specs.Server.{after_serving}
-use Rattle.qs_ops.specs.declared.answer.Cause.{Cause}
-use Rattle.qs_ops.specs.declared.operation.Op.{Op}
-use Rattle.qs_ops.specs.declared.reply.Reply.{Reply}
 use Rattle.qs_packet.specs.declared.message.Message.TheVariants as messages
-use Rattle.qs_node_servers.specs.Servers.{is_client, client_of}
 use Rattle.qs_tm.specs.Manager as tm
-use Rattle.qs_tm.specs.Members.{class_here, is_told_class}
 use Rattle.qs_tm.specs.Participant as participant
-use Rattle.qs_tm.specs.Participant.{is_by_files, is_undecided, new_participant}
-use Rattle.qs_tm.specs.declared.participant.Outstanding.{Outstanding}
-use Rattle.qs_tm.specs.declared.participant.Participant.{Participant}
-use Rattle.qs_node_step.specs.Asking.{where_undecided, become_asked, asked_by, ask_came, count, closer_came, block, pass_unknown, refusal_came}
-use Rattle.qs_node_step.specs.Bringing.{send, member_here}
-use Rattle.qs_node_step.specs.Requests.{enqueue, enter_issue, with_local, issue_here, ask_on, is_asked, label_of, issue_away, issue_as, next_number, issue, waits_as, take_reply, waiting_at, reply_came}
-use Rattle.qs_node_step.specs.Serving.{label_at, put_label, learn_label, met, cover_from, engage, is_dropped, take_in, request_came, change_served, enter_serve, lent_to, make_loan, give_reply, serve, reply_here, may_serve, serve_or_drop, serve_next, serve_all}
-use Rattle.qs_node_step.specs.State.{Work, here, part_of, with_manager, client_cmp}
+use Rattle.qs_node_step.specs.Requests.{enqueue, waiting_at}
+use Rattle.qs_node_step.specs.Serving.{met, may_serve}
 use Rattle.qs_world_refine.proofs.SoundKnown.{same_is}
 use Rattle.qs_world_refine.proofs.TurnOn.{Case, fate_at, TurnsOn, fate_of, fate_found, on_itself, on_then, fold_on, if_on, rest_on, enter_on, send_on, sends_on, answer_on, queues_on, doings_on, server_on, part_on}
 use Rattle.qs_world_refine.proofs.TurnRecords.{heard, put_on}

@@ -1,38 +1,16 @@
 -- What a node does of itself at the end of a step, and as another one or itself restarted, leaves the records of a transaction in turn.
-use Rattle.std.proofs.Common.{◌≡◌, ℕ, Bool, true, false, List, [], ◌∷◌, fold, Option, Some, None, is_none, refl, sym, ap, subst, ◌∙◌, if◌then◌else◌}
-use Rattle.qs_base.specs.Order.{same_tid}
-use Rattle.qs_base.specs.declared.identifiers.NodeNo.{NodeNo}
+use Rattle.qs_world_refine.proofs.Words.{◌≡◌, ℕ, Bool, true, false, List, [], ◌∷◌, fold, Option, Some, None, is_none, refl, sym, ap, subst, ◌∙◌, if◌then◌else◌, same_tid, NodeNo, ServerNo, Tid, release_of, listed, same_node, Nodes, after_vote, changes_in, vote_of, Cause, Note, Vote, Record, server_at, audit_no, files_no, is_undecided, is_forgotten, Participant, member_here, tid_of, decide, end_members, find_gone, inquire, notice_decided, notice_part, notice_tid, peer_restarted, resume_home}
+use Rattle.qs_world_refine.proofs.Words.{resume_part, resume_tid, known_tids, begin_incarnation, is_pass_due, pass_rule, may_answer, is_quiet, say_yes, ready_rule, refusal_goes_to, send_refusal, refuse_rule, forget_rule, try, settle_tid, due_tids, settle, Work, here, part_of, doings_of, with_node, with_manager, with_queues, with_doings, change_server, record_learnt, end_record, owes_note, issue_note, note_text, change_count, served_count, enter_vote, vote_with, vote_frame, vote_next, due_votes}
+use Rattle.qs_world_refine.proofs.Words.{vote_pass, is_sound, same_flag, none_is}
 use Rattle.qs_base.specs.declared.identifiers.Outcome.{Outcome}
 use Rattle.qs_base.specs.declared.identifiers.Outcome.TheVariants as outcomes
-use Rattle.qs_base.specs.declared.identifiers.ServerNo.{ServerNo}
-use Rattle.qs_base.specs.declared.identifiers.Tid.{Tid}
-use Rattle.qs_engage.specs.Engage.{release_of}
-use Rattle.qs_engage.specs.Nodes.{listed, same_node}
-use Rattle.qs_engage.specs.declared.nodes.Nodes.{Nodes}
 use Rattle.qs_ipc.specs.Ipc as ipc
-use Rattle.qs_ops.specs.Server.{after_vote, changes_in, vote_of}
-use Rattle.qs_ops.specs.declared.answer.Cause.{Cause}
 use Rattle.qs_ops.specs.declared.answer.Cause.TheVariants as causes
-use Rattle.qs_ops.specs.declared.operation.Op.TheVariants.{Note}
-use Rattle.qs_ops.specs.declared.vote.Vote.{Vote}
 use Rattle.qs_ops.specs.declared.vote.Vote.TheVariants as votes
 use Rattle.qs_packet.specs.declared.message.Message.TheVariants as messages
-use Rattle.qs_record.specs.declared.record.Record.{Record}
 use Rattle.qs_record.specs.declared.record.Record.TheVariants as records
-use Rattle.qs_node_servers.specs.Servers.{server_at, audit_no}
 use Rattle.qs_tm.specs.Manager as tm
-use Rattle.qs_tm.specs.Members.{files_no}
 use Rattle.qs_tm.specs.Participant as participant
-use Rattle.qs_tm.specs.Participant.{is_undecided, is_forgotten}
-use Rattle.qs_tm.specs.declared.participant.Participant.{Participant}
-use Rattle.qs_node_step.specs.Bringing.{member_here, tid_of}
-use Rattle.qs_node_step.specs.Deciding.{decide, end_members}
-use Rattle.qs_node_step.specs.Restarts.{find_gone, inquire, notice_decided, notice_part, notice_tid, peer_restarted, resume_home, resume_part, resume_tid, known_tids, begin_incarnation}
-use Rattle.qs_node_step.specs.Settling.{is_pass_due, pass_rule, may_answer, is_quiet, say_yes, ready_rule, refusal_goes_to, send_refusal, refuse_rule, forget_rule, try, settle_tid, due_tids, settle}
-use Rattle.qs_node_step.specs.State.{Work, here, part_of, doings_of, with_node, with_manager, with_queues, with_doings, change_server}
-use Rattle.qs_node_step.specs.Telling.{record_learnt, end_record}
-use Rattle.qs_node_step.specs.Voting.{owes_note, issue_note, note_text, change_count, served_count, enter_vote, vote_with, vote_frame, vote_next, due_votes, vote_pass}
-use Rattle.qs_world_refine.specs.Sound.{is_sound, same_flag}
 use Rattle.qs_world_refine.proofs.TurnOn.{Case, became, open_apart, fate_at, TurnsOn, SameTurn, on_itself, on_then, same_on, same_then, fold_on, if_on, rest_on, enter_same, send_on, sends_on, queues_on, server_same, part_on, part_same, rest_same, open_loose}
 use Rattle.qs_world_refine.proofs.TurnRecords.{MayEnter, log_on_turned, log_if_on, open_fate, fate_known}
 use Rattle.qs_world_refine.proofs.TurnOutcomes.{end_members_same, notices_same, decide_on, decide_commit_on}
@@ -58,10 +36,6 @@ enter_vote_same {k} tid server ballot work =
 held_open : (k : Case) (tid : Tid) (work : Work) → Holds is_open tid work.node → same_tid k.tid tid ≡ true → (acks : Nodes) × (fate_at k.tid work.node ≡ became None acks)
 held_open k tid work holds same = by (part_of tid work) refl
   where
-    none_is : (o : Option Outcome) → is_none o ≡ true → o ≡ None
-    none_is None is = refl
-    none_is (Some outcome) is = absurd (cc (is))
-
     by : (o : Option Participant) → part_of tid work ≡ o → (acks : Nodes) × (fate_at k.tid work.node ≡ became None acks)
     by (Some part) known = (part.acknowledged, open_fate k tid work part known (none_is part.outcome (and_both (is_undecided part) _ (told_part is_open tid work.node.manager part known holds.1)).0) same)
     by None none = absurd (

@@ -1,15 +1,5 @@
 -- Where each transaction that a node knows has its turn, one of them has at most one.
-use Rattle.std.proofs.Common.{◌≡◌, ◌⊎◌, inl, inr, not, Bool, true, false, List, [], ◌∷◌, ◌++◌, Some, fold, refl, sym, subst, ap, ◌∙◌, arith, if◌then◌else◌}
-use Rattle.std.specs.BTreeMap.{is_at}
-use Rattle.std.specs.List.{list_all}
-use Rattle.std.specs.Map.{lookup}
-use Rattle.std.proofs.lemmas.Bool.Decides.{nat_tests}
-use Rattle.qs_base.specs.Order.{tid_cmp, same_tid}
-use Rattle.qs_base.specs.declared.identifiers.Tid.{Tid}
-use Rattle.qs_tm.specs.declared.participant.Participant.{Participant}
-use Rattle.qs_node_step.specs.State.{Work}
-use Rattle.qs_world_refine.specs.Sound.{in_order, is_less}
-use Rattle.qs_world_refine.specs.SoundLaws.{StaysSound}
+use Rattle.qs_world_refine.proofs.Words.{◌≡◌, ◌⊎◌, inl, inr, not, Bool, true, false, List, [], ◌∷◌, ◌++◌, Some, fold, refl, sym, subst, ap, ◌∙◌, arith, if◌then◌else◌, is_at, list_all, lookup, nat_tests, tid_cmp, same_tid, Tid, Participant, Work, in_order, is_less, StaysSound, same_Some, not-true}
 use Rattle.qs_world_refine.proofs.During.{Leaves, leaves_itself, leaves_on}
 use Rattle.qs_world_refine.proofs.LogFrames.{Apart}
 use Rattle.qs_world_refine.proofs.SoundFrames.{is_below, behind, order_tail}
@@ -31,11 +21,7 @@ abbrev pub AllApart : Tid → List Tid → Type 0
 AllApart t tids = list_all (is_apart t) tids ≡ true
 
 apart_is : (t tid : Tid) → is_apart t tid ≡ true → Apart t tid
-apart_is t tid is = by (same_tid t tid) is
-  where
-    by : (b : Bool) → not b ≡ true → b ≡ false
-    by true so = absurd (cc so)
-    by false so = refl
+apart_is t tid is = not-true (same_tid t tid) is
 
 -- ---- every other turn leaves it
 
@@ -100,9 +86,6 @@ module _ (t : Tid) (pick : Entry → Bool) where
       further : same_tid t e.0 ≡ false → lookup (is_at (tid_cmp t)) (e ∷ es) ≡ lookup (is_at (tid_cmp t)) es
       further apart = rw (there e.0 apart) refl
 
-      some_same : (a b : Participant) → Some a ≡ Some b → a ≡ b
-      some_same a b is = cc is
-
       by : (s : Bool) → same_tid t e.0 ≡ s → (p : Bool) → pick e ≡ p → Never t pick es ⊎ Once t pick es → Never t pick (e ∷ es) ⊎ Once t pick (e ∷ es)
       by true same true picked more = inr (record {
         front = [];
@@ -115,7 +98,7 @@ module _ (t : Tid) (pick : Entry → Bool) where
       })
       by true same false picked more = inl (record {
         apart = rw picked (later_apart e.0 same es (behind e es ordered));
-        passed = λ part known. subst (λ (p : Participant). pick (t, p) ≡ false) (some_same e.1 part (sym (value same) ∙ known)) (subst (λ (k : Tid). pick (k, e.1) ≡ false) (sym (same_is t e.0 same)) picked);
+        passed = λ part known. subst (λ (p : Participant). pick (t, p) ≡ false) (same_Some e.1 part (sym (value same) ∙ known)) (subst (λ (k : Tid). pick (k, e.1) ≡ false) (sym (same_is t e.0 same)) picked);
       })
       by false apart true picked (inl never) = inl (record {
         apart = rw picked (both_and (is_apart t e.0) (list_all (is_apart t) (turns pick es)) (ap (λ (c : Bool). not c) apart) never.apart);

@@ -1,9 +1,8 @@
 -- A place that no restart has taken yet holds nothing.
-use Rattle.std.proofs.Common.{◌≡◌, ℕ, ◌<◌, false, arith}
-use Rattle.std.proofs.lemmas.Bool.Decides.{nat_tests}
-use Rattle.qs_world_agree.specs.World.{World, Open}
-use Rattle.qs_world_agree.specs.Step.{Step, Issue, Issue_unmet, Issue_local, Meet, Notice, Engage, Join, Cover, Serve, Serve_told, Lend, Yield, Ask, Vote_read, Vote_volatile, Force, Vote_recoverable, Vote_abort, Yes, Yes_lost, Count, Ignore, Refuse, Miss, Forget, Crash, Restart, Restart_in_doubt, Restart_home, Commit, Commit_cut, Commit_unlogged, Abort, Tell, Learn, Learn_cut, Learn_home, Acknowledge, Take_told, End, Checkpoint, Tell_abort, Learn_abort, Name_again, Take_names, Learn_abort_home, Abort_logged, Drop_engage, Drop_join, Drop_cover, Inquire, Inquire_lost, Inquire_home, Answer_commit, Answer_running, Answer_abort}
-use Rattle.qs_world_agree.proofs.Counts.{Counts}
+use Rattle.qs_world_refine.proofs.Words.{◌≡◌, ℕ, ◌<◌, false, arith, nat_tests, Open, Issue, Issue_unmet, Issue_local, Join, Cover, Serve, Serve_told, Yield, Ask, Vote_read, Vote_volatile, Force, Vote_recoverable, Vote_abort, Yes, Yes_lost, Count, Ignore, Refuse, Miss, Forget, Crash, Restart, Restart_in_doubt, Restart_home, Commit, Commit_cut, Commit_unlogged, Abort, Tell, Learn, Learn_cut, Learn_home, Acknowledge, Take_told, End, Checkpoint, Tell_abort, Learn_abort, Name_again, Take_names}
+use Rattle.qs_world_refine.proofs.Words.{Learn_abort_home, Abort_logged, Drop_engage, Drop_join, Drop_cover, Inquire, Inquire_lost, Inquire_home, Answer_commit, Answer_running, Answer_abort, Counts}
+use Rattle.qs_world_agree.specs.World.{World}
+use Rattle.qs_world_agree.specs.Step.{Step, Meet, Notice, Engage, Lend}
 
 pub record Blank (w : World) (q : ℕ) : Type 0 where
   pub outcome : w.outcome q ≡ Open

@@ -1,15 +1,10 @@
 -- A place that no restart has taken yet holds nothing, after every run of the machine.
-use Rattle.std.proofs.Common.{ℕ, List, [], ◌∷◌, arith, sym, subst}
-use Rattle.std.proofs.lemmas.Bool.Decides.{nat_tests}
+use Rattle.qs_world_refine.proofs.Words.{ℕ, List, [], ◌∷◌, arith, sym, subst, nat_tests, Origin, Found, IsLawful, Inv, inv_step, inv_first, Issue, Issue_unmet, Issue_local, Join, Cover, Serve, Serve_told, Yield, Ask, Vote_read, Vote_volatile, Force, Vote_recoverable, Vote_abort, Yes, Yes_lost, Count, Ignore, Refuse, Miss, Forget, Crash, Restart, Restart_in_doubt, Restart_home, Commit, Commit_cut, Commit_unlogged, Abort, Tell, Learn, Learn_cut, Learn_home, Acknowledge, Take_told, End, Checkpoint}
+use Rattle.qs_world_refine.proofs.Words.{Tell_abort, Learn_abort, Name_again, Take_names, Learn_abort_home, Abort_logged, Drop_engage, Drop_join, Drop_cover, Inquire, Inquire_lost, Inquire_home, Answer_commit, Answer_running, Answer_abort, Counts}
 use Rattle.qs_world_agree.specs.World.{World}
-use Rattle.qs_world_agree.specs.Origins.{Origin, Begun, Found, IsOrigin, first}
+use Rattle.qs_world_agree.specs.Origins.{Begun, IsOrigin, first}
 use Rattle.qs_world_agree.specs.Laws.{Run}
-use Rattle.qs_world_agree.specs.Carry.{IsLawful}
-use Rattle.qs_world_agree.proofs.Whole.{Inv}
-use Rattle.qs_world_agree.proofs.Inv.{inv_step}
-use Rattle.qs_world_agree.proofs.Reopened.{inv_first}
-use Rattle.qs_world_agree.specs.Step.{Event, Step, Issue, Issue_unmet, Issue_local, Meet, Notice, Engage, Join, Cover, Serve, Serve_told, Lend, Yield, Ask, Vote_read, Vote_volatile, Force, Vote_recoverable, Vote_abort, Yes, Yes_lost, Count, Ignore, Refuse, Miss, Forget, Crash, Restart, Restart_in_doubt, Restart_home, Commit, Commit_cut, Commit_unlogged, Abort, Tell, Learn, Learn_cut, Learn_home, Acknowledge, Take_told, End, Checkpoint, Tell_abort, Learn_abort, Name_again, Take_names, Learn_abort_home, Abort_logged, Drop_engage, Drop_join, Drop_cover, Inquire, Inquire_lost, Inquire_home, Answer_commit, Answer_running, Answer_abort}
-use Rattle.qs_world_agree.proofs.Counts.{Counts}
+use Rattle.qs_world_agree.specs.Step.{Event, Step, Meet, Notice, Engage, Lend}
 use Rattle.qs_world_refine.proofs.Unborn.{Unborn, by_issue, by_issue_unmet, by_issue_local, by_meet, by_notice, by_engage, by_join, by_cover, by_serve, by_serve_told, by_lend, by_yield, by_ask, by_vote_read, by_vote_volatile, by_force, by_vote_recoverable, by_vote_abort, by_yes, by_yes_lost, by_count, by_ignore, by_refuse, by_miss, by_forget, by_crash, by_restart, by_restart_in_doubt, by_restart_home, by_commit, by_commit_cut, by_commit_unlogged, by_abort, by_tell, by_learn, by_learn_cut, by_learn_home, by_acknowledge, by_take_told, by_end, by_checkpoint, by_tell_abort, by_learn_abort, by_name_again, by_take_names, by_learn_abort_home, by_abort_logged, by_drop_engage, by_drop_join, by_drop_cover, by_inquire, by_inquire_lost, by_inquire_home, by_answer_commit, by_answer_running, by_answer_abort}
 
 unborn_step : (e : Event) (w v : World) → Counts w → ((q : ℕ) → Unborn w q) → Step e w v → (q : ℕ) → Unborn v q

@@ -1,16 +1,8 @@
 -- The home commits with nobody to be told and nothing in its log: Commit_unlogged.
-use Rattle.std.proofs.Common.{◌≡◌, ◌≢◌, ℕ, ◌<◌, ◌≤◌, ◌==◌, true, false, [], ◌∷◌, arith, refl, sym, ◌∙◌, subst, ap, if◌then◌else◌}
-use Rattle.std.proofs.lemmas.Bool.Decides.{nat_tests}
-use Rattle.qs_base.specs.declared.identifiers.Tid.{Tid}
-use Rattle.qs_world_agree.specs.World.{World, Open, Committed, with_at}
+use Rattle.qs_world_refine.proofs.Words.{◌≡◌, ◌≢◌, ℕ, ◌<◌, ◌≤◌, ◌==◌, true, false, [], ◌∷◌, arith, refl, sym, ◌∙◌, subst, ap, if◌then◌else◌, nat_tests, Tid, Open, Committed, Commit_unlogged, Leads, place, Face, ShowsFace, link, waiting_link, Sight, ShowsSight, FaceReady}
+use Rattle.qs_world_agree.specs.World.{World, with_at}
 use Rattle.qs_world_agree.specs.Guards.{IsReady}
-use Rattle.qs_world_agree.specs.Step.{Step, Commit_unlogged}
-use Rattle.qs_world_agree.specs.Carry.{Leads}
-use Rattle.qs_world_refine.specs.Places.{place}
-use Rattle.qs_world_refine.specs.Faces.{Face, ShowsFace}
-use Rattle.qs_world_refine.specs.Links.{link, waiting_link}
-use Rattle.qs_world_refine.specs.Sights.{Sight, ShowsSight}
-use Rattle.qs_world_refine.specs.Seen.{FaceReady}
+use Rattle.qs_world_agree.specs.Step.{Step}
 use Rattle.qs_world_refine.proofs.Streams.{Stays}
 use Rattle.qs_world_refine.proofs.Local.{Local, local_sight}
 use Rattle.qs_world_refine.proofs.Ready.{is_ready}

@@ -1,20 +1,7 @@
 -- A message of the transaction is sent to a node of which no incarnation is known: it waits.
-use Rattle.std.proofs.Common.{◌≡◌, ℕ, ◌==◌, ◌&&◌, not, Bool, true, false, List, [], ◌∷◌, ◌++◌, arith, refl, sym, ap, ◌∙◌, append_assoc, if◌then◌else◌}
-use Rattle.std.proofs.lemmas.Bool.{eqb-true}
-use Rattle.std.proofs.lemmas.Bool.Decides.{nat_tests}
-use Rattle.qs_base.specs.declared.identifiers.NodeNo.{NodeNo}
-use Rattle.qs_base.specs.declared.identifiers.Tid.{Tid}
-use Rattle.qs_packet.specs.declared.message.Message.{Message}
-use Rattle.qs_node_step.specs.declared.event.Sending.{Sending}
-use Rattle.qs_node_step.specs.State.{Work}
+use Rattle.qs_world_refine.proofs.Words.{◌≡◌, ℕ, ◌==◌, ◌&&◌, not, Bool, true, false, List, [], ◌∷◌, ◌++◌, arith, refl, sym, ap, ◌∙◌, append_assoc, if◌then◌else◌, eqb-true, nat_tests, NodeNo, Tid, Message, Sending, Work, Face, Said, said, all_said, face_at, sight_waiting, Scene, said_during, unmet_during, sight_during, ShowsWork, Sight, ShowsSight, eqb-self}
 use Rattle.qs_world_agree.specs.World.{World}
-use Rattle.qs_world_refine.specs.Faces.{Face}
-use Rattle.qs_world_refine.specs.Links.{Said}
-use Rattle.qs_world_refine.specs.Messages.{said, all_said}
-use Rattle.qs_world_refine.specs.NodeFaces.{face_at}
-use Rattle.qs_world_refine.specs.SeenOutcome.{sight_waiting}
-use Rattle.qs_world_refine.specs.Shows.{Scene, said_during, unmet_during, sent_to, sight_during, ShowsWork}
-use Rattle.qs_world_refine.specs.Sights.{Sight, ShowsSight}
+use Rattle.qs_world_refine.specs.Shows.{sent_to}
 use Rattle.qs_world_refine.proofs.Alike.{SameFace, same_itself, sight_alike}
 use Rattle.qs_world_refine.proofs.During.{Quiet, said_same, unmet_same, found_same}
 use Rattle.qs_world_refine.proofs.Posting.{sent_work}
@@ -49,11 +36,8 @@ module _ (tid : Tid) (scene : Scene) (n : ℕ) (to : NodeNo) (message : Message)
       turned : (c d : ℕ) (e : Bool) → (c == d) ≡ e → (d == c) ≡ e
       turned c d e is = grind (arith, nat_tests, is)
 
-      one : (c : ℕ) → (c == c) ≡ true
-      one c = grind (arith, nat_tests)
-
       test : ((n == n) && (scene.knows n to.0 == 0)) ≡ true
-      test = rw (one n, unknown) refl
+      test = rw (eqb-self n, unknown) refl
 
       picked : (t : Bool) → t ≡ true → (xs ys zs : List Said) → (if t then xs ++ (ys ++ zs) else xs) ≡ (if t then xs ++ ys else xs) ++ zs
       picked t is xs ys zs = rw is (sym (append_assoc xs ys zs))

@@ -1,36 +1,12 @@
 -- In a steady world nothing is seen of a transaction whose number its home has not given, and where its home runs the machine at its start shows it.
-use Rattle.std.proofs.Common.{◌≡◌, ℕ, ◌<◌, ◌||◌, Bool, true, false, List, [], ◌∷◌, ◌++◌, drop, length, map, Option, Some, None, refl, sym, ap, subst, ◌∙◌, if◌then◌else◌, zero, suc}
-use Rattle.std.specs.List.{list_all, list_any, filter, find}
-use Rattle.qs_base.specs.Order.{same_tid}
-use Rattle.qs_base.specs.declared.identifiers.NodeNo.{NodeNo}
-use Rattle.qs_base.specs.declared.identifiers.Tid.{Tid}
-use Rattle.qs_node_kept.specs.Keeping.{is_outcome_of}
-use Rattle.qs_node_kept.specs.declared.kept.Decided.{Decided}
-use Rattle.qs_packet.specs.declared.message.Message.{Message}
+use Rattle.qs_world_refine.proofs.Words.{◌≡◌, ℕ, ◌<◌, ◌||◌, Bool, true, false, List, [], ◌∷◌, ◌++◌, drop, length, map, Option, Some, None, refl, sym, ap, subst, ◌∙◌, if◌then◌else◌, zero, suc, list_all, list_any, filter, find, same_tid, NodeNo, Tid, is_outcome_of, Decided, Message, Record, recovery, names_transaction, was_committed, is_kept_commit, kept_outcome, NodeValue, Participant, Parcel, Committed, may_be_known, inc_in, count_in, fits, ShowsAll, Said, node_no, said, all_said, is_record_of}
+use Rattle.qs_world_refine.proofs.Words.{face_at, began_here, is_past_commit, place, message_of, scene_of, sight, Sight, IsNewFace, begins_at, IsUnseen, MayBegin, opening_seen, stage_of, IsSteadyWorld, is_steady_parcel, are_two, KnowsNothing, is_tidy_record, or_from, or_left}
 use Rattle.qs_packet.specs.declared.message.Message.TheVariants as messages
-use Rattle.qs_record.specs.declared.record.Record.{Record}
 use Rattle.qs_record.specs.declared.record.Record.TheVariants as records
-use Rattle.qs_restart.specs.Recovery.{recovery, names_transaction}
-use Rattle.qs_node_step.specs.Answering.{was_committed, is_kept_commit, kept_outcome}
-use Rattle.qs_node_step.specs.State.{NodeValue}
 use Rattle.qs_tm.specs.Manager as tm
-use Rattle.qs_tm.specs.declared.participant.Participant.{Participant}
-use Rattle.qs_world.specs.World.{Parcel, World}
+use Rattle.qs_world.specs.World.{World}
 use Rattle.qs_world_agree.specs.World as machine
-use Rattle.qs_world_agree.specs.World.{Committed}
-use Rattle.qs_world_refine.specs.Begun.{may_be_known, has_begun, inc_in, count_in, fits}
-use Rattle.qs_world_refine.specs.EachMove.{ShowsAll}
-use Rattle.qs_world_refine.specs.Links.{Said, node_no}
-use Rattle.qs_world_refine.specs.Messages.{said, all_said}
-use Rattle.qs_world_refine.specs.MoveLaws.{is_record_of}
-use Rattle.qs_world_refine.specs.NodeFaces.{face_at, began_here, is_past_commit}
-use Rattle.qs_world_refine.specs.Places.{place}
-use Rattle.qs_world_refine.specs.Shows.{message_of, scene_of, sight}
-use Rattle.qs_world_refine.specs.Sights.{Sight}
-use Rattle.qs_world_refine.specs.Starts.{IsNewFace, begins_at, IsUnseen, MayBegin, opening_seen}
-use Rattle.qs_world_refine.specs.Steadies.{stage_of, IsSteadyWorld, is_steady_parcel, are_two}
-use Rattle.qs_world_refine.specs.SteadyFacts.{KnowsNothing}
-use Rattle.qs_world_refine.specs.Tidy.{is_tidy_record}
+use Rattle.qs_world_refine.specs.Begun.{has_begun}
 use Rattle.qs_world_refine.proofs.Doubts.{none_of}
 use Rattle.qs_world_refine.proofs.NodeReady.{none_waits}
 use Rattle.qs_world_refine.proofs.SoundParts.{and_both}
@@ -80,12 +56,9 @@ module _ (tid : Tid) (world : World) (steady : IsSteadyWorld world) (numbered : 
   -- ---- nodes
 
   pub not_committed : (n : ℕ) → n < world.size → was_committed tid (node n) ≡ false
-  not_committed n n_in = neither (is_kept_commit (kept_outcome tid (node n))) (list_any (same_tid tid) (node n).committed)
+  not_committed n n_in = or_from (is_kept_commit (kept_outcome tid (node n))) (list_any (same_tid tid) (node n).committed)
       (ap (λ (o : Option Decided). is_kept_commit o) (nothing_known n n_in).outcome)
       (none_any (same_tid tid) (may_be_known world) (λ t its. other tid (may_be_known world) off t its) (node n).committed (steady.nodes n n_in).tidy.committed)
-    where
-      neither : (a b : Bool) → a ≡ false → b ≡ false → (a || b) ≡ false
-      neither a b p q = rw (p, q) refl
 
   past : (n : ℕ) → n < world.size → is_past_commit (node n) tid ≡ false
   past n n_in = by (began_here (node n) tid) (is_kept_commit (kept_outcome tid (node n))) (list_any (same_tid tid) (node n).committed) (not_committed n n_in)
@@ -184,12 +157,9 @@ module _ (tid : Tid) (world : World) (steady : IsSteadyWorld world) (numbered : 
     };
     kept = record {
       now = λ is. never_kept is;
-      saved = λ is. never_kept (first (is_kept_commit (kept_outcome tid (world.hosts tid.home.0).node)) (list_any (same_tid tid) (world.hosts tid.home.0).node.committed) (saved_now is));
+      saved = λ is. never_kept (or_left (is_kept_commit (kept_outcome tid (world.hosts tid.home.0).node)) (list_any (same_tid tid) (world.hosts tid.home.0).node.committed) (saved_now is));
     };
   }
     where
-      first : (a b : Bool) → a ≡ true → (a || b) ≡ true
-      first a b so = rw so refl
-
       saved_now : is_kept_commit (find (is_outcome_of tid) (world.hosts tid.home.0).node.kept.saved.outcomes) ≡ true → is_kept_commit (kept_outcome tid (world.hosts tid.home.0).node) ≡ true
       saved_now is = subst (λ (k : Rattle.qs_node_kept.specs.declared.kept.Kept.Kept). is_kept_commit (find (is_outcome_of tid) k.outcomes) ≡ true) (steady.nodes tid.home.0 home_in).saved is

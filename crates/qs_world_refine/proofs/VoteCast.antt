@@ -1,27 +1,12 @@
 -- A server votes with nothing in the log: read-only, volatile, or against a commit.
-use Rattle.std.proofs.Common.{◌≡◌, ◌⊎◌, ℕ, ◌-◌, ◌<◌, ◌==◌, ◌||◌, Bool, true, false, Some, None, refl, subst, ap, ◌∙◌, arith, if◌then◌else◌}
-use Rattle.std.specs.BTreeMap.{is_at}
-use Rattle.qs_base.specs.Order.{tid_cmp}
+use Rattle.qs_world_refine.proofs.Words.{◌≡◌, ◌⊎◌, ℕ, ◌-◌, ◌<◌, ◌==◌, ◌||◌, Bool, true, false, Some, None, refl, subst, ap, ◌∙◌, arith, if◌then◌else◌, is_at, tid_cmp, Tid, class_of, Vote, ballot_of, member_of, Participant, member_here, Work, part_of, vote_with, enter_vote, served_count, Face, face, uncast_of, SightGoes, MayVote, sight_faced, Scene, sight_during, ShowsWork, Sight, ShowsSight, server_no, IsAt, Goes, or-true, or-false}
 use Rattle.qs_base.specs.declared.identifiers.Class.TheVariants as classes
-use Rattle.qs_base.specs.declared.identifiers.Tid.{Tid}
-use Rattle.qs_ops.specs.Members.{class_of}
 use Rattle.qs_ops.specs.declared.vote.Reason.{Reason}
-use Rattle.qs_ops.specs.declared.vote.Vote.{Vote}
 use Rattle.qs_ops.specs.declared.vote.Vote.TheVariants as votes
-use Rattle.qs_tm.specs.Members.{ballot_of, is_binding, is_refusal}
+use Rattle.qs_tm.specs.Members.{is_binding, is_refusal}
 use Rattle.qs_tm.specs.Participant as participant
-use Rattle.qs_tm.specs.Participant.{member_of}
-use Rattle.qs_tm.specs.declared.participant.Participant.{Participant}
-use Rattle.qs_node_step.specs.Bringing.{member_here}
-use Rattle.qs_node_step.specs.State.{Work, part_of}
-use Rattle.qs_node_step.specs.Voting.{vote_with, enter_vote, served_count}
 use Rattle.qs_world_agree.specs.World.{World, with_at}
-use Rattle.qs_world_refine.specs.Faces.{Face}
-use Rattle.qs_world_refine.specs.NodeFaces.{face, uncast_of}
-use Rattle.qs_world_refine.specs.Seen.{SightGoes, MayVote, sight_faced}
-use Rattle.qs_world_refine.specs.Shows.{Scene, sight_during, ShowsWork}
-use Rattle.qs_world_refine.specs.Sights.{Sight, ShowsSight, server_no}
-use Rattle.qs_world_refine.specs.Steps.{IsAt, Knows, Goes}
+use Rattle.qs_world_refine.specs.Steps.{Knows}
 use Rattle.qs_world_refine.proofs.Alike.{SameFace, found_itself}
 use Rattle.qs_world_refine.proofs.Arrays.{member_put}
 use Rattle.qs_world_refine.proofs.During.{face_here, runs, local_shown}
@@ -91,14 +76,6 @@ module _ (tid : Tid) (scene : Scene) (n s : ℕ) (ballot : Vote) (work : Work) (
       (record (face work.node tid part) { uncast = with_at (face work.node tid part).uncast s 0; blocked = blocked; involved = involved }) shown
       (rw (part_known tid voted_work.node voted_part known_voted) (face_cast blocked involved blocked_is involved_is))
 
-or_true : (b : Bool) → (b || true) ≡ true
-or_true true = refl
-or_true false = refl
-
-or_false : (b : Bool) → (b || false) ≡ b
-or_false true = refl
-or_false false = refl
-
 module _ (tid : Tid) (scene : Scene) (n s : ℕ) (work : Work) (part : Participant) (w : World)
     (at : IsAt scene n work) (knows : Knows tid work part) (server_in : s < 7) (undecided : part.outcome ≡ None) (may : MayVote (face work.node tid part) s) (shown : ShowsWork tid scene n work w) where
   abbrev x : Sight
@@ -111,7 +88,7 @@ module _ (tid : Tid) (scene : Scene) (n s : ℕ) (work : Work) (part : Participa
   read_goes class = record {
     next = turn.next;
     leads = turn.leads;
-    shown = cast_shown tid scene n s votes.ReadOnly work part w at knows server_in undecided may shown turn.next part.blocked part.involved (or_false part.blocked) (or_false part.involved)
+    shown = cast_shown tid scene n s votes.ReadOnly work part w at knows server_in undecided may shown turn.next part.blocked part.involved (or-false part.blocked) (or-false part.involved)
         (subst (λ (f : Face). ShowsSight tid (sight_faced x n (record f { uncast = with_at f.uncast s 0 })) turn.next) face_is turn.shown);
   }
     where
@@ -122,7 +99,7 @@ module _ (tid : Tid) (scene : Scene) (n s : ℕ) (work : Work) (part : Participa
   volatile_goes class = record {
     next = turn.next;
     leads = turn.leads;
-    shown = cast_shown tid scene n s votes.Volatile work part w at knows server_in undecided may shown turn.next part.blocked true (or_false part.blocked) (or_true part.involved)
+    shown = cast_shown tid scene n s votes.Volatile work part w at knows server_in undecided may shown turn.next part.blocked true (or-false part.blocked) (or-true part.involved)
         (subst (λ (f : Face). ShowsSight tid (sight_faced x n (record f { uncast = with_at f.uncast s 0; involved = true })) turn.next) face_is turn.shown);
   }
     where
@@ -133,7 +110,7 @@ module _ (tid : Tid) (scene : Scene) (n s : ℕ) (work : Work) (part : Participa
   against_goes reason class = record {
     next = turn.next;
     leads = turn.leads;
-    shown = cast_shown tid scene n s (votes.Abort reason) work part w at knows server_in undecided may shown turn.next true part.involved (or_true part.blocked) (or_false part.involved)
+    shown = cast_shown tid scene n s (votes.Abort reason) work part w at knows server_in undecided may shown turn.next true part.involved (or-true part.blocked) (or-false part.involved)
         (subst (λ (f : Face). ShowsSight tid (sight_faced x n (record f { uncast = with_at f.uncast s 0; blocked = true })) turn.next) face_is turn.shown);
   }
     where

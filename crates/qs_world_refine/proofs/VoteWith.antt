@@ -1,29 +1,14 @@
 -- A server votes recoverable: its Prepare is logged in the step of the vote.
-use Rattle.std.proofs.Common.{◌≡◌, ℕ, ◌-◌, ◌<◌, ◌≤◌, ◌==◌, ◌||◌, Bool, true, false, List, Some, None, refl, ap, ◌∙◌, arith, if◌then◌else◌}
-use Rattle.std.specs.BTreeMap.{is_at}
-use Rattle.qs_base.specs.Order.{tid_cmp}
+use Rattle.qs_world_refine.proofs.Words.{◌≡◌, ℕ, ◌-◌, ◌<◌, ◌≤◌, ◌==◌, Bool, true, false, List, Some, None, refl, ap, ◌∙◌, arith, if◌then◌else◌, is_at, tid_cmp, Tid, class_of, changes_in, Op, Record, member_of, Participant, member_here, server_at, Work, part_of, vote_with, enter_vote, served_count, face, uncast_of, loans_at, SightGoes, Scene, sight_during, ShowsWork, server_no, IsAt, Goes, or-true, or-false}
 use Rattle.qs_base.specs.declared.identifiers.Class.TheVariants as classes
-use Rattle.qs_base.specs.declared.identifiers.Tid.{Tid}
-use Rattle.qs_ops.specs.Members.{class_of}
-use Rattle.qs_ops.specs.Server.{changes_in}
-use Rattle.qs_ops.specs.declared.operation.Op.{Op}
 use Rattle.qs_ops.specs.declared.vote.Vote.TheVariants as votes
-use Rattle.qs_record.specs.declared.record.Record.{Record}
 use Rattle.qs_record.specs.declared.record.Record.TheVariants as records
 use Rattle.qs_tm.specs.Outcomes as outcome_rules
 use Rattle.qs_tm.specs.Participant as participant
-use Rattle.qs_tm.specs.Participant.{member_of}
-use Rattle.qs_tm.specs.declared.participant.Participant.{Participant}
-use Rattle.qs_node_step.specs.Bringing.{member_here}
-use Rattle.qs_node_servers.specs.Servers.{server_at}
-use Rattle.qs_node_step.specs.State.{Work, part_of}
-use Rattle.qs_node_step.specs.Voting.{vote_with, enter_vote, served_count}
 use Rattle.qs_world_agree.specs.World.{World, with_at}
-use Rattle.qs_world_refine.specs.NodeFaces.{face, uncast_of, waiting_at, loans_at}
-use Rattle.qs_world_refine.specs.Seen.{SightGoes, sight_prepared}
-use Rattle.qs_world_refine.specs.Shows.{Scene, sight_during, ShowsWork}
-use Rattle.qs_world_refine.specs.Sights.{server_no}
-use Rattle.qs_world_refine.specs.Steps.{IsAt, Knows, Goes}
+use Rattle.qs_world_refine.specs.NodeFaces.{waiting_at}
+use Rattle.qs_world_refine.specs.Seen.{sight_prepared}
+use Rattle.qs_world_refine.specs.Steps.{Knows}
 use Rattle.qs_world_refine.proofs.Alike.{SameFace}
 use Rattle.qs_world_refine.proofs.Arrays.{member_put}
 use Rattle.qs_world_refine.proofs.During.{face_here, runs}
@@ -86,14 +71,6 @@ module _ (tid : Tid) (scene : Scene) (n s : ℕ) (work : Work) (part : Participa
       by true = none_left (member_of part (server_no s)).served
       by false = refl
 
-  or_true : (b : Bool) → (b || true) ≡ true
-  or_true true = refl
-  or_true false = refl
-
-  or_false : (b : Bool) → (b || false) ≡ b
-  or_false true = refl
-  or_false false = refl
-
   face_voted : SameFace (record (face work.node tid part) { uncast = with_at (face work.node tid part).uncast s 0; involved = true }) (face new.node tid last_part)
   face_voted = record {
     is_home = refl;
@@ -106,8 +83,8 @@ module _ (tid : Tid) (scene : Scene) (n s : ℕ) (work : Work) (part : Participa
     uncast = uncast_is;
     loans = refl;
     asked = refl;
-    blocked = or_false part.blocked;
-    involved = or_true part.involved;
+    blocked = or-false part.blocked;
+    involved = or-true part.involved;
     told = λ m. refl;
     outcome = rw undecided refl;
     tell = λ m. refl;

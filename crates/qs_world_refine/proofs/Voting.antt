@@ -1,23 +1,9 @@
 -- A server votes recoverable, its Prepare forced: Vote_recoverable.
-use Rattle.std.proofs.Common.{◌≡◌, ◌≢◌, inl, ℕ, ◌+◌, ◌<◌, ◌≤◌, ◌==◌, ◌&&◌, ◌||◌, not, Bool, true, false, List, [], ◌∷◌, ◌++◌, arith, refl, sym, ◌∙◌, ap, if◌then◌else◌, fold}
-use Rattle.std.specs.List.{filter, list_any}
-use Rattle.std.proofs.lemmas.Bool.{eqb-true}
-use Rattle.std.proofs.lemmas.Bool.Decides.{nat_tests}
+use Rattle.qs_world_refine.proofs.Words.{◌≡◌, ◌≢◌, inl, ℕ, ◌+◌, ◌<◌, ◌≤◌, ◌==◌, ◌&&◌, ◌||◌, not, Bool, true, false, List, [], ◌∷◌, ◌++◌, arith, refl, sym, ◌∙◌, ap, if◌then◌else◌, fold, filter, list_any, eqb-true, nat_tests, Tid, class_of, Op, Record, Open, held, held_at, Vote_recoverable, Leads, Prepared, Recovery, recovery, found_record, is_vote_of, nothing_said, place, class_in, Face, ShowsFace, ShowsOpen, server_no, Sight, ShowsSight, ShowsLog, is_in_doubt, link, waiting_link}
 use Rattle.qs_base.specs.declared.identifiers.Class.TheVariants as classes
-use Rattle.qs_base.specs.declared.identifiers.Tid.{Tid}
-use Rattle.qs_ops.specs.Members.{class_of}
-use Rattle.qs_ops.specs.declared.operation.Op.{Op}
-use Rattle.qs_record.specs.declared.record.Record.{Record}
 use Rattle.qs_record.specs.declared.record.Record.TheVariants as records
-use Rattle.qs_world_agree.specs.World.{World, Open, Recoverable, with_at, with_at2}
-use Rattle.qs_world_agree.specs.Guards.{held, held_at}
-use Rattle.qs_world_agree.specs.Step.{Step, Vote_recoverable}
-use Rattle.qs_world_agree.specs.Carry.{Leads}
-use Rattle.qs_restart.specs.Recovery.{Prepared, Recovery, recovery, found_record, is_vote_of, nothing_said}
-use Rattle.qs_world_refine.specs.Places.{place, class_in}
-use Rattle.qs_world_refine.specs.Faces.{Face, ShowsFace, ShowsOpen}
-use Rattle.qs_world_refine.specs.Sights.{server_no, Sight, ShowsSight, ShowsLog, is_in_doubt}
-use Rattle.qs_world_refine.specs.Links.{link, waiting_link}
+use Rattle.qs_world_agree.specs.World.{World, Recoverable, with_at, with_at2}
+use Rattle.qs_world_agree.specs.Step.{Step}
 use Rattle.qs_world_refine.specs.Seen.{sight_prepared}
 use Rattle.qs_world_refine.proofs.EventFaces.{face_vote_recoverable}
 use Rattle.qs_world_refine.proofs.Streams.{Stays, still}

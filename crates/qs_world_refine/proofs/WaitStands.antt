@@ -1,27 +1,11 @@
 -- Commands that stayed open are answered at the end of a step, and what stood of a transaction stands.
-use Rattle.std.proofs.Common.{◌≡◌, ℕ, Bool, true, false, List, [], ◌∷◌, Option, Some, None, fold, refl, if◌then◌else◌}
-use Rattle.std.specs.Map.{lookup}
-use Rattle.std.specs.BTreeMap.{is_at}
-use Rattle.qs_base.specs.declared.identifiers.ClientNo.{ClientNo}
-use Rattle.qs_base.specs.declared.identifiers.Tid.{Tid}
+use Rattle.qs_world_refine.proofs.Words.{◌≡◌, ℕ, Bool, true, false, List, [], ◌∷◌, Option, Some, None, fold, refl, if◌then◌else◌, lookup, is_at, ClientNo, Tid, Decided, kept_outcome, answer, decided_answer, label_at, Work, client_cmp, is_owner, owner_waits, borrower_waits, wait_command, wait_on, waiting_clients, Issued, OpenCommand, Scene, goes_in_run, is_open_in_run, commands_in_run, Stands, GoesOn}
 use Rattle.qs_node_kept.specs.declared.kept.KeptLabel.{KeptLabel}
-use Rattle.qs_node_kept.specs.declared.kept.Decided.{Decided}
 use Rattle.qs_ops.specs.declared.answer.Answer.TheVariants as answers
-use Rattle.qs_node_step.specs.Answering.{kept_outcome}
 use Rattle.qs_node_step.specs.Borrowing.{is_aborted}
-use Rattle.qs_node_step.specs.Bringing.{answer}
-use Rattle.qs_node_step.specs.Commands.{decided_answer}
-use Rattle.qs_node_step.specs.Serving.{label_at}
-use Rattle.qs_node_step.specs.State.{Work, client_cmp}
-use Rattle.qs_node_step.specs.Step.{is_owner, owner_waits, borrower_waits, waits_at, wait_command, wait_on, waiting_clients}
-use Rattle.qs_node_step.specs.declared.state.Issued.{Issued}
-use Rattle.qs_node_step.specs.declared.state.OpenCommand.{OpenCommand}
+use Rattle.qs_node_step.specs.Step.{waits_at}
 use Rattle.qs_world_agree.specs.World.{World}
 use Rattle.qs_world_refine.specs.CommandLaws.{AnswerWaitingGoes}
-use Rattle.qs_world_refine.specs.Shows.{Scene}
-use Rattle.qs_world_refine.specs.Sound.{goes_in_run}
-use Rattle.qs_world_refine.specs.SoundSteps.{is_open_in_run, commands_in_run}
-use Rattle.qs_world_refine.specs.Stands.{Stands, GoesOn}
 use Rattle.qs_world_refine.proofs.BorrowerStands.{answer_stands, borrower_goes}
 use Rattle.qs_world_refine.proofs.SettleStands.{stands_itself, goes_further}
 use Rattle.qs_world_refine.proofs.SoundStep.{wait_carries, found_all}

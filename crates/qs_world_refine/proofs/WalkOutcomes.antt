@@ -1,35 +1,18 @@
 -- What each thing of a step keeps, decisions, outcomes that are told and inquiries keep.
-use Rattle.std.proofs.Common.{◌≡◌, inr, ℕ, Bool, true, false, List, [], ◌∷◌, Option, Some, None, refl, ap, subst, if◌then◌else◌, fold, ◌∙◌}
-use Rattle.std.specs.List.{list_any}
-use Rattle.qs_base.specs.declared.identifiers.NodeNo.{NodeNo}
+use Rattle.qs_world_refine.proofs.Words.{◌≡◌, inr, ℕ, Bool, true, false, List, [], ◌∷◌, Option, Some, None, refl, ap, subst, if◌then◌else◌, fold, ◌∙◌, list_any, NodeNo, ServerNo, Tid, listed, same_node, after_notice, Cause, Record, record_of, writes_commit, is_undecided, Decision, Participant, was_committed, answer_unknown, answer_known, inquiry_came, log, log_if, notify, end_member, due_endings, end_members, learn_member, learners_at, give_notices, keep_outcome, decide, decide_as, decide_commit}
+use Rattle.qs_world_refine.proofs.Words.{Work, here, part_of, with_manager, change_server, names_at, end_record, record_learnt, learn, learn_unknown, take_outcome, tell_came, forget, end_told, take_told, take_names, keep_abort_told, is_other_node, told_unknown, told_known, told_came, fits_record, Reads, Keeps, MayLog, MayForget, is_decided, is_homed}
 use Rattle.qs_base.specs.declared.identifiers.Outcome.{Outcome}
 use Rattle.qs_base.specs.declared.identifiers.Outcome.TheVariants as outcomes
-use Rattle.qs_base.specs.declared.identifiers.ServerNo.{ServerNo}
-use Rattle.qs_base.specs.declared.identifiers.Tid.{Tid}
-use Rattle.qs_engage.specs.Nodes.{listed, same_node}
 use Rattle.qs_book_journal.specs.declared.entry.Act.TheVariants as acts
-use Rattle.qs_ops.specs.Server.{after_notice}
-use Rattle.qs_ops.specs.declared.answer.Cause.{Cause}
 use Rattle.qs_ops.specs.declared.answer.Cause.TheVariants as causes
 use Rattle.qs_ops.specs.declared.vote.Notice.{Notice}
 use Rattle.qs_ops.specs.declared.vote.Notice.TheVariants as notices
 use Rattle.qs_packet.specs.declared.message.Message.TheVariants as messages
-use Rattle.qs_record.specs.declared.record.Record.{Record}
 use Rattle.qs_record.specs.declared.record.Record.TheVariants as records
 use Rattle.qs_tm.specs.Manager as tm
 use Rattle.qs_tm.specs.Outcomes as outcome_rules
-use Rattle.qs_tm.specs.Outcomes.{record_of, writes_commit}
 use Rattle.qs_tm.specs.Participant as participant
-use Rattle.qs_tm.specs.Participant.{is_undecided}
-use Rattle.qs_tm.specs.declared.manager.Decision.{Decision}
-use Rattle.qs_tm.specs.declared.participant.Participant.{Participant}
-use Rattle.qs_node_step.specs.Answering.{was_committed, answer_unknown, answer_known, inquiry_came}
-use Rattle.qs_node_step.specs.Bringing.{log, log_if}
-use Rattle.qs_node_step.specs.Deciding.{notice_of, notify, end_member, due_endings, end_members, learn_member, learners_at, give_notices, keep_outcome, decide, decide_as, decide_commit}
-use Rattle.qs_node_step.specs.State.{Work, here, part_of, with_manager, change_server}
-use Rattle.qs_node_step.specs.Telling.{names_at, end_record, record_learnt, learn, learn_unknown, take_outcome, tell_came, forget, end_told, take_told, take_names, keep_abort_told, is_other_node, told_unknown, told_known, told_came}
-use Rattle.qs_world_refine.specs.Begun.{fits_record}
-use Rattle.qs_world_refine.specs.Walks.{Reads, Keeps, MayLog, MayForget, is_decided, is_homed}
+use Rattle.qs_node_step.specs.Deciding.{notice_of}
 use Rattle.qs_world_refine.proofs.Maps.{lookup_changed}
 use Rattle.qs_world_refine.proofs.ServerKinds.{notice_kind}
 use Rattle.qs_world_refine.proofs.SoundHolds.{told_with}

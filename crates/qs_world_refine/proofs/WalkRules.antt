@@ -1,40 +1,14 @@
 -- What each thing of a step keeps, requests, votes and their answers keep.
-use Rattle.std.proofs.Common.{◌≡◌, ℕ, ◌+◌, ◌==◌, ◌&&◌, ◌||◌, not, Bool, true, false, List, [], ◌∷◌, fold, Option, Some, None, is_none, refl, sym, ap, ◌∙◌, arith, nat_lt, if◌then◌else◌}
-use Rattle.std.proofs.lemmas.Bool.Decides.{nat_tests}
-use Rattle.std.specs.Map.{lookup}
-use Rattle.std.specs.BTreeMap.{is_at}
-use Rattle.qs_base.specs.declared.identifiers.ClientNo.{ClientNo}
-use Rattle.qs_base.specs.declared.identifiers.Member.{Member}
-use Rattle.qs_base.specs.declared.identifiers.NodeNo.{NodeNo}
-use Rattle.qs_base.specs.declared.identifiers.ServerNo.{ServerNo}
-use Rattle.qs_base.specs.declared.identifiers.Tid.{Tid}
-use Rattle.qs_engage.specs.Engage.{last_number, uncovered, is_node}
-use Rattle.qs_engage.specs.Nodes.{listed, same_node}
-use Rattle.qs_engage.specs.declared.engage.Engaged.{Engaged}
+use Rattle.qs_world_refine.proofs.Words.{◌≡◌, ℕ, ◌+◌, ◌==◌, ◌&&◌, ◌||◌, not, Bool, true, false, List, [], ◌∷◌, fold, Option, Some, None, is_none, refl, sym, ap, ◌∙◌, arith, nat_lt, if◌then◌else◌, nat_tests, lookup, is_at, ClientNo, Member, NodeNo, ServerNo, Tid, last_number, uncovered, is_node, listed, same_node, Engaged, is_for, Delivery, after_serving, Cause, Op, Reply, Message, is_client, client_of, class_here, is_told_class, is_by_files, is_undecided, Outstanding, Participant, where_undecided}
+use Rattle.qs_world_refine.proofs.Words.{become_asked, asked_by, ask_came, count, closer_came, block, pass_unknown, refusal_came, send_next, send_each, member_here, enter_issue, with_local, ask_on, is_asked, issue_as, next_number, issue, waits_as, take_reply, reply_came, label_at, learn_label, cover_from, engage, is_dropped, take_in, request_came, change_served, enter_serve, lent_to, make_loan, give_reply, serve, reply_here, serve_or_drop, serve_next, serve_all, Work, here, part_of, with_manager}
+use Rattle.qs_world_refine.proofs.Words.{with_queues, client_cmp, fits, Reads, Keeps, IsPlain}
 use Rattle.qs_engage.specs.declared.engage.Engaged.TheVariants as engagements
 use Rattle.qs_ipc.specs.Ipc as ipc
-use Rattle.qs_ipc.specs.Queue.{is_for}
-use Rattle.qs_ipc.specs.declared.delivery.Delivery.{Delivery}
-use Rattle.qs_ops.specs.Server.{after_serving}
-use Rattle.qs_ops.specs.declared.answer.Cause.{Cause}
-use Rattle.qs_ops.specs.declared.operation.Op.{Op}
-use Rattle.qs_ops.specs.declared.reply.Reply.{Reply}
-use Rattle.qs_packet.specs.declared.message.Message.{Message}
 use Rattle.qs_packet.specs.declared.message.Message.TheVariants as messages
-use Rattle.qs_node_servers.specs.Servers.{is_client, client_of}
 use Rattle.qs_tm.specs.Manager as tm
-use Rattle.qs_tm.specs.Members.{class_here, is_told_class}
 use Rattle.qs_tm.specs.Participant as participant
-use Rattle.qs_tm.specs.Participant.{is_by_files, is_undecided}
-use Rattle.qs_tm.specs.declared.participant.Outstanding.{Outstanding}
-use Rattle.qs_tm.specs.declared.participant.Participant.{Participant}
-use Rattle.qs_node_step.specs.Asking.{where_undecided, become_asked, asked_by, ask_came, count, closer_came, block, pass_unknown, refusal_came}
-use Rattle.qs_node_step.specs.Bringing.{send_next, send_each, member_here}
-use Rattle.qs_node_step.specs.Requests.{enqueue, enter_issue, with_local, ask_on, is_asked, issue_as, next_number, issue, waits_as, take_reply, waiting_at, reply_came}
-use Rattle.qs_node_step.specs.Serving.{label_at, learn_label, met, cover_from, engage, is_dropped, take_in, request_came, change_served, enter_serve, lent_to, make_loan, give_reply, serve, reply_here, may_serve, serve_or_drop, serve_next, serve_all}
-use Rattle.qs_node_step.specs.State.{Work, here, part_of, with_manager, with_queues, client_cmp}
-use Rattle.qs_world_refine.specs.Begun.{fits}
-use Rattle.qs_world_refine.specs.Walks.{Reads, Keeps, IsPlain}
+use Rattle.qs_node_step.specs.Requests.{enqueue, waiting_at}
+use Rattle.qs_node_step.specs.Serving.{met, may_serve}
 use Rattle.qs_world_refine.proofs.ServerKinds.{serving_kind}
 use Rattle.qs_world_refine.proofs.SoundParts.{and_both, both_and}
 

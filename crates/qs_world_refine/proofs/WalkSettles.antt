@@ -1,45 +1,19 @@
 -- What each thing of a step keeps, the rules at the end of a step, a restart of another node and the first step of an incarnation keep.
-use Rattle.std.proofs.Common.{◌≡◌, inl, inr, ℕ, ◌<◌, ◌==◌, ◌&&◌, ◌||◌, not, Bool, true, false, List, [], ◌∷◌, fold, Option, Some, None, is_none, is_some, unwrap_or, refl, sym, ap, subst, ◌∙◌, arith, nat_lt, if◌then◌else◌}
-use Rattle.std.proofs.lemmas.Bool.Decides.{nat_tests}
-use Rattle.std.specs.List.{list_all, filter}
-use Rattle.qs_base.specs.Order.{tid_cmp}
-use Rattle.qs_base.specs.declared.identifiers.NodeNo.{NodeNo}
+use Rattle.qs_world_refine.proofs.Words.{◌≡◌, inl, inr, ℕ, ◌<◌, ◌==◌, ◌&&◌, ◌||◌, not, Bool, true, false, List, [], ◌∷◌, fold, Option, Some, None, is_none, is_some, unwrap_or, refl, sym, ap, subst, ◌∙◌, arith, nat_lt, if◌then◌else◌, nat_tests, list_all, filter, tid_cmp, NodeNo, ServerNo, Tid, release_of, listed, same_node, after_vote, changes_in, vote_of, Cause, Note, Vote, is_recoverable, server_at, audit_no, files_no, named_by, is_undecided, is_forgotten, servers_due, is_due_at, Manager}
+use Rattle.qs_world_refine.proofs.Words.{Participant, send, member_here, decide, end_members, find_gone, inquire, notice_decided, notice_part, notice_tid, peer_restarted, resume_home, resume_part, resume_tid, is_pass_due, pass_rule, may_answer, is_quiet, say_yes, ready_rule, refusal_goes_to, send_refusal, refuse_rule, forget_rule, try, settle_tid, due_tids, settle, Doings, Work, here, part_of, doings_of, with_manager, with_queues, with_doings, record_learnt, owes_note, issue_note, note_text}
+use Rattle.qs_world_refine.proofs.Words.{change_count, served_count, enter_vote, vote_with, vote_frame, vote_next, due_votes, fits, Reads, Keeps, IsPlain, MayLog, is_homed, is_sound, is_engaged, not-true}
 use Rattle.qs_base.specs.declared.identifiers.Outcome.{Outcome}
 use Rattle.qs_base.specs.declared.identifiers.Outcome.TheVariants as outcomes
-use Rattle.qs_base.specs.declared.identifiers.ServerNo.{ServerNo}
-use Rattle.qs_base.specs.declared.identifiers.Tid.{Tid}
-use Rattle.qs_engage.specs.Engage.{release_of}
-use Rattle.qs_engage.specs.Nodes.{listed, same_node}
 use Rattle.qs_ipc.specs.Ipc as ipc
-use Rattle.qs_ops.specs.Server.{after_vote, changes_in, vote_of}
-use Rattle.qs_ops.specs.declared.answer.Cause.{Cause}
 use Rattle.qs_ops.specs.declared.answer.Cause.TheVariants as causes
-use Rattle.qs_ops.specs.declared.operation.Op.TheVariants.{Note}
-use Rattle.qs_ops.specs.declared.vote.Vote.{Vote}
 use Rattle.qs_ops.specs.declared.vote.Vote.TheVariants as votes
-use Rattle.qs_book_machine.specs.Nodes.{is_recoverable}
 use Rattle.qs_packet.specs.declared.message.Message.TheVariants as messages
 use Rattle.qs_record.specs.declared.record.Record.TheVariants as records
-use Rattle.qs_node_servers.specs.Servers.{server_at, audit_no}
 use Rattle.qs_tm.specs.Manager as tm
-use Rattle.qs_tm.specs.Members.{files_no, all_servers}
-use Rattle.qs_tm.specs.Outcomes.{named_by}
+use Rattle.qs_tm.specs.Members.{all_servers}
 use Rattle.qs_tm.specs.Participant as participant
-use Rattle.qs_tm.specs.Participant.{is_undecided, is_forgotten, servers_due, is_due_at}
 use Rattle.qs_tm.specs.declared.participant.Due.TheVariants as dues
-use Rattle.qs_tm.specs.declared.manager.Manager.{Manager}
-use Rattle.qs_tm.specs.declared.participant.Participant.{Participant}
-use Rattle.qs_node_step.specs.Bringing.{send, member_here}
-use Rattle.qs_node_step.specs.Deciding.{decide, end_members}
-use Rattle.qs_node_step.specs.Restarts.{find_gone, inquire, notice_decided, notice_part, notice_tid, peer_restarted, resume_home, resume_part, resume_tid}
-use Rattle.qs_node_step.specs.Settling.{is_pass_due, pass_rule, may_answer, is_quiet, say_yes, ready_rule, refusal_goes_to, send_refusal, refuse_rule, forget_rule, try, settle_tid, due_tids, settle}
-use Rattle.qs_node_step.specs.declared.state.Doings.{Doings}
-use Rattle.qs_node_step.specs.State.{Work, here, part_of, doings_of, no_doings, with_manager, with_queues, with_doings}
-use Rattle.qs_node_step.specs.Telling.{record_learnt}
-use Rattle.qs_node_step.specs.Voting.{owes_note, issue_note, note_text, change_count, served_count, enter_vote, vote_with, vote_frame, vote_next, due_votes}
-use Rattle.qs_world_refine.specs.Begun.{fits}
-use Rattle.qs_world_refine.specs.Walks.{Reads, Keeps, IsPlain, MayLog, is_homed}
-use Rattle.qs_world_refine.specs.Sound.{is_sound, is_engaged}
+use Rattle.qs_node_step.specs.State.{no_doings}
 use Rattle.qs_world_refine.proofs.Maps.{lookup_put}
 use Rattle.qs_world_refine.proofs.ServerKinds.{vote_kind}
 use Rattle.qs_world_refine.proofs.SoundSettle.{undecided_known, settle_tid_sound}
@@ -167,11 +141,7 @@ module _ (P Q : Tid → Bool) (R : NodeNo → Bool) (me : NodeNo) (nodes : ℕ) 
 
       -- a Prepare of this step does not count yet
       unprepared : may_answer tid part work ≡ true → (doings_of tid work).prepared ≡ false
-      unprepared may = off (doings_of tid work).prepared (and_both (not (participant.needs_pass part)) _ (and_both (participant.is_ready (Rattle.qs_node_step.specs.Settling.is_busy tid work.node part) part) _ may).1).1
-        where
-          off : (a : Bool) → not a ≡ true → a ≡ false
-          off true is = absurd (cc (is))
-          off false is = refl
+      unprepared may = not-true (doings_of tid work).prepared (and_both (not (participant.needs_pass part)) _ (and_both (participant.is_ready (Rattle.qs_node_step.specs.Settling.is_busy tid work.node part) part) _ may).1).1
 
       answers : (o : Option NodeNo) → part.engage.superior ≡ o → part.engage.home ≡ false → (doings_of tid work).prepared ≡ false
           → I (elim (released_as part o) [ None ↦ work | Some superior ↦ say_yes tid part superior work ])
@@ -195,12 +165,8 @@ module _ (P Q : Tid → Bool) (R : NodeNo → Bool) (me : NodeNo) (nodes : ℕ) 
 
   forget_rule_walk : (tid : Tid) (part : Participant) (work : Work) → part_of tid work ≡ Some part → I work → I (forget_rule tid part work)
   forget_rule_walk tid part work known i = if_walk P Q R me nodes I reads keeps (is_forgotten part)
-      (λ is. forget_walk P Q R me nodes I reads keeps tid part work known (inl (sym (reads.home tid part work i known) ∙ off part.engage.home (and_both (is_undecided part) _ (and_both (is_undecided part && not part.engage.home) _ is).0).1, is)) i)
+      (λ is. forget_walk P Q R me nodes I reads keeps tid part work known (inl (sym (reads.home tid part work i known) ∙ not-true part.engage.home (and_both (is_undecided part) _ (and_both (is_undecided part && not part.engage.home) _ is).0).1, is)) i)
       (λ is. i)
-    where
-      off : (a : Bool) → not a ≡ true → a ≡ false
-      off true is = absurd (cc (is))
-      off false is = refl
 
   pub settle_tid_walk : (work : Work) (tid : Tid) → is_sound work.node ≡ true → I work → I (settle_tid work tid)
   settle_tid_walk work tid sound i =

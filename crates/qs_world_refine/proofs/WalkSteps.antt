@@ -1,47 +1,19 @@
 -- What each thing of a step keeps, clients' commands, messages and whatever else comes keep.
-use Rattle.std.proofs.Common.{◌≡◌, ℕ, Bool, true, false, List, [], ◌∷◌, fold, Option, Some, None, refl, sym, ap, ◌∙◌}
-use Rattle.std.specs.List.{list_all}
-use Rattle.std.specs.Map.{lookup}
-use Rattle.std.specs.BTreeMap.{is_at}
-use Rattle.qs_base.specs.declared.identifiers.ClientNo.{ClientNo}
-use Rattle.qs_base.specs.declared.identifiers.Member.{Member}
-use Rattle.qs_base.specs.declared.identifiers.NodeNo.{NodeNo}
+use Rattle.qs_world_refine.proofs.Words.{◌≡◌, ℕ, Bool, true, false, List, [], ◌∷◌, fold, Option, Some, None, refl, sym, ap, ◌∙◌, list_all, lookup, is_at, ClientNo, Member, NodeNo, Tid, same_node, is_for, Command, ScriptLine, first_untaken, last_taken, Decided, Lent, ticked, Op, Message, timers_no, Participant, kept_outcome, is_void, take, take_command, lent_command, with_loan, loan_command, borrower_command, enter, request_as, request_command, with_issued, enter_ask, ask, open_command}
+use Rattle.qs_world_refine.proofs.Words.{decided_answer, owner_command, decide, next_number, label_at, Work, part_of, with_manager, change_server, client_cmp, is_owner, labelled, obey, with_command, command_came, message_came, abort_old, age_rule, tick, happen, owner_waits, borrower_waits, wait_command, wait_on, waiting_clients, answer_waiting, Issued, OpenCommand, fits, may_command, Reads, Keeps, is_homed, is_run, TicksOn, begins_one}
 use Rattle.qs_base.specs.declared.identifiers.Outcome.TheVariants as outcomes
-use Rattle.qs_base.specs.declared.identifiers.Tid.{Tid}
-use Rattle.qs_engage.specs.Nodes.{same_node}
-use Rattle.qs_ipc.specs.Queue.{is_for}
-use Rattle.qs_book_journal.specs.declared.script_line.Command.{Command}
 use Rattle.qs_book_journal.specs.declared.script_line.Command.TheVariants as commands
-use Rattle.qs_book_journal.specs.declared.script_line.ScriptLine.{ScriptLine}
-use Rattle.qs_node_kept.specs.Loans.{first_untaken, last_taken}
 use Rattle.qs_node_kept.specs.declared.kept.KeptLabel.{KeptLabel}
-use Rattle.qs_node_kept.specs.declared.kept.Decided.{Decided}
-use Rattle.qs_node_kept.specs.declared.kept.Lent.{Lent}
-use Rattle.qs_ops.specs.Timers.{ticked}
 use Rattle.qs_ops.specs.declared.answer.Answer.TheVariants as answers
 use Rattle.qs_ops.specs.declared.answer.Cause.TheVariants as causes
-use Rattle.qs_ops.specs.declared.operation.Op.{Op}
-use Rattle.qs_packet.specs.declared.message.Message.{Message}
 use Rattle.qs_packet.specs.declared.message.Message.TheVariants as messages
 use Rattle.qs_book_journal.specs.declared.entry.Act.TheVariants as acts
-use Rattle.qs_node_servers.specs.Servers.{timers_no}
 use Rattle.qs_tm.specs.Manager as tm
-use Rattle.qs_tm.specs.declared.participant.Participant.{Participant}
-use Rattle.qs_node_step.specs.Answering.{kept_outcome}
-use Rattle.qs_node_step.specs.Borrowing.{is_aborted, is_void, take, take_command, lent_command, with_loan, loan_command, borrower_command}
-use Rattle.qs_node_step.specs.Bringing.{enter}
-use Rattle.qs_node_step.specs.Commands.{request_as, request_command, with_issued, enter_ask, ask, open_command, decided_answer, owner_command}
-use Rattle.qs_node_step.specs.Deciding.{decide}
-use Rattle.qs_node_step.specs.Requests.{next_number}
-use Rattle.qs_node_step.specs.Serving.{label_at}
-use Rattle.qs_node_step.specs.State.{Work, part_of, with_manager, change_server, client_cmp}
-use Rattle.qs_node_step.specs.Step.{is_owner, labelled, obey, with_command, command_came, message_came, abort_old, age_rule, tick, happen, owner_waits, borrower_waits, waits_at, wait_command, wait_on, waiting_clients, answer_waiting}
+use Rattle.qs_node_step.specs.Borrowing.{is_aborted}
+use Rattle.qs_node_step.specs.Step.{waits_at}
 use Rattle.qs_node_step.specs.declared.event.Event.{Event}
 use Rattle.qs_node_step.specs.declared.event.Event.TheVariants as events
-use Rattle.qs_node_step.specs.declared.state.Issued.{Issued}
-use Rattle.qs_node_step.specs.declared.state.OpenCommand.{OpenCommand}
-use Rattle.qs_world_refine.specs.Begun.{fits, may_command}
-use Rattle.qs_world_refine.specs.Walks.{Reads, Keeps, is_homed, is_run, MayStepOn, MayTick, TicksOn, begins_one}
+use Rattle.qs_world_refine.specs.Walks.{MayStepOn, MayTick}
 use Rattle.qs_world_refine.proofs.SoundParts.{and_both, both_and}
 use Rattle.qs_world_refine.proofs.WalkRules.{fold_walk, if_walk, issue_as_walk, reply_came_walk, request_came_walk, serve_all_walk, undecided_walk, become_asked_walk, ask_came_walk, closer_came_walk, refusal_came_walk}
 use Rattle.qs_world_refine.proofs.WalkOutcomes.{decide_walk, tell_came_walk, told_came_walk, inquiry_came_walk}

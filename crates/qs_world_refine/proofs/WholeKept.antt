@@ -1,26 +1,11 @@
 -- A log that a restart can take up whole stays such behind a record, where a Commit with a list is the first of its transaction and names nodes that some run may have.
-use Rattle.std.proofs.Common.{◌≡◌, ℕ, ◌&&◌, ◌||◌, ◌++◌, not, Bool, true, false, List, [], ◌∷◌, fold, refl, ◌∙◌, subst, arith, if◌then◌else◌}
-use Rattle.std.specs.List.{filter, list_all, list_any}
-use Rattle.std.proofs.lemmas.Bool.Decides.{nat_tests}
-use Rattle.std.proofs.lemmas.List.Folds.{list_all-append}
-use Rattle.qs_base.specs.Order.{same_tid}
-use Rattle.qs_base.specs.declared.identifiers.NodeNo.{NodeNo}
-use Rattle.qs_base.specs.declared.identifiers.Tid.{Tid}
-use Rattle.qs_engage.specs.Nodes.{all_nodes, has_node, listed, with_listed}
-use Rattle.qs_engage.specs.declared.nodes.Nodes.{Nodes}
-use Rattle.qs_restart.specs.Recovery.{Recovery, Untold, ended, is_untold_of}
-use Rattle.qs_node_step.specs.State.{NodeValue}
-use Rattle.qs_tm.specs.declared.participant.Participant.{Participant}
-use Rattle.qs_world.specs.Openings.{is_in_run, names_nodes, is_commit_of_other, are_once, is_whole_log}
+use Rattle.qs_world_refine.proofs.Words.{◌≡◌, ℕ, ◌&&◌, ◌||◌, ◌++◌, not, Bool, true, false, List, [], ◌∷◌, fold, refl, ◌∙◌, subst, arith, if◌then◌else◌, filter, list_all, list_any, nat_tests, list_all-append, same_tid, NodeNo, Tid, listed, with_listed, Nodes, Recovery, Untold, ended, is_untold_of, NodeValue, Participant, is_in_run, is_whole_log, names_node, node_no, where_so, and_from}
+use Rattle.qs_engage.specs.Nodes.{all_nodes, has_node}
+use Rattle.qs_world.specs.Openings.{names_nodes, is_commit_of_other, are_once}
 use Rattle.qs_world.specs.Openings as openings
-use Rattle.qs_world_refine.specs.Links.{names_node, node_no}
-use Rattle.qs_world_refine.specs.Sound.{where_so}
 use Rattle.qs_world_refine.proofs.NodeLists.{listed_within}
 use Rattle.qs_world_refine.proofs.SoundKnown.{same_is}
 use Rattle.qs_world_refine.proofs.SoundParts.{and_both}
-
-both_are : (a b : Bool) → a ≡ true → b ≡ true → (a && b) ≡ true
-both_are a b x y = rw (x, y) refl
 
 -- ---- fewer Commits wait
 
@@ -30,7 +15,7 @@ module _ (p q : Untold → Bool) where
   fewer_all (c ∷ commits) all = by (p c) (and_both (q c) (list_all q commits) all).0 (fewer_all commits (and_both (q c) (list_all q commits) all).1)
     where
       by : (b : Bool) → q c ≡ true → list_all q (filter p commits) ≡ true → list_all q (if b then c ∷ filter p commits else filter p commits) ≡ true
-      by true its more = both_are (q c) (list_all q (filter p commits)) its more
+      by true its more = and_from (q c) (list_all q (filter p commits)) its more
       by false its more = more
 
 fewer_once : (p : Untold → Bool) (commits : List Untold) → are_once commits ≡ true → are_once (filter p commits) ≡ true
@@ -40,13 +25,13 @@ fewer_once p (c ∷ commits) once =
     by (p c) (fewer_all p (is_commit_of_other c.tid) commits both.0) (fewer_once p commits both.1)
   where
     by : (b : Bool) → list_all (is_commit_of_other c.tid) (filter p commits) ≡ true → are_once (filter p commits) ≡ true → are_once (if b then c ∷ filter p commits else filter p commits) ≡ true
-    by true apart more = both_are (list_all (is_commit_of_other c.tid) (filter p commits)) (are_once (filter p commits)) apart more
+    by true apart more = and_from (list_all (is_commit_of_other c.tid) (filter p commits)) (are_once (filter p commits)) apart more
     by false apart more = more
 
 pub whole_ended : (tid : Tid) (said : Recovery) → is_whole_log said ≡ true → is_whole_log (ended tid said) ≡ true
 whole_ended tid said whole =
     let both : (list_all names_nodes said.untold ≡ true) × (are_once said.untold ≡ true) = and_both (list_all names_nodes said.untold) (are_once said.untold) whole in
-    both_are (list_all names_nodes (ended tid said).untold) (are_once (ended tid said).untold) (fewer_all (λ commit. not (is_untold_of tid commit)) names_nodes said.untold both.0) (fewer_once (λ commit. not (is_untold_of tid commit)) said.untold both.1)
+    and_from (list_all names_nodes (ended tid said).untold) (are_once (ended tid said).untold) (fewer_all (λ commit. not (is_untold_of tid commit)) names_nodes said.untold both.0) (fewer_once (λ commit. not (is_untold_of tid commit)) said.untold both.1)
 
 -- ---- one more waits
 
@@ -77,16 +62,16 @@ module _ (tid : Tid) (told : List NodeNo) where
           → (list_all (is_commit_of_other c.tid) (commits ++ last ∷ []) && are_once (commits ++ last ∷ [])) ≡ true
       by true its b more none rest = absurd (cc (none))
       by false its true more none rest = absurd (cc (none))
-      by false its false more none rest = both_are (list_all (is_commit_of_other c.tid) (commits ++ last ∷ [])) (are_once (commits ++ last ∷ []))
-          (list_all-append (is_commit_of_other c.tid) commits (last ∷ []) ∙ both_are (list_all (is_commit_of_other c.tid) commits) (is_commit_of_other c.tid last && true) both.0 (both_are (is_commit_of_other c.tid last) true (other_last c its) refl))
+      by false its false more none rest = and_from (list_all (is_commit_of_other c.tid) (commits ++ last ∷ [])) (are_once (commits ++ last ∷ []))
+          (list_all-append (is_commit_of_other c.tid) commits (last ∷ []) ∙ and_from (list_all (is_commit_of_other c.tid) commits) (is_commit_of_other c.tid last && true) both.0 (and_from (is_commit_of_other c.tid last) true (other_last c its) refl))
           (rest more)
 
   pub whole_listed : (said : Recovery) → list_all (is_in_run 16) told ≡ true → list_any (is_untold_of tid) said.untold ≡ false → is_whole_log said ≡ true
       → (list_all names_nodes (said.untold ++ last ∷ []) && are_once (said.untold ++ last ∷ [])) ≡ true
   whole_listed said run none whole =
       let both : (list_all names_nodes said.untold ≡ true) × (are_once said.untold ≡ true) = and_both (list_all names_nodes said.untold) (are_once said.untold) whole in
-      both_are (list_all names_nodes (said.untold ++ last ∷ [])) (are_once (said.untold ++ last ∷ []))
-      (list_all-append names_nodes said.untold (last ∷ []) ∙ both_are (list_all names_nodes said.untold) (names_nodes last && true) both.0 (both_are (names_nodes last) true run refl))
+      and_from (list_all names_nodes (said.untold ++ last ∷ [])) (are_once (said.untold ++ last ∷ []))
+      (list_all-append names_nodes said.untold (last ∷ []) ∙ and_from (list_all names_nodes said.untold) (names_nodes last && true) both.0 (and_from (names_nodes last) true run refl))
       (once_last said.untold none both.1)
 
 -- ---- whom a set names
@@ -100,7 +85,7 @@ module _ (nodes : Nodes) (p : NodeNo → Bool) where
       both = and_both (where_so (has_node nodes node) (p node)) (list_all (λ node. where_so (has_node nodes node) (p node)) list) each
 
       by : (b : Bool) → where_so b (p node) ≡ true → list_all p (if b then so_far ++ node ∷ [] else so_far) ≡ true
-      by true its = list_all-append p so_far (node ∷ []) ∙ both_are (list_all p so_far) (p node && true) before (both_are (p node) true its refl)
+      by true its = list_all-append p so_far (node ∷ []) ∙ and_from (list_all p so_far) (p node && true) before (and_from (p node) true its refl)
       by false its = before
 
 pub told_nodes : (part : Participant) → list_all (is_in_run 16) (listed part.told) ≡ true
@@ -115,7 +100,7 @@ told_nodes part = all_listed part.told (is_in_run 16) all_nodes [] (each all_nod
     each [] all = refl
     each (n ∷ list) all =
         let both : (is_in_run 16 n ≡ true) × (list_all (is_in_run 16) list ≡ true) = and_both (is_in_run 16 n) (list_all (is_in_run 16) list) all in
-        both_are (where_so (has_node part.told n) (is_in_run 16 n)) (list_all (λ n. where_so (has_node part.told n) (is_in_run 16 n)) list) (so (has_node part.told n) (is_in_run 16 n) both.0) (each list both.1)
+        and_from (where_so (has_node part.told n) (is_in_run 16 n)) (list_all (λ n. where_so (has_node part.told n) (is_in_run 16 n)) list) (so (has_node part.told n) (is_in_run 16 n) both.0) (each list both.1)
 
 -- whom a set lacks its list does not name
 pub names_others : (nodes : Nodes) (node : NodeNo) → not (has_node nodes node) ≡ true → not (openings.has_node (listed nodes) node) ≡ true

@@ -1,17 +1,7 @@
 -- A log in which of each transaction one Commit waits for its End, and names nodes that some run may have, is taken up whole.
-use Rattle.std.proofs.Common.{◌≡◌, ℕ, ◌<◌, ◌||◌, not, Bool, true, false, List, [], ◌∷◌, fold, refl, sym, subst, ◌∙◌, arith, if◌then◌else◌}
-use Rattle.std.specs.List.{filter, flat_map, list_all, list_any}
-use Rattle.std.proofs.lemmas.Bool.Decides.{nat_tests}
-use Rattle.std.proofs.lemmas.List.Folds.{list_any-append}
-use Rattle.qs_base.specs.Order.{same_tid}
-use Rattle.qs_base.specs.declared.identifiers.NodeNo.{NodeNo}
-use Rattle.qs_base.specs.declared.identifiers.Tid.{Tid}
-use Rattle.qs_engage.specs.Nodes.{same_node}
-use Rattle.qs_restart.specs.Recovery.{Untold, is_untold_of}
-use Rattle.qs_world.specs.Openings.{is_in_run, names_nodes, is_commit_of_other, are_once}
+use Rattle.qs_world_refine.proofs.Words.{◌≡◌, ℕ, ◌<◌, ◌||◌, not, Bool, true, false, List, [], ◌∷◌, fold, refl, sym, subst, ◌∙◌, arith, if◌then◌else◌, filter, flat_map, list_all, list_any, nat_tests, list_any-append, same_tid, NodeNo, Tid, same_node, Untold, is_untold_of, is_in_run, names_node, node_no, later_list, not-true, or_from}
+use Rattle.qs_world.specs.Openings.{names_nodes, is_commit_of_other, are_once}
 use Rattle.qs_world_refine.specs.EveryRun.{WholeTaken}
-use Rattle.qs_world_refine.specs.Links.{names_node, node_no}
-use Rattle.qs_world_refine.specs.Lists.{later_list}
 use Rattle.qs_world_refine.proofs.NodeLists.{joined_named, unlisted}
 use Rattle.qs_world_refine.proofs.SoundKnown.{same_is}
 use Rattle.qs_world_refine.proofs.SoundParts.{and_both}
@@ -34,14 +24,7 @@ module _ (tid : Tid) where
   none_of u same [] all = refl
   none_of u same (c ∷ commits) all =
       let both : (is_commit_of_other u c ≡ true) × (list_all (is_commit_of_other u) commits ≡ true) = and_both (is_commit_of_other u c) (list_all (is_commit_of_other u) commits) all in
-      neither (is_untold_of tid c) (list_any (is_untold_of tid) commits) (off (is_untold_of tid c) (subst (λ (k : Tid). not (is_untold_of k c) ≡ true) (same_is u tid same) both.0)) (none_of u same commits both.1)
-    where
-      off : (b : Bool) → not b ≡ true → b ≡ false
-      off true is = absurd (cc (is))
-      off false is = refl
-
-      neither : (a b : Bool) → a ≡ false → b ≡ false → (a || b) ≡ false
-      neither a b x y = rw (x, y) refl
+      or_from (is_untold_of tid c) (list_any (is_untold_of tid) commits) (not-true (is_untold_of tid c) (subst (λ (k : Tid). not (is_untold_of k c) ≡ true) (same_is u tid same) both.0)) (none_of u same commits both.1)
 
   list_stays : (commits : List Untold) (told : List NodeNo) → list_any (is_untold_of tid) commits ≡ false → fold (later_list tid) told commits ≡ told
   list_stays [] told none = refl

@@ -2,7 +2,7 @@
 ghost use Rattle.std.specs.Prelude.{◌≡◌, ◌++◌, ◌≤◌, ◌+◌, ℕ, length, map, IfOk, IfErr, OnOk};
 ghost use Rattle.qs_base.specs.Causes.{Rose};
 ghost use Rattle.qs_disk.specs.Moments.{Keeps};
-ghost use Rattle.qs_log_start.specs.Incarnation.{open_limit, IsTouched};
+ghost use Rattle.qs_log_start.specs.Incarnation.{open_limit, IsTouched, MayLeaveUnraised};
 ghost use Rattle.qs_link.specs.Lane.{IsLane, on_way};
 ghost use Rattle.qs_log.specs.Image.{IsDamaged};
 ghost use Rattle.qs_log.specs.declared.fault.OpenFault.TheVariants as open_faults;
@@ -47,8 +47,9 @@ pub fn start<D: Disk>(
     ensures damaged { D.told → IfErr result (λ back. (at : ℕ) → back.why ≡ open_faults.Damaged at → IsDamaged open_limit (D.state disk.disk).content at) }
     ensures failed { IfErr result (λ back. back.why ≡ open_faults.DiskFailed → Rose (D.fault_count disk.disk) (D.fault_count back.disk.disk)) }
 
-    // The disk is changed at most by the raise.
+    // The disk is changed at most by the raise, and where it failed a power cut may still leave it unraised.
     ensures moments { D.told → Keeps (IsTouched (D.state disk.disk)) (D.state disk.disk) (D.state (begun_disk result).disk) }
+    ensures kept { D.told → IfErr result (λ back. back.why ≡ open_faults.DiskFailed → MayLeaveUnraised (D.state disk.disk) (D.state back.disk.disk)) }
     ensures size { D.byte_count (begun_disk result).disk ≡ D.byte_count disk.disk }
 {
     let (Seated { clients, ends }, plan) = match made_ready(alloc, script) {

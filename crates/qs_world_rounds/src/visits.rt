@@ -73,6 +73,7 @@ fn restart<D: Disk>(node: &mut NodeCell<D>) -> Result<bool, RoundFault>
     match node.restart() {
         Ok(up) => Ok(up),
         Err(RestartFault::DiskFailed) => Err(RoundFault::DiskFault { node: NODE }),
+        Err(RestartFault::Damaged { .. }) => Err(RoundFault::NoMemory),
         Err(RestartFault::NoMemory) => Err(RoundFault::NoMemory),
     }
 }

@@ -1,37 +1,19 @@
 -- A node keeps that a transaction is aborted as long as it runs, and keeps it of each whose records a step ends by an Aborted.
-use Rattle.std.proofs.Common.{◌≡◌, ℕ, ◌==◌, ◌&&◌, ◌||◌, not, Bool, true, false, List, [], ◌∷◌, ◌++◌, Option, Some, None, refl, sym, ap, subst, ◌∙◌}
-use Rattle.std.proofs.lemmas.List.Folds.{list_any-append}
-use Rattle.std.specs.List.{list_any}
-use Rattle.qs_base.specs.Order.{same_tid}
-use Rattle.qs_base.proofs.Same.{same_tid-true, same_tid-self}
+use Rattle.qs_world_runs.proofs.Words.{◌≡◌, ℕ, ◌==◌, ◌&&◌, ◌||◌, not, Bool, true, false, List, [], ◌∷◌, ◌++◌, Option, Some, None, refl, sym, ap, subst, ◌∙◌, list_any-append, list_any, same_tid, same_tid-true, same_tid-self, Tid, Nodes, Command, Message, Record, Work, work_on, after_step, effects_of, step_work, Event, Participant, Source, World, BeginsNew, IsShownWorld, is_sound, is_aborted_of, is_end_of, MakesStep, is_prepare_at, or_right, and_first}
 use Rattle.qs_base.specs.declared.identifiers.Outcome.{Outcome}
 use Rattle.qs_base.specs.declared.identifiers.Outcome.TheVariants as outcomes
-use Rattle.qs_base.specs.declared.identifiers.Tid.{Tid}
-use Rattle.qs_engage.specs.declared.nodes.Nodes.{Nodes}
-use Rattle.qs_book_journal.specs.declared.script_line.Command.{Command}
 use Rattle.qs_book_journal.specs.declared.script_line.Command.TheVariants as commands
-use Rattle.qs_packet.specs.declared.message.Message.{Message}
 use Rattle.qs_packet.specs.declared.message.Message.TheVariants as messages
-use Rattle.qs_record.specs.declared.record.Record.{Record}
 use Rattle.qs_record.specs.declared.record.Record.TheVariants as made
-use Rattle.qs_node_step.specs.State.{NodeValue, Work, work_on}
-use Rattle.qs_node_step.specs.Step.{after_step, effects_of, step_work}
-use Rattle.qs_node_step.specs.declared.event.Event.{Event}
+use Rattle.qs_node_step.specs.State.{NodeValue}
 use Rattle.qs_node_step.specs.declared.event.Event.TheVariants as events
 use Rattle.qs_tm.specs.Manager as tm
-use Rattle.qs_tm.specs.declared.participant.Participant.{Participant}
-use Rattle.qs_world.specs.Moves.{Source}
-use Rattle.qs_world.specs.World.{World}
 use Rattle.qs_world_refine.specs.JoinLaws.{are_in_turn, is_forced_of, is_loose_of}
-use Rattle.qs_world_refine.specs.SaidLaws.{BeginsNew}
-use Rattle.qs_world_refine.specs.ShownWorlds.{IsShownWorld}
-use Rattle.qs_world_refine.specs.Sound.{is_sound}
 use Rattle.qs_world_refine.specs.SoundSteps.{begun}
 use Rattle.qs_world_refine.proofs.TurnEvents.{MayCome, MayHear, step_on}
-use Rattle.qs_world_refine.proofs.TurnOn.{Case, NoLoose, Turned, became, fate_at, fate_found, is_aborted_of, is_end_of, none_loose, same_outcome}
+use Rattle.qs_world_refine.proofs.TurnOn.{Case, NoLoose, Turned, became, fate_at, fate_found, none_loose, same_outcome}
 use Rattle.qs_world_refine.proofs.TurnSettles.{begin_incarnation_on}
-use Rattle.qs_world_runs.specs.Agrees.{MakesStep}
-use Rattle.qs_world_runs.specs.OnRecord.{KeepsAbort, is_prepare_at}
+use Rattle.qs_world_runs.specs.OnRecord.{KeepsAbort}
 use Rattle.qs_world_runs.proofs.AgreesEach.{begins_new, low, may, steady}
 
 -- ---- one transaction is followed, where it may be learnt, acknowledged and ended
@@ -153,12 +135,8 @@ module _ (world : World) (is : IsShownWorld world) (n stamp free : ℕ) (source 
           of false b c is turn = absurd (cc is)
 
       one : (s : ℕ) (rec : Record) → is_prepare_at t s rec ≡ true → is_forced_of t rec ≡ true
-      one s (made.Prepare tid server covers changes) is = rw (turned (left (same_tid tid t) (server.0 == s) is)) refl
+      one s (made.Prepare tid server covers changes) is = rw (turned (and_first (same_tid tid t) (server.0 == s) is)) refl
         where
-          left : (a b : Bool) → (a && b) ≡ true → a ≡ true
-          left true b e = refl
-          left false b e = absurd (cc e)
-
           turned : same_tid tid t ≡ true → same_tid t tid ≡ true
           turned same = subst (λ (x : Tid). same_tid t x ≡ true) (sym (same_tid-true tid t same)) (same_tid-self t)
       one s (made.Commit tid told) is = absurd (cc is)
@@ -171,8 +149,4 @@ module _ (world : World) (is : IsShownWorld world) (n stamp free : ℕ) (source 
         where
           by : (b : Bool) → is_prepare_at t s rec ≡ b → (b || list_any (is_prepare_at t s) rs) ≡ true → (list_any (is_prepare_at t s) rs ≡ true → list_any (is_forced_of t) rs ≡ true) → (is_forced_of t rec || list_any (is_forced_of t) rs) ≡ true
           by true now more rest = rw (one s rec now) refl
-          by false far more rest = last (is_forced_of t rec) (list_any (is_forced_of t) rs) (rest more)
-            where
-              last : (a b : Bool) → b ≡ true → (a || b) ≡ true
-              last true b is = refl
-              last false b is = is
+          by false far more rest = or_right (is_forced_of t rec) (list_any (is_forced_of t) rs) (rest more)

@@ -1,47 +1,25 @@
 -- At each stage of a step, each transaction that has begun then is followed by a machine that shows it, which was there before the step.
-use Rattle.std.proofs.Common.{◌≡◌, ◌⊎◌, inl, inr, ℕ, ◌+◌, ◌<◌, ◌==◌, ◌&&◌, ◌||◌, not, Bool, true, false, Option, Some, None, refl, sym, ap, subst, ◌∙◌, arith, nat_lt, nat_le, if◌then◌else◌}
-use Rattle.std.proofs.lemmas.Bool.{eqb-true}
-use Rattle.std.proofs.lemmas.Bool.Decides.{nat_tests}
-use Rattle.qs_base.specs.declared.identifiers.Tid.{Tid}
-use Rattle.qs_book_journal.specs.declared.script_line.Command.{Command}
+use Rattle.qs_world_runs.proofs.Words.{◌≡◌, ◌⊎◌, inl, inr, ℕ, ◌+◌, ◌<◌, ◌==◌, ◌&&◌, ◌||◌, not, Bool, true, false, Option, Some, None, refl, sym, ap, subst, ◌∙◌, arith, nat_lt, nat_le, if◌then◌else◌, eqb-true, nat_tests, Tid, Command, names_transaction, Work, work_on, happen, Event, Source, Commanded, Handed, Queues, Clock, Noticed, Step, command_of, event_of, next_parcel, Parcel, World, count_in, inc_in, may_be_known, ShowsAll, IsShownWorld, BeginsNew, MachineGives, stage_of, IsSteady}
+use Rattle.qs_world_runs.proofs.Words.{is_sound, IsStage, IsTidy, Stage, StepCame, step_came, from_client, StepMay, step_may, shown_fit, begin_incarnation_sound, ComesFit, begun_tidy, begun_low, steady_gives, begins_in, MakesStep}
 use Rattle.qs_book_journal.specs.declared.script_line.Command.TheVariants as commands
-use Rattle.qs_restart.specs.Recovery.{names_transaction}
-use Rattle.qs_node_step.specs.State.{Work, work_on}
-use Rattle.qs_node_step.specs.Step.{happen}
-use Rattle.qs_node_step.specs.declared.event.Event.{Event}
 use Rattle.qs_node_step.specs.declared.event.Event.TheVariants as events
 use Rattle.qs_tm.specs.Manager as tm
 use Rattle.qs_world.specs.Moves as moves
-use Rattle.qs_world.specs.Moves.{Source, Commanded, Handed, Queues, Clock, Noticed, Step, command_of, event_of}
-use Rattle.qs_world.specs.Posting.{next_parcel}
-use Rattle.qs_world.specs.World.{Parcel, World}
 use Rattle.qs_world_agree.specs.World as machine
-use Rattle.qs_world_refine.specs.Begun.{count_in, has_begun, inc_in, may_be_known}
-use Rattle.qs_world_refine.specs.EachMove.{ShowsAll}
-use Rattle.qs_world_refine.specs.ShownWorlds.{IsShownWorld}
+use Rattle.qs_world_refine.specs.Begun.{has_begun}
 use Rattle.qs_world_refine.specs.SoundSteps.{MayHappen, begun}
-use Rattle.qs_world_refine.specs.SaidLaws.{BeginsNew}
-use Rattle.qs_world_refine.specs.Steadies.{GivesAt, MachineGives, stage_of}
-use Rattle.qs_world_refine.specs.Steady.{IsSteady}
-use Rattle.qs_world_refine.specs.Sound.{is_sound}
-use Rattle.qs_world_refine.specs.Tidy.{IsStage, IsTidy, Stage}
+use Rattle.qs_world_refine.specs.Steadies.{GivesAt}
 use Rattle.qs_world_refine.specs.Walks.{begins_one}
 use Rattle.qs_world_refine.proofs.BegunStep.{begins_come}
-use Rattle.qs_world_refine.proofs.EachEvent.{StepCame, step_came}
-use Rattle.qs_world_refine.proofs.EachMay.{FromClient, from_client}
-use Rattle.qs_world_refine.proofs.MoveGoes.{StepMay, step_may}
-use Rattle.qs_world_refine.proofs.ShownMoves.{shown_fit, shown_gives}
+use Rattle.qs_world_refine.proofs.EachMay.{FromClient}
+use Rattle.qs_world_refine.proofs.ShownMoves.{shown_gives}
 use Rattle.qs_world_refine.proofs.SoundParts.{and_both}
-use Rattle.qs_world_refine.proofs.SoundRestart.{begin_incarnation_sound}
 use Rattle.qs_world_refine.proofs.SoundHappen.{happen_sound}
-use Rattle.qs_world_refine.proofs.SteadyBegins.{ComesFit, begun_tidy, comes_may, comes_new}
-use Rattle.qs_world_refine.proofs.SteadyFrom.{begun_low, steady_gives}
+use Rattle.qs_world_refine.proofs.SteadyBegins.{comes_may, comes_new}
 use Rattle.qs_world_refine.proofs.SteadyMays.{event_fits}
 use Rattle.qs_world_refine.proofs.SteadySteps.{bump}
-use Rattle.qs_world_refine.proofs.StillSteps.{begins_in}
 use Rattle.qs_world_refine.proofs.ToCome.{tid_is}
 use Rattle.qs_world_refine.proofs.UnseenWorlds.{start_shows_all, started}
-use Rattle.qs_world_runs.specs.Agrees.{MakesStep}
 use Rattle.qs_world_runs.proofs.AgreesTidy.{behind, before, done_tidy, stage_before, stage_behind}
 use Rattle.qs_world_runs.proofs.AgreesFirst.{Follows, follows_done, follows_first}
 

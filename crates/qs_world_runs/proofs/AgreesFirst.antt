@@ -1,23 +1,9 @@
 -- A machine that shows a transaction before a step follows it: as the step begins, and once what comes is done.
-use Rattle.std.proofs.Common.{◌≡◌, inl, ℕ, ◌<◌, Bool, true, false, [], refl}
-use Rattle.qs_base.specs.declared.identifiers.Tid.{Tid}
-use Rattle.qs_node_step.specs.State.{NodeValue, Work, work_on}
-use Rattle.qs_node_step.specs.Step.{happen}
-use Rattle.qs_node_step.specs.declared.event.Event.{Event}
-use Rattle.qs_world.specs.Moves.{Source}
-use Rattle.qs_world.specs.World.{World}
+use Rattle.qs_world_runs.proofs.Words.{◌≡◌, inl, ℕ, ◌<◌, Bool, true, false, [], refl, Tid, Work, work_on, happen, Event, Source, World, leads_on, ShowsAll, place, Scene, scene_of, IsSteady, case_of, StepCame, begin_incarnation_sound, seen}
+use Rattle.qs_node_step.specs.State.{NodeValue}
 use Rattle.qs_world_agree.specs.World as machine
-use Rattle.qs_world_agree.proofs.Carries.{leads_on}
-use Rattle.qs_world_refine.specs.EachMove.{ShowsAll}
-use Rattle.qs_world_refine.specs.Places.{place}
-use Rattle.qs_world_refine.specs.Shows.{Scene, scene_of}
 use Rattle.qs_world_refine.specs.SoundSteps.{begun}
-use Rattle.qs_world_refine.specs.Steady.{IsSteady}
-use Rattle.qs_world_refine.proofs.EachCame.{case_of}
-use Rattle.qs_world_refine.proofs.EachEvent.{StepCame}
 use Rattle.qs_world_refine.proofs.EachHears.{first}
-use Rattle.qs_world_refine.proofs.SoundRestart.{begin_incarnation_sound}
-use Rattle.qs_world_refine.proofs.SoundViews.{seen}
 use Rattle.qs_world_refine.proofs.TurnEvents.{happen_on}
 use Rattle.qs_world_refine.proofs.TurnOn.{KeptSo}
 use Rattle.qs_world_refine.proofs.TurnSettles.{begin_incarnation_on}

@@ -1,35 +1,14 @@
 -- What a stage of a step says of a transaction the next stage says too: as the node settles, and as it answers commands that stayed open.
-use Rattle.std.proofs.Common.{◌≡◌, ℕ, Bool, true, false, Option, Some, None, is_none, refl, ap, if◌then◌else◌}
-use Rattle.std.specs.Map.{lookup}
-use Rattle.std.specs.BTreeMap.{is_at}
-use Rattle.qs_base.specs.declared.identifiers.ClientNo.{ClientNo}
+use Rattle.qs_world_runs.proofs.Words.{◌≡◌, ℕ, Bool, true, false, Option, Some, None, is_none, refl, ap, if◌then◌else◌, lookup, is_at, ClientNo, Tid, Begun, Decided, kept_outcome, is_aborted, answer, decided_answer, label_at, forget_rule, pass_rule, ready_rule, refuse_rule, settle_tid, try, Work, client_cmp, borrower_waits, is_owner, owner_waits, wait_command, wait_on, waits_at, Issued, OpenCommand, is_undecided, Participant, World, Scene, is_sound, commands_in_run, case_of, settle_tid_goes}
+use Rattle.qs_world_runs.proofs.Words.{leads_on}
 use Rattle.qs_base.specs.declared.identifiers.Outcome.{Outcome}
-use Rattle.qs_base.specs.declared.identifiers.Tid.{Tid}
-use Rattle.qs_node_kept.specs.declared.kept.KeptLabel.{KeptLabel}
-use Rattle.qs_node_kept.specs.declared.kept.Decided.{Decided}
 use Rattle.qs_ops.specs.declared.answer.Answer.TheVariants as answers
-use Rattle.qs_node_step.specs.Answering.{kept_outcome}
-use Rattle.qs_node_step.specs.Borrowing.{is_aborted}
-use Rattle.qs_node_step.specs.Bringing.{answer}
-use Rattle.qs_node_step.specs.Commands.{decided_answer}
-use Rattle.qs_node_step.specs.Serving.{label_at}
-use Rattle.qs_node_step.specs.Settling.{forget_rule, pass_rule, ready_rule, refuse_rule, settle_tid, try}
-use Rattle.qs_node_step.specs.State.{Work, client_cmp}
-use Rattle.qs_node_step.specs.Step.{borrower_waits, is_owner, owner_waits, wait_command, wait_on, waits_at}
-use Rattle.qs_node_step.specs.declared.state.Issued.{Issued}
-use Rattle.qs_node_step.specs.declared.state.OpenCommand.{OpenCommand}
-use Rattle.qs_tm.specs.Participant.{is_undecided}
-use Rattle.qs_tm.specs.declared.participant.Participant.{Participant}
-use Rattle.qs_world.specs.World.{World}
 use Rattle.qs_world_agree.specs.World as machine
-use Rattle.qs_world_refine.specs.Shows.{Scene}
-use Rattle.qs_world_refine.specs.Sound.{goes_in_run, is_sound}
-use Rattle.qs_world_refine.specs.SoundSteps.{commands_in_run, is_open_in_run}
+use Rattle.qs_world_refine.specs.Sound.{goes_in_run}
+use Rattle.qs_world_refine.specs.SoundSteps.{is_open_in_run}
 use Rattle.qs_world_refine.specs.Stands.{GoesOn, Stands}
 use Rattle.qs_world_refine.proofs.BorrowerStands.{answer_stands, borrower_goes}
-use Rattle.qs_world_refine.proofs.EachCame.{case_of}
 use Rattle.qs_world_refine.proofs.LaterWorlds.{commit_stays}
-use Rattle.qs_world_refine.proofs.SettleGoes.{settle_tid_goes}
 use Rattle.qs_world_refine.proofs.SettleStands.{stands_itself}
 use Rattle.qs_world_refine.proofs.SoundSettle.{ready_rule_sound, refuse_rule_sound, undecided_known}
 use Rattle.qs_world_refine.proofs.SoundStep.{found_all}
@@ -38,7 +17,6 @@ use Rattle.qs_world_refine.proofs.TurnCommands.{borrower_command_on}
 use Rattle.qs_world_refine.proofs.TurnOn.{Case, TurnsOn, answer_on, if_on, on_itself, on_then}
 use Rattle.qs_world_refine.proofs.TurnRules.{undecided_on}
 use Rattle.qs_world_refine.proofs.TurnSettles.{forget_rule_on, pass_on, ready_on, refuse_on}
-use Rattle.qs_world_agree.proofs.Carries.{leads_on}
 use Rattle.qs_world_runs.proofs.AgreesStage.{AtStage}
 
 -- ---- what a transaction's own turn, or another's, leaves of what is kept as committed
@@ -86,7 +64,7 @@ wait_on_on {k} work client = by (lookup (is_at (client_cmp client)) work.node.co
     borrower command None None = on_itself work
     borrower command None (Some tid) = borrower_command_on client tid command.line.command work
 
-    at : (command : OpenCommand) (o : Option KeptLabel) → TurnsOn k work (elim o [ None ↦ work | Some begun ↦ waits_at client command begun work ])
+    at : (command : OpenCommand) (o : Option Begun) → TurnsOn k work (elim o [ None ↦ work | Some begun ↦ waits_at client command begun work ])
     at command None = on_itself work
     at command (Some begun) = if_on (is_owner client begun.owner) (owner command begun.tid) (borrower command command.issued begun.tid)
 
@@ -118,11 +96,11 @@ module _ (t : Tid) (scene : Scene) (n : ℕ) (work : Work) (w : machine.World) (
     command_stands : GoesOn t scene n (wait_command client command work) w
     command_stands = by (label_at command.line.label work.node)
       where
-        owned : (begun : KeptLabel) (b : Bool) → GoesOn t scene n (if b then owner_waits client begun.tid command.line.command work else borrower_waits client command.issued begun.tid command.line.command work) w
+        owned : (begun : Begun) (b : Bool) → GoesOn t scene n (if b then owner_waits client begun.tid command.line.command work else borrower_waits client command.issued begun.tid command.line.command work) w
         owned begun true = owner_stands begun.tid
         owned begun false = borrower_stands command.issued begun.tid
 
-        by : (o : Option KeptLabel) → GoesOn t scene n (elim o [ None ↦ work | Some begun ↦ waits_at client command begun work ]) w
+        by : (o : Option Begun) → GoesOn t scene n (elim o [ None ↦ work | Some begun ↦ waits_at client command begun work ]) w
         by None = stands_itself t scene n work w is
         by (Some begun) = owned begun (is_owner client begun.owner)
 

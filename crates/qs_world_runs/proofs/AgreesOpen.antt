@@ -1,42 +1,26 @@
 -- While a loan of a transaction stands at a node, or a vote of it is due there, the machine has no commit of it.
-use Rattle.std.proofs.Common.{◌≡◌, ℕ, ◌+◌, ◌==◌, ◌&&◌, ◌||◌, not, Bool, true, false, List, [], ◌∷◌, length, Option, Some, None, is_none, is_some, refl, sym, ap, ◌∙◌, arith, if◌then◌else◌}
-use Rattle.std.specs.List.{filter, list_any}
+use Rattle.qs_world_runs.proofs.Words.{◌≡◌, ℕ, ◌==◌, ◌&&◌, ◌||◌, not, Bool, true, false, List, [], ◌∷◌, length, Option, Some, None, is_none, is_some, refl, sym, ap, ◌∙◌, arith, if◌then◌else◌, filter, list_any, Tid, same_node, is_standing_loan, Lent, is_lent, Work, is_undecided, needs_pass, Participant, Committed, Aborted, Open, began_here, face_at, outcome_seen, place, Scene, is_engaged, same_flag, where_so, face_is, shown_here, known_sound, nothing_lent, PartSound, is_apart, not-true}
+use Rattle.qs_world_runs.proofs.Words.{next_not_zero}
 use Rattle.qs_base.specs.declared.identifiers.Outcome.{Outcome}
 use Rattle.qs_base.specs.declared.identifiers.Outcome.TheVariants as outcomes
-use Rattle.qs_base.specs.declared.identifiers.Tid.{Tid}
-use Rattle.qs_engage.specs.Nodes.{same_node}
 use Rattle.qs_ipc.specs.Ipc as ipc
-use Rattle.qs_node_kept.specs.Loans.{is_standing_loan}
-use Rattle.qs_node_kept.specs.declared.kept.Lent.{Lent}
-use Rattle.qs_node_step.specs.Settling.{is_lent}
-use Rattle.qs_node_step.specs.State.{Work, part_of}
+use Rattle.qs_node_step.specs.State.{part_of}
 use Rattle.qs_tm.specs.Outcomes.{is_abort}
-use Rattle.qs_tm.specs.Participant.{is_undecided, needs_pass}
-use Rattle.qs_tm.specs.declared.participant.Participant.{Participant}
 use Rattle.qs_world_agree.specs.World as machine
-use Rattle.qs_world_agree.specs.World.{Committed, Aborted, Open}
 use Rattle.qs_world_refine.specs.Faces.{Face}
-use Rattle.qs_world_refine.specs.NodeFaces.{began_here, face_at, outcome_seen}
-use Rattle.qs_world_refine.specs.Places.{place}
-use Rattle.qs_world_refine.specs.Shows.{Scene}
-use Rattle.qs_world_refine.specs.Sound.{is_engaged, is_idle, same_flag, where_so}
+use Rattle.qs_world_refine.specs.Sound.{is_idle}
 use Rattle.qs_world_refine.specs.Stands.{Stands}
-use Rattle.qs_world_refine.proofs.Heads.{aborted_cell, face_is, none_engaged, shown_here}
-use Rattle.qs_world_refine.proofs.SoundHolds.{known_sound}
-use Rattle.qs_world_refine.proofs.SoundKnown.{nothing_lent}
+use Rattle.qs_world_refine.proofs.Heads.{aborted_cell, none_engaged}
 use Rattle.qs_world_refine.proofs.SoundParts.{and_both}
-use Rattle.qs_world_refine.proofs.SoundViews.{PartSound, is_apart}
+use Rattle.std.proofs.lemmas.Bool.{and_left}
 
 -- no loan stands where none is counted
 none_counted : (t : Tid) (inc : ℕ) (loans : List Lent) → length (filter (is_standing_loan t inc) loans) ≡ 0 → list_any (is_standing_loan t inc) loans ≡ false
 none_counted t inc [] none = refl
 none_counted t inc (loan ∷ rest) none = by (is_standing_loan t inc loan) none (none_counted t inc rest)
   where
-    positive : (k : ℕ) → k + 1 ≡ 0 → ⊥
-    positive k is = omega (arith, is)
-
     by : (b : Bool) → length (if b then loan ∷ filter (is_standing_loan t inc) rest else filter (is_standing_loan t inc) rest) ≡ 0 → (length (filter (is_standing_loan t inc) rest) ≡ 0 → list_any (is_standing_loan t inc) rest ≡ false) → (b || list_any (is_standing_loan t inc) rest) ≡ false
-    by true some more = absurd (positive (length (filter (is_standing_loan t inc) rest)) (omega (arith, some)))
+    by true some more = absurd (next_not_zero (length (filter (is_standing_loan t inc) rest)) (omega (arith, some)))
     by false none more = more none
 
 module _ (t : Tid) (scene : Scene) (n : ℕ) (work : Work) (v : machine.World) (is : Stands t scene n work v) (committed : v.cell ≡ Committed) where
@@ -106,19 +90,12 @@ module _ (t : Tid) (scene : Scene) (n : ℕ) (work : Work) (v : machine.World) (
     unanswering : is_some part.engage.superior ≡ false
     unanswering = sym (ap (λ (b : Bool). if b then not (is_some part.outcome) else is_some part.engage.superior) later) ∙ off
       where
-        no : (a b : Bool) → a ≡ false → (a && b) ≡ false
-        no a b so = rw so refl
-
         later : began_here work.node t ≡ false
-        later = no (same_node t.home work.node.setting.node) (t.inc == work.node.setting.inc) (home_is ∙ not_home)
+        later = and_left (same_node t.home work.node.setting.node) (t.inc == work.node.setting.inc) (home_is ∙ not_home)
 
     pub none_due : needs_pass part ≡ false
-    none_due = not_so (needs_pass part) (and_both (not (is_lent t work.node)) (not (needs_pass part)) (and_both (not (ipc.waits t work.node.queues)) (not (is_lent t work.node) && not (needs_pass part)) idle).1).1
+    none_due = not-true (needs_pass part) (and_both (not (is_lent t work.node)) (not (needs_pass part)) (and_both (not (ipc.waits t work.node.queues)) (not (is_lent t work.node) && not (needs_pass part)) idle).1).1
       where
-        not_so : (b : Bool) → not b ≡ true → b ≡ false
-        not_so true so = absurd (cc (so))
-        not_so false so = refl
-
         where_it : (a b : Bool) → a ≡ true → where_so a b ≡ true → b ≡ true
         where_it true b x so = so
         where_it false b x so = absurd (cc (x))

@@ -1,45 +1,23 @@
 -- At the turn of each transaction, as a node settles, nothing is committed of which a vote is due; nor is what is lent, as commands that stayed open are answered.
-use Rattle.std.proofs.Common.{◌≡◌, ℕ, ◌&&◌, Bool, true, false, List, [], ◌∷◌, fold, Option, Some, None, is_none, refl, sym, subst, ◌∙◌, arith, if◌then◌else◌}
-use Rattle.std.specs.BTreeMap.{is_at}
-use Rattle.std.specs.List.{list_all}
-use Rattle.std.specs.Map.{lookup}
-use Rattle.std.proofs.lemmas.Bool.Decides.{nat_tests}
-use Rattle.qs_base.specs.Order.{same_tid, tid_cmp}
-use Rattle.qs_base.specs.declared.identifiers.ClientNo.{ClientNo}
-use Rattle.qs_base.specs.declared.identifiers.Outcome.{Outcome}
-use Rattle.qs_base.specs.declared.identifiers.Tid.{Tid}
-use Rattle.qs_node_step.specs.Settling.{due_tids, settle, settle_tid}
-use Rattle.qs_node_step.specs.State.{Work}
-use Rattle.qs_node_step.specs.Step.{happen, wait_on, waiting_clients}
-use Rattle.qs_node_step.specs.declared.event.Event.{Event}
+use Rattle.qs_world_runs.proofs.Words.{◌≡◌, ℕ, ◌&&◌, Bool, true, false, List, [], ◌∷◌, fold, Some, None, refl, sym, subst, ◌∙◌, arith, if◌then◌else◌, is_at, list_all, lookup, nat_tests, same_tid, tid_cmp, ClientNo, Tid, due_tids, settle, settle_tid, Work, happen, wait_on, waiting_clients, Event, is_undecided, needs_pass, Participant, Source, World, IsShownWorld, is_sound, where_so, commands_in_run, settle_leaves, same_is, wait_carries, seen, AtEach, Every, MakesStep, PassesUndone, SoundStages}
+use Rattle.qs_world_runs.proofs.Words.{nodes_in, same_Some}
 use Rattle.qs_tm.specs.Manager as tm
 use Rattle.qs_tm.specs.Manager.{is_one}
-use Rattle.qs_tm.specs.Participant.{is_undecided, needs_pass}
 use Rattle.qs_tm.specs.declared.manager.Which.TheVariants as whiches
-use Rattle.qs_tm.specs.declared.participant.Participant.{Participant}
-use Rattle.qs_world.specs.Moves.{Source}
-use Rattle.qs_world.specs.World.{World}
-use Rattle.qs_world_refine.specs.ShownWorlds.{IsShownWorld}
-use Rattle.qs_world_refine.specs.Sound.{in_order, is_less, is_sound, where_so}
-use Rattle.qs_world_refine.specs.SoundSteps.{commands_in_run}
+use Rattle.qs_world_refine.specs.Sound.{in_order, is_less}
 use Rattle.qs_world_refine.proofs.LogFrames.{Apart}
 use Rattle.qs_world_refine.proofs.SaidSteps.{step_open}
-use Rattle.qs_world_refine.proofs.SettleFrames.{settle_leaves}
 use Rattle.qs_world_refine.proofs.SoundAge.{picked, put_all}
 use Rattle.qs_world_refine.proofs.SoundFrames.{behind, is_below, order_tail}
-use Rattle.qs_world_refine.proofs.SoundKnown.{same_is}
 use Rattle.qs_world_refine.proofs.SoundParts.{and_both}
-use Rattle.qs_world_refine.proofs.SoundStep.{wait_carries}
-use Rattle.qs_world_refine.proofs.SoundViews.{seen}
 use Rattle.qs_world_refine.proofs.TidyNodes.{part_read}
 use Rattle.qs_world_lawful.specs.Agreed.{AreLentUndone}
-use Rattle.qs_world_lawful.specs.Given.{AtEach}
-use Rattle.qs_world_lawful.specs.Logs.{Every}
-use Rattle.qs_world_runs.specs.Agrees.{MakesStep, PassesAgree, PassesUndone, SoundStages, StagesSound, WaitsAgree, nodes_in}
+use Rattle.qs_world_runs.specs.Agrees.{PassesAgree, StagesSound, WaitsAgree}
 use Rattle.qs_world_runs.proofs.AgreesEach.{all_done, all_first, begins_new, came_to, low, may, steady}
 use Rattle.qs_world_runs.proofs.AgreesFirst.{Follows}
 use Rattle.qs_world_runs.proofs.AgreesOpen.{none_due}
 use Rattle.qs_world_runs.proofs.AgreesWhole.{Following, its_undone, lent_undone, settles_on, waits_on}
+use Rattle.qs_base_lemmas.proofs.Tests.{none_is}
 
 -- ---- each transaction that is due is undecided, and has one turn
 
@@ -119,17 +97,10 @@ module _ (work : Work) where
       its = found e.0 e.1 (rw (here e.0) refl)
 
       undecided : is_one whiches.Due e.0 e.1 ≡ true → e.1.outcome ≡ None
-      undecided so = none e.1.outcome (and_both (is_undecided e.1) _ so).0
-        where
-          none : (o : Option Outcome) → is_none o ≡ true → o ≡ None
-          none None so = refl
-          none (Some outcome) so = absurd (cc (so))
+      undecided so = none_is e.1.outcome (and_both (is_undecided e.1) _ so).0
 
       open_now : is_one whiches.Due e.0 e.1 ≡ true → IsOpenAt work e.0
-      open_now so part known = subst (λ (p : Participant). p.outcome ≡ None) (one e.1 part (sym its ∙ known)) (undecided so)
-        where
-          one : (a b : Participant) → Some a ≡ Some b → a ≡ b
-          one a b same = cc (same)
+      open_now so part known = subst (λ (p : Participant). p.outcome ≡ None) (same_Some e.1 part (sym its ∙ known)) (undecided so)
 
       by : (b : Bool) → is_one whiches.Due e.0 e.1 ≡ b → HaveTurns work (picked whiches.Due es) → HaveTurns work (if b then e.0 ∷ picked whiches.Due es else picked whiches.Due es)
       by true so more = (record { now = open_now so; others = below_apart e.0 es below }, more)

@@ -1,64 +1,35 @@
 -- What the machine of one transaction says at a stage of a node's step: while it is not committed there, its home has not committed it.
-use Rattle.std.proofs.Common.{◌≡◌, ◌⊎◌, inl, inr, ℕ, ◌<◌, ◌==◌, ◌||◌, not, Bool, true, false, Option, Some, None, refl, sym, ap, subst, ◌∙◌, arith, if◌then◌else◌}
-use Rattle.std.specs.List.{find, list_any}
-use Rattle.std.proofs.lemmas.Bool.{eqb-true}
-use Rattle.std.proofs.lemmas.Bool.Decides.{nat_tests}
-use Rattle.qs_base.specs.Order.{same_tid}
-use Rattle.qs_base.specs.declared.identifiers.NodeNo.{NodeNo}
+use Rattle.qs_world_runs.proofs.Words.{◌≡◌, ◌⊎◌, inl, inr, ℕ, ◌<◌, ◌==◌, ◌||◌, not, Bool, true, false, Option, Some, None, refl, sym, ap, subst, ◌∙◌, if◌then◌else◌, find, list_any, eqb-true, eq-eqb, or_left, or_right, same_tid, NodeNo, Tid, same_node, Nodes, is_outcome_of, is_kept_commit, Work, Participant, World, Committed, Leads, ShowsAll, began_here, outcome_seen, place, Scene, same_flag, IsSteadyWorld, IsTidyNode, Stage, case_of, face_is, shown_here, known_sound, is_committed_at, nodes_in}
+use Rattle.qs_world_runs.proofs.Words.{eqb-self}
+use Rattle.std.proofs.lemmas.Bool.{false_from_ne_true}
 use Rattle.qs_base.specs.declared.identifiers.Outcome.{Outcome}
 use Rattle.qs_base.specs.declared.identifiers.Outcome.TheVariants as outcomes
-use Rattle.qs_base.specs.declared.identifiers.Tid.{Tid}
-use Rattle.qs_engage.specs.Nodes.{same_node}
-use Rattle.qs_engage.specs.declared.nodes.Nodes.{Nodes}
-use Rattle.qs_node_kept.specs.Keeping.{is_outcome_of}
-use Rattle.qs_node_step.specs.Answering.{is_kept_commit, was_committed}
-use Rattle.qs_node_step.specs.State.{NodeValue, Work, part_of}
+use Rattle.qs_node_step.specs.Answering.{was_committed}
+use Rattle.qs_node_step.specs.State.{NodeValue, part_of}
 use Rattle.qs_tm.specs.Manager as tm
-use Rattle.qs_tm.specs.declared.participant.Participant.{Participant}
-use Rattle.qs_world.specs.World.{World}
 use Rattle.qs_world_agree.specs.World as machine
-use Rattle.qs_world_agree.specs.World.{Committed}
-use Rattle.qs_world_agree.specs.Carry.{Leads}
-use Rattle.qs_world_refine.specs.EachMove.{ShowsAll}
 use Rattle.qs_world_refine.specs.Faces.{Face}
-use Rattle.qs_world_refine.specs.NodeFaces.{began_here, outcome_seen}
-use Rattle.qs_world_refine.specs.Places.{place}
-use Rattle.qs_world_refine.specs.Shows.{Scene}
-use Rattle.qs_world_refine.specs.Sound.{same_flag}
 use Rattle.qs_world_refine.specs.Stands.{Stands}
-use Rattle.qs_world_refine.specs.Steadies.{IsSteadyWorld}
-use Rattle.qs_world_refine.specs.Tidy.{IsTidyNode, Stage, is_settled}
-use Rattle.qs_world_refine.proofs.EachCame.{case_of}
-use Rattle.qs_world_refine.proofs.Heads.{face_is, shown_here}
+use Rattle.qs_world_refine.specs.Tidy.{is_settled}
 use Rattle.qs_world_refine.proofs.LaterWorlds.{commit_stays}
-use Rattle.qs_world_refine.proofs.SoundHolds.{known_sound}
 use Rattle.qs_world_refine.proofs.TurnOn.{KeptSo, became, fate_at, fate_found, same_outcome}
 use Rattle.qs_world_lawful.specs.Agreed.{node_in}
-use Rattle.qs_world_lawful.specs.Beside.{is_committed_at, is_done}
-use Rattle.qs_world_runs.specs.Agrees.{nodes_in}
+use Rattle.qs_world_lawful.specs.Beside.{is_done}
 
 -- ---- at a home between its steps, what it knows as committed it keeps so, or its log had it
 
 home_keeps : (c : Stage) (node : NodeValue) → IsTidyNode c node → (t : Tid) → same_node t.home node.setting.node ≡ true → (part : Participant) → tm.part_of t node.manager ≡ Some part → part.outcome ≡ Some outcomes.Commit → was_committed t node ≡ true
 home_keeps c node tidy t home part known decided = by (began_here node t) refl
   where
-    last : (a b : Bool) → b ≡ true → (a || b) ≡ true
-    last true b is = refl
-    last false b is = is
-
     by : (b : Bool) → began_here node t ≡ b → was_committed t node ≡ true
     by true here = tidy.crossed.commits t part known here decided
-    by false later = last (is_kept_commit (find (is_outcome_of t) node.kept.now.outcomes)) (list_any (same_tid t) node.committed)
+    by false later = or_right (is_kept_commit (find (is_outcome_of t) node.kept.now.outcomes)) (list_any (same_tid t) node.committed)
         (subst (λ (o : Option Outcome). is_settled o (list_any (same_tid t) node.committed) ≡ true) decided (tidy.crossed.earlier t part known home later))
 
 -- it has not committed what is neither kept so nor known so
 not_done : (t : Tid) (node : NodeValue) → (was_committed t node ≡ true → ⊥) → ((part : Participant) → tm.part_of t node.manager ≡ Some part → part.outcome ≡ Some outcomes.Commit → ⊥) → is_committed_at node t ≡ false
-not_done t node unkept unknown = neither (no (was_committed t node) unkept) (by (tm.part_of t node.manager) refl)
+not_done t node unkept unknown = neither (false_from_ne_true (was_committed t node) unkept) (by (tm.part_of t node.manager) refl)
   where
-    no : (b : Bool) → (b ≡ true → ⊥) → b ≡ false
-    no true never = absurd (never refl)
-    no false never = refl
-
     neither : {a b : Bool} → a ≡ false → b ≡ false → (a || b) ≡ false
     neither x y = rw (x, y) refl
 
@@ -90,19 +61,13 @@ module _ (t : Tid) (world : World) (w : machine.World) (tidy : IsSteadyWorld wor
   -- who is in its step, and knows the commit at the home
   known_here : t.home.0 ≡ n → (part : Participant) → part_of t work ≡ Some part → part.outcome ≡ Some outcomes.Commit → v.cell ≡ Committed
   known_here at part known decided = s.stands.lawful.agreed.knows_commit (place n (later.inc n)) ((shown_here t later n work v s.stands).outcome
-      ∙ (ap (λ (f : Face). f.outcome) (face_is t later n work v s.stands part known) ∙ (ap (λ (o : Option Outcome). outcome_seen o (part.engage.home || part.involved)) decided ∙ seen (part.engage.home || part.involved) (either part.engage.home part.involved is_home))))
+      ∙ (ap (λ (f : Face). f.outcome) (face_is t later n work v s.stands part known) ∙ (ap (λ (o : Option Outcome). outcome_seen o (part.engage.home || part.involved)) decided ∙ seen (part.engage.home || part.involved) (or_left part.engage.home part.involved is_home))))
     where
       seen : (b : Bool) → b ≡ true → outcome_seen (Some outcomes.Commit) b ≡ Committed
       seen b so = rw so refl
 
-      either : (a b : Bool) → a ≡ true → (a || b) ≡ true
-      either a b so = rw so refl
-
       here : same_node t.home work.node.setting.node ≡ true
-      here = ap (λ (k : NodeNo). same_node t.home k) s.stands.at.node ∙ itself t.home.0 n at
-        where
-          itself : (a b : ℕ) → a ≡ b → (a == b) ≡ true
-          itself a b is = grind (arith, nat_tests, is)
+      here = ap (λ (k : NodeNo). same_node t.home k) s.stands.at.node ∙ eq-eqb t.home.0 n at
 
       is_home : part.engage.home ≡ true
       is_home = flag part.engage.home (same_node t.home work.node.setting.node) here (known_sound t work.node part known s.stands.sound).homed
@@ -141,10 +106,7 @@ module _ (t : Tid) (world : World) (w : machine.World) (tidy : IsSteadyWorld wor
           (λ part known decided. never (commit_on (all.kept.now (home_keeps _ (world.hosts t.home.0).node (tidy.nodes t.home.0 home_in).tidy t home_there part known decided))))
         where
           home_there : same_node t.home (world.hosts t.home.0).node.setting.node ≡ true
-          home_there = ap (λ (k : NodeNo). same_node t.home k) (tidy.seated.node t.home.0 home_in) ∙ itself t.home.0
-            where
-              itself : (a : ℕ) → (a == a) ≡ true
-              itself a = grind (arith, nat_tests)
+          home_there = ap (λ (k : NodeNo). same_node t.home k) (tidy.seated.node t.home.0 home_in) ∙ eqb-self t.home.0
 
       by : (b : Bool) → (t.home.0 == n) ≡ b → is_committed_at (if b then work.node else (world.hosts t.home.0).node) t ≡ false
       by false apart = there

@@ -1,28 +1,16 @@
 -- A node at each stage of its step keeps of transactions that have begun alone: before the step, or in it, where a client begins one.
-use Rattle.std.proofs.Common.{◌≡◌, ◌⊎◌, inl, inr, ℕ, ◌+◌, ◌<◌, ◌≤◌, ◌==◌, ◌&&◌, ◌||◌, Bool, true, false, refl, sym, ap, subst, ◌∙◌, arith, nat_lt, nat_le}
-use Rattle.std.proofs.lemmas.Bool.Decides.{nat_tests}
-use Rattle.qs_base.specs.declared.identifiers.NodeNo.{NodeNo}
-use Rattle.qs_engage.specs.Nodes.{same_node}
-use Rattle.qs_restart.specs.Recovery.{names_transaction}
-use Rattle.qs_node_step.specs.State.{NodeValue, Work}
-use Rattle.qs_node_step.specs.Step.{happen}
-use Rattle.qs_node_step.specs.declared.event.Event.{Event}
+use Rattle.qs_world_runs.proofs.Words.{◌≡◌, ◌⊎◌, inl, inr, ℕ, ◌+◌, ◌<◌, ◌≤◌, ◌==◌, ◌&&◌, ◌||◌, Bool, true, false, refl, sym, ap, subst, ◌∙◌, arith, nat_lt, nat_le, nat_tests, NodeNo, same_node, names_transaction, Work, happen, Event, World, count_in, inc_in, IsSteadyWorld, IsStage, IsTidy, IsTidyNode, Stage, ComesFit, begun_tidy, c, stage, begins_in, tidy_keeps, tidy_ticks, tidy_reads}
+use Rattle.qs_node_step.specs.State.{NodeValue}
 use Rattle.qs_node_step.specs.declared.event.Event.TheVariants as events
 use Rattle.qs_tm.specs.Manager as tm
-use Rattle.qs_world.specs.World.{World}
-use Rattle.qs_world_refine.specs.Begun.{begun_among, count_in, inc_in}
+use Rattle.qs_world_refine.specs.Begun.{begun_among}
 use Rattle.qs_world_refine.specs.SoundSteps.{begun}
-use Rattle.qs_world_refine.specs.Steadies.{IsSteadyWorld}
-use Rattle.qs_world_refine.specs.Tidy.{IsStage, IsTidy, IsTidyNode, Stage}
 use Rattle.qs_world_refine.specs.Walks.{MayStepOn}
 use Rattle.qs_world_refine.proofs.SoundParts.{both_and}
-use Rattle.qs_world_refine.proofs.SteadyBegins.{ComesFit, begun_tidy, c, comes_on, stage}
+use Rattle.qs_world_refine.proofs.SteadyBegins.{comes_on}
 use Rattle.qs_world_refine.proofs.SteadyGrows.{begun_past, begun_rises, own_past, past_rises}
 use Rattle.qs_world_refine.proofs.SteadySteps.{bump, d, more}
-use Rattle.qs_world_refine.proofs.StillSteps.{begins_in}
 use Rattle.qs_world_refine.proofs.TidyHappens.{Later, MayComeOn, happen_tidy}
-use Rattle.qs_world_refine.proofs.TidyKeeps.{tidy_keeps, tidy_ticks}
-use Rattle.qs_world_refine.proofs.TidyReads.{tidy_reads}
 use Rattle.qs_world_refine.proofs.WalkSteps.{happen_walk, may_tick}
 
 bump_here : (n : ℕ) (count : ℕ → ℕ) → bump n count n ≡ count n + 1

@@ -1,46 +1,21 @@
 -- At each stage of a step nothing is committed of which a request comes, or a loan stands; and so it is from stage to stage.
-use Rattle.std.proofs.Common.{◌≡◌, ℕ, ◌<◌, ◌||◌, Bool, true, false, List, [], ◌∷◌, Some, refl, sym, ap, subst, arith, nat_lt, if◌then◌else◌}
-use Rattle.std.specs.List.{list_all, list_any}
-use Rattle.std.proofs.lemmas.Bool.Decides.{nat_tests}
-use Rattle.qs_base.specs.Order.{same_tid}
-use Rattle.qs_base.specs.declared.identifiers.ClientNo.{ClientNo}
-use Rattle.qs_base.specs.declared.identifiers.Tid.{Tid}
-use Rattle.qs_node_kept.specs.Loans.{is_standing_loan}
-use Rattle.qs_node_kept.specs.declared.kept.Lent.{Lent}
-use Rattle.qs_packet.specs.declared.message.Message.{Message}
+use Rattle.qs_world_runs.proofs.Words.{◌≡◌, ℕ, ◌<◌, ◌||◌, Bool, true, false, List, [], ◌∷◌, Some, refl, sym, ap, subst, arith, nat_lt, if◌then◌else◌, list_all, list_any, nat_tests, same_tid, ClientNo, Tid, is_standing_loan, Lent, Message, names_transaction, is_lent, settle_tid, Work, wait_on, Event, Clock, Commanded, Handed, Noticed, Queues, Source, event_of, next_parcel, Parcel, World, Committed, scene_of, IsShownWorld, commands_in_run, MachineGives, IsTidy, Stage, from_client, from_node}
+use Rattle.qs_world_runs.proofs.Words.{from_notice, same_is, wait_carries, ComesFit, tidy_keeps, tidy_reads, MakesStep, nodes_in, same_Some}
 use Rattle.qs_packet.specs.declared.message.Message.TheVariants as messages
-use Rattle.qs_restart.specs.Recovery.{names_transaction}
-use Rattle.qs_node_step.specs.Settling.{is_lent, settle_tid}
-use Rattle.qs_node_step.specs.State.{Work}
-use Rattle.qs_node_step.specs.Step.{wait_on}
-use Rattle.qs_node_step.specs.declared.event.Event.{Event}
 use Rattle.qs_node_step.specs.declared.event.Event.TheVariants as events
-use Rattle.qs_world.specs.Moves.{Clock, Commanded, Handed, Noticed, Queues, Source, event_of}
-use Rattle.qs_world.specs.Posting.{next_parcel}
-use Rattle.qs_world.specs.World.{Parcel, World}
 use Rattle.qs_world_agree.specs.World as machine
-use Rattle.qs_world_agree.specs.World.{Committed}
 use Rattle.qs_world_refine.specs.Begun.{has_begun}
 use Rattle.qs_world_refine.specs.Links.{Requested, node_no}
 use Rattle.qs_world_refine.specs.Messages.{said}
-use Rattle.qs_world_refine.specs.Shows.{scene_of}
-use Rattle.qs_world_refine.specs.ShownWorlds.{IsShownWorld}
-use Rattle.qs_world_refine.specs.SoundSteps.{commands_in_run}
-use Rattle.qs_world_refine.specs.Steadies.{MachineGives}
 use Rattle.qs_world_refine.specs.TakenLaws.{rest_behind}
-use Rattle.qs_world_refine.specs.Tidy.{IsTidy, Stage, is_tidy_loan}
-use Rattle.qs_world_refine.proofs.EachMay.{from_client, from_node, from_notice, is_next}
+use Rattle.qs_world_refine.specs.Tidy.{is_tidy_loan}
+use Rattle.qs_world_refine.proofs.EachMay.{is_next}
 use Rattle.qs_world_refine.proofs.Heads.{no_request}
-use Rattle.qs_world_refine.proofs.SoundKnown.{same_is}
 use Rattle.qs_world_refine.proofs.SoundParts.{and_both}
 use Rattle.qs_world_refine.proofs.SoundSettle.{settle_tid_sound}
-use Rattle.qs_world_refine.proofs.SoundStep.{wait_carries}
-use Rattle.qs_world_refine.proofs.SteadyBegins.{ComesFit}
-use Rattle.qs_world_refine.proofs.TidyKeeps.{tidy_keeps}
-use Rattle.qs_world_refine.proofs.TidyReads.{tidy_reads}
 use Rattle.qs_world_refine.proofs.WalkSettles.{settle_tid_walk}
 use Rattle.qs_world_lawful.specs.Agreed.{AgreesEvent, AgreesMessage, AreLentUndone, IsUndone}
-use Rattle.qs_world_runs.specs.Agrees.{EventAgrees, MakesStep, nodes_in}
+use Rattle.qs_world_runs.specs.Agrees.{EventAgrees}
 use Rattle.qs_world_runs.proofs.AgreesEach.{AllFollow, all_first, came_to, fit, gives, low, steady, up}
 use Rattle.qs_world_runs.proofs.AgreesFirst.{Follows, first_stage}
 use Rattle.qs_world_runs.proofs.AgreesFollow.{after_settling, after_waiting}
@@ -145,16 +120,13 @@ module _ (world : World) (is : IsShownWorld world) (n stamp free : ℕ) (source 
       Agrees : Event → Type 0
       Agrees e = AgreesEvent world.size (nodes_in world) n first_of e
 
-      one : (a b : Event) → Some a ≡ Some b → a ≡ b
-      one a b same = cc (same)
-
       by : (source : Source) → event_of world n stamp source ≡ Some event → Agrees event
       by (Commanded k) comes = let from = from_client world n k event (steady world is n stamp free source event makes) comes in subst Agrees (sym from.is) lent_first
       by (Handed m) comes = let from = from_node world n stamp m event comes in subst Agrees (sym from.is) (on_message m from.parcel from.found from.parcel.message refl
           (subst (λ (e : Event). ComesFit world is.steady n free (low world is n stamp free source event makes) (up world is n stamp free source event makes) e) from.is (fit world is n stamp free source event makes))
           (subst (λ (e : Event). MachineGives e first_of) from.is (gives world is n stamp free source event makes)))
-      by Queues comes = subst Agrees (one events.ServeAll event comes) tt
-      by Clock comes = subst Agrees (one events.Tick event comes) tt
+      by Queues comes = subst Agrees (same_Some events.ServeAll event comes) tt
+      by Clock comes = subst Agrees (same_Some events.Tick event comes) tt
       by (Noticed m new) comes = let from = from_notice world n stamp m new event comes in subst Agrees (sym from.is) tt
 
 -- ---- what comes in a step is of what is not committed

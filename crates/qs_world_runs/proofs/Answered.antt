@@ -1,47 +1,24 @@
 -- A step answers commands that are in hand, each once: so it is after each thing that a rule does.
-use Rattle.std.proofs.Common.{◌≡◌, ◌≢◌, ◌⊎◌, inl, inr, ℕ, ◌==◌, Bool, true, false, ◌||◌, List, [], ◌∷◌, ◌++◌, Option, Some, None, Equal, refl, sym, ap, subst, ◌∙◌, arith}
-use Rattle.std.proofs.lemmas.Bool.Decides.{nat_tests}
-use Rattle.std.proofs.lemmas.Cmp.{nat_cmp_total, on_total, tied_itself}
-use Rattle.std.proofs.lemmas.List.Folds.{list_any-append}
+use Rattle.qs_world_runs.proofs.Words.{◌≡◌, ◌≢◌, ◌⊎◌, inl, inr, ℕ, ◌==◌, Bool, true, false, ◌||◌, List, [], ◌∷◌, ◌++◌, Option, Some, None, Equal, refl, sym, ap, subst, ◌∙◌, nat_cmp_total, tied_itself, list_any-append, insert_entry, is_at, IsTotalOrder, list_any, lookup, remove_entry, ClientNo, Act, ScriptLine, changed_apart, changed_none, IsRising, put_rises, remove_rises, removed, Answer, client_cmp, step_work, ClientAnswer, Event, Issued, OpenCommand, command_of, IsOfOpen, with_event}
+use Rattle.qs_world_runs.proofs.Words.{IsKept, IsOrdinary, Trace, entered, fresh_command, trace_of, Every, AreApart, client_exact, same_client_or, every_on, every_more, eqb-true, eqb-self, some_same}
+use Rattle.std.proofs.lemmas.Cmp.{on_total}
 use Rattle.std.proofs.lemmas.Map.Lookups.{exact_unsigned}
-use Rattle.std.specs.BTreeMap.{insert_entry, is_at}
-use Rattle.std.specs.Cmp.{IsTotalOrder}
-use Rattle.std.specs.List.{list_any}
-use Rattle.std.specs.Map.{lookup, remove_entry}
-use Rattle.qs_base.specs.declared.identifiers.ClientNo.{ClientNo}
-use Rattle.qs_book_journal.specs.declared.entry.Act.{Act}
 use Rattle.qs_book_journal.specs.declared.entry.Act.TheVariants as acts
 use Rattle.qs_book_journal.specs.declared.script_line.Command.TheVariants as commands
-use Rattle.qs_book_journal.specs.declared.script_line.ScriptLine.{ScriptLine}
-use Rattle.qs_book_laws.proofs.Maps.{changed_apart, changed_none, lookup_changed, lookup_put, lookup_put_apart}
-use Rattle.qs_book_laws.proofs.Rising.{IsRising, put_rises, remove_rises, removed}
-use Rattle.qs_ops.specs.declared.answer.Answer.{Answer}
+use Rattle.qs_book_laws.proofs.Maps.{lookup_changed, lookup_put, lookup_put_apart}
 use Rattle.qs_ops.specs.declared.answer.Answer.TheVariants as answers
-use Rattle.qs_node_step.specs.State.{NodeValue, client_cmp}
-use Rattle.qs_node_step.specs.Step.{step_work}
-use Rattle.qs_node_step.specs.declared.event.ClientAnswer.{ClientAnswer}
-use Rattle.qs_node_step.specs.declared.event.Event.{Event}
+use Rattle.qs_node_step.specs.State.{NodeValue}
 use Rattle.qs_node_step.specs.declared.event.Event.TheVariants as events
-use Rattle.qs_node_step.specs.declared.state.Issued.{Issued}
-use Rattle.qs_node_step.specs.declared.state.OpenCommand.{OpenCommand}
 use Rattle.qs_tm.specs.Manager as tm
-use Rattle.qs_world.specs.Moves.{command_of}
 use Rattle.qs_world.specs.Posting.{is_answer_to}
-use Rattle.qs_world_runs.specs.Answering.{Answering, Commands, IsFree, IsOfOpen, IsOpenStill, WasOpen, with_event}
-use Rattle.qs_world_runs.specs.Traces.{IsKept, IsOrdinary, Trace, answered, entered, fresh_command, noted, trace_of, with_issued, with_line}
-use Rattle.qs_world_lawful.specs.Logs.{Every}
-use Rattle.qs_world_lawful.proofs.Answers.{AreApart, client_exact, same_client_or}
-use Rattle.qs_world_lawful.proofs.LogFrames.{every_on}
+use Rattle.qs_world_runs.specs.Answering.{Answering, Commands, IsFree, IsOpenStill, WasOpen}
+use Rattle.qs_world_runs.specs.Traces.{answered, noted, with_issued, with_line}
 use Rattle.qs_world_lawful.proofs.OtherShares.{removed_apart}
-use Rattle.qs_world_lawful.proofs.ParcelsKept.{every_more}
 use Rattle.qs_world_lawful.proofs.TellingOn.{changed_rises}
 use Rattle.qs_world_runs.proofs.TraceStages.{step_traced}
 
 client_total : IsTotalOrder client_cmp
 client_total = on_total (λ (c : ClientNo). c.0) nat_cmp_total
-
-one_of : {A : Type 0} {x y : A} → Some x ≡ Some y → x ≡ y
-one_of e = cc e
 
 -- ---- answers grow
 
@@ -50,11 +27,8 @@ module _ (said : List ClientAnswer) (a : ClientAnswer) where
   or_later k is = list_any-append (is_answer_to k) said (a ∷ []) ∙ ap (λ (b : Bool). b || list_any (is_answer_to k) (a ∷ [])) is
 
   or_last : list_any (is_answer_to a.client.0) (said ++ a ∷ []) ≡ true
-  or_last = list_any-append (is_answer_to a.client.0) said (a ∷ []) ∙ of (list_any (is_answer_to a.client.0) said) (a.client.0 == a.client.0) (itself a.client.0)
+  or_last = list_any-append (is_answer_to a.client.0) said (a ∷ []) ∙ of (list_any (is_answer_to a.client.0) said) (a.client.0 == a.client.0) (eqb-self a.client.0)
     where
-      itself : (n : ℕ) → (n == n) ≡ true
-      itself n = grind (arith, nat_tests)
-
       of : (b c : Bool) → c ≡ true → (b || (c || false)) ≡ true
       of true c is = refl
       of false c is = rw is refl
@@ -113,12 +87,9 @@ module _ (was : Commands) where
         away : (client ≢ c) → (client.0 == c.0) ≡ false
         away far = of (client.0 == c.0) refl
           where
-            equal : (m n : ℕ) → (m == n) ≡ true → m ≡ n
-            equal m n e = grind (arith, nat_tests, e)
-
             of : (b : Bool) → (client.0 == c.0) ≡ b → b ≡ false
             of false e = refl
-            of true e = absurd (far (ap (λ (n : ℕ). record { 0 = n }) (equal client.0 c.0 e)))
+            of true e = absurd (far (ap (λ (n : ℕ). record { 0 = n }) (eqb-true client.0 c.0 e)))
 
         by : (client ≡ c) ⊎ ((client ≢ c) × AreApart client c) → IsOpenStill was now c other
         by (inl same) = absurd (cc (sym (removed client_cmp client_exact client t.commands a.rising) ∙ subst (λ (x : ClientNo). lookup (is_at (client_cmp x)) (remove_entry (is_at (client_cmp client)) t.commands) ≡ Some other) (sym same) is))
@@ -129,12 +100,9 @@ module _ (was : Commands) where
     were_open : (k : ℕ) → list_any (is_answer_to k) now ≡ true → WasOpen was (record { 0 = k })
     were_open k is = by (either t.answers one k is)
       where
-        equal : (m n : ℕ) → (m == n) ≡ true → m ≡ n
-        equal m n e = grind (arith, nat_tests, e)
-
         by : (list_any (is_answer_to k) t.answers ≡ true) ⊎ ((client.0 == k) ≡ true) → WasOpen was (record { 0 = k })
         by (inl before) = a.were k before
-        by (inr same) = record { command = own.old; there = subst (λ (n : ℕ). lookup (is_at (client_cmp (record { 0 = n }))) was ≡ Some own.old) (equal client.0 k same) own.there }
+        by (inr same) = record { command = own.old; there = subst (λ (n : ℕ). lookup (is_at (client_cmp (record { 0 = n }))) was ≡ Some own.old) (eqb-true client.0 k same) own.there }
 
     -- with some entries before the answer
     closes_with : (entries : List Act) → Every (IsOfOpen was now) entries → Answering was (answered client command said (record t { entries = entries }))
@@ -188,7 +156,7 @@ module _ (was : Commands) where
             old = s.old;
             there = s.there;
             unanswered = s.unanswered;
-            line = s.line ∙ ap (λ (k : OpenCommand). k.line) (one_of (sym (lookup_changed (is_at (client_cmp client)) mark t.commands old found) ∙ subst (λ (x : ClientNo). lookup (is_at (client_cmp x)) (tm.changed_value (is_at (client_cmp client)) mark t.commands) ≡ Some command) (sym same) is));
+            line = s.line ∙ ap (λ (k : OpenCommand). k.line) (some_same (sym (lookup_changed (is_at (client_cmp client)) mark t.commands old found) ∙ subst (λ (x : ClientNo). lookup (is_at (client_cmp x)) (tm.changed_value (is_at (client_cmp client)) mark t.commands) ≡ Some command) (sym same) is));
           })
 
   pub answering_kept : IsKept (Answering was)
@@ -274,7 +242,7 @@ module _ (commands : Commands) where
         by c command is true near = subst (λ (x : ClientNo). IsOpenStill was t.answers x command) (sym (client_exact c line.client near)) (record {
           old = fresh_command line;
           there = there;
-          line = ap (λ (k : OpenCommand). k.line) (one_of (sym (lookup_put client_cmp line.client (fresh_command line) (tied_itself nat_cmp_total line.client.0) t.commands)
+          line = ap (λ (k : OpenCommand). k.line) (some_same (sym (lookup_put client_cmp line.client (fresh_command line) (tied_itself nat_cmp_total line.client.0) t.commands)
               ∙ subst (λ (x : ClientNo). lookup (is_at (client_cmp x)) (insert_entry client_cmp t.commands line.client (fresh_command line)) ≡ Some command) (client_exact c line.client near) is));
           unanswered = unanswered;
         })

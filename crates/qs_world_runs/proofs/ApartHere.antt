@@ -1,49 +1,15 @@
 -- At a node that is not engaged no request of its own stands: to a server of its own it would wait there, and nothing does; to another node, at its issuer, which would be engaged.
-use Rattle.std.proofs.Common.{◌≡◌, ℕ, ◌+◌, ◌-◌, ◌<◌, ◌≤◌, ◌==◌, ◌&&◌, not, Bool, true, false, List, [], ◌∷◌, length, map, Option, Some, None, zero, suc, refl, sym, ap, subst, ◌∙◌, arith, if◌then◌else◌}
-use Rattle.std.proofs.lemmas.Bool.{eqb-true}
-use Rattle.std.proofs.lemmas.Bool.Decides.{nat_tests}
-use Rattle.std.specs.BTreeMap.{is_at}
-use Rattle.std.specs.List.{filter, find, list_all}
-use Rattle.std.specs.Map.{lookup}
-use Rattle.std.specs.Prelude.{drop, is_some, unwrap_or}
-use Rattle.qs_base.proofs.Same.{same_member-true}
-use Rattle.qs_base.specs.Order.{same_member}
-use Rattle.qs_base.specs.declared.identifiers.Member.{Member}
-use Rattle.qs_base.specs.declared.identifiers.ServerNo.{ServerNo}
-use Rattle.qs_base.specs.declared.identifiers.Tid.{Tid}
-use Rattle.qs_session_channels.specs.Channels.{Channels}
+use Rattle.qs_world_runs.proofs.Words.{◌≡◌, ℕ, ◌+◌, ◌-◌, ◌<◌, ◌≤◌, ◌==◌, ◌&&◌, not, Bool, true, false, List, [], ◌∷◌, length, map, Option, Some, None, zero, suc, refl, sym, ap, subst, ◌∙◌, arith, if◌then◌else◌, eqb-true, nat_tests, is_at, filter, find, list_all, lookup, drop, is_some, unwrap_or, same_member-true, same_member, Member, ServerNo, Tid, Channels, queue_at, Delivery, request_total, BookValue, find_transaction, TransactionValue, is_standing, request_cmp, standing_request, Request}
+use Rattle.qs_world_runs.proofs.Words.{RequestNo, is_undecided, Participant, same_node, Opening, Parcel, World, began_here, face_at, is_engaged, is_sound, same_flag, where_so, none_waits, steady, known_sound, PartSound, at_server, Every, HoldsChannels, IsParcel, pending, pending_from, still_held, Joined, book_in, Field, IsPlaced, Placed, asked, field_of, goes_there, kept_between, message_of, sent_between, standing, waiting, WaitsAt, AwaitsOwn, LeavesNone, and_last, suc_not_zero, and_first}
 use Rattle.qs_ipc.specs.Ipc as ipc
-use Rattle.qs_ipc.specs.Ipc.{queue_at}
-use Rattle.qs_ipc.specs.declared.delivery.Delivery.{Delivery}
-use Rattle.qs_book_machine.proofs.Present.{request_total}
-use Rattle.qs_book_machine.specs.Book.{BookValue, find_transaction}
-use Rattle.qs_book_machine.specs.Transaction.{TransactionValue, is_open, is_standing, request_cmp, standing_request}
-use Rattle.qs_book_machine.specs.declared.transaction.Request.{Request}
-use Rattle.qs_book_machine.specs.declared.transaction.RequestNo.{RequestNo}
+use Rattle.qs_book_machine.specs.Transaction.{is_open}
 use Rattle.qs_node_step.specs.State.{NodeValue}
 use Rattle.qs_tm.specs.Manager as tm
-use Rattle.qs_tm.specs.Participant.{is_undecided}
-use Rattle.qs_tm.specs.declared.participant.Participant.{Participant}
-use Rattle.qs_engage.specs.Nodes.{same_node}
-use Rattle.qs_world.specs.World.{Opening, Parcel, World}
-use Rattle.qs_world_refine.specs.NodeFaces.{began_here, face_at, unknown}
-use Rattle.qs_world_refine.specs.Sound.{is_engaged, is_sound, same_flag, where_so}
+use Rattle.qs_world_refine.specs.NodeFaces.{unknown}
 use Rattle.qs_world_refine.proofs.CommitIdles.{off_idle}
-use Rattle.qs_world_refine.proofs.NodeReady.{none_waits}
-use Rattle.qs_world_refine.proofs.ShownMoves.{steady}
-use Rattle.qs_world_refine.proofs.SoundHolds.{known_sound}
 use Rattle.qs_world_refine.proofs.SoundParts.{and_both}
-use Rattle.qs_world_refine.proofs.SoundViews.{PartSound}
-use Rattle.qs_world_lawful.specs.Face.{at_server, is_numbered}
+use Rattle.qs_world_lawful.specs.Face.{is_numbered}
 use Rattle.qs_world_lawful.specs.Holds.{Holds}
-use Rattle.qs_world_lawful.specs.Logs.{Every}
-use Rattle.qs_world_lawful.specs.Parcels.{HoldsChannels, IsParcel, pending, pending_from}
-use Rattle.qs_world_lawful.proofs.Still.{still_held}
-use Rattle.qs_world_runs.specs.Joined.{Joined, book_in}
-use Rattle.qs_world_runs.specs.Placed.{Field, IsPlaced, Placed, asked, field_of, goes_there, kept_between, message_of, sent_between, standing, waiting}
-use Rattle.qs_world_runs.specs.Awaited.{WaitsAt}
-use Rattle.qs_world_runs.specs.Awaiting.{AwaitsOwn}
-use Rattle.qs_world_runs.specs.PlacesApart.{LeavesNone}
 use Rattle.qs_world_runs.proofs.CommitsPlaced.{idle_free, none_decided}
 use Rattle.qs_world_runs.proofs.Entries.{each_at}
 use Rattle.qs_world_runs.proofs.PlacedTx.{placed_each, request_equal, request_self}
@@ -79,34 +45,23 @@ stands_counted : (at : RequestNo) (member : Member) (rs : List Request) → list
 stands_counted at member [] there stands none = cc stands
 stands_counted at member (r ∷ rs) there stands none = by (is_standing member r) refl (goes_there at r) refl there stands none (stands_counted at member rs)
   where
-    some : (k : ℕ) → suc k ≡ 0 → ⊥
-    some k so = omega (arith, so)
-
-    left : (a b : Bool) → (a && b) ≡ true → a ≡ true
-    left true b e = refl
-    left false b e = absurd (cc e)
-
     itself : (a b c : ℕ) → a ≡ b → ((a == b) && (c == c)) ≡ true
     itself a b c e = grind (arith, nat_tests, e)
 
     less : (b : Bool) (xs : List Request) → length (if b then r ∷ xs else xs) ≡ 0 → length xs ≡ 0
-    less true xs e = absurd (some (length xs) e)
+    less true xs e = absurd (suc_not_zero (length xs) e)
     less false xs e = e
 
     by : (b : Bool) → is_standing member r ≡ b → (c : Bool) → goes_there at r ≡ c → (goes_there at r && list_all (goes_there at) rs) ≡ true → is_some (find (is_standing member) (r ∷ rs)) ≡ true → standing at member.server (r ∷ rs) ≡ 0
         → (list_all (goes_there at) rs ≡ true → is_some (find (is_standing member) rs) ≡ true → standing at member.server rs ≡ 0 → ⊥) → ⊥
     by b is false so all stands none more = cc (rw so at all)
-    by true is true so all stands none more = some (length (filter (is_standing (at_server at.link.to member.server)) rs)) (rw counted at none)
+    by true is true so all stands none more = suc_not_zero (length (filter (is_standing (at_server at.link.to member.server)) rs)) (rw counted at none)
       where
         own : r.member ≡ member
-        own = same_member-true r.member member (left (same_member r.member member) (not r.served) is)
+        own = same_member-true r.member member (and_first (same_member r.member member) (not r.served) is)
 
         counted : is_standing (at_server at.link.to member.server) r ≡ true
-        counted = ap (λ (b : Bool). b && not r.served) (ap (λ (m : Member). same_member m (at_server at.link.to member.server)) own ∙ itself member.node.0 at.link.to.0 member.server.0 (ap (λ (m : Member). m.node.0) (sym own) ∙ eqb-true r.member.node.0 at.link.to.0 so)) ∙ unserved (same_member r.member member) (not r.served) is
-          where
-            unserved : (a b : Bool) → (a && b) ≡ true → b ≡ true
-            unserved true b e = e
-            unserved false b e = absurd (cc e)
+        counted = ap (λ (b : Bool). b && not r.served) (ap (λ (m : Member). same_member m (at_server at.link.to member.server)) own ∙ itself member.node.0 at.link.to.0 member.server.0 (ap (λ (m : Member). m.node.0) (sym own) ∙ eqb-true r.member.node.0 at.link.to.0 so)) ∙ and_last (same_member r.member member) (not r.served) is
     by false is true so all stands none more = more (rw so at all) (rw is at stands) (less (is_standing (at_server at.link.to member.server) r) (filter (is_standing (at_server at.link.to member.server)) rs) none)
 
 module _ (P : Opening → World → Type 0) (o : Opening) (world : World) (n : ℕ) (tid : Tid) (tx : TransactionValue) (j : Joined P o world) (n_in : n < world.size) (on : world.channels.up n ≡ true) (next : ℕ) (h : Holds next (book_in o world) (world.hosts n).node)

@@ -1,38 +1,19 @@
 -- What waits for its reply waits on through whatever comes in a step, and so through the whole step, until its own reply comes or the outcome does: a client whose request waits
 -- commands nothing else meanwhile.
-use Rattle.std.proofs.Common.{◌≡◌, inl, ℕ, ◌==◌, ◌&&◌, not, true, false, List, [], fold, Option, Some, None, refl, if◌then◌else◌}
-use Rattle.std.specs.BTreeMap.{insert_entry, is_at}
-use Rattle.std.specs.List.{find, list_any}
-use Rattle.std.specs.Map.{lookup}
-use Rattle.std.specs.Prelude.{is_none, is_some}
-use Rattle.qs_base.specs.Order.{same_member}
-use Rattle.qs_base.specs.declared.identifiers.Member.{Member}
-use Rattle.qs_base.specs.declared.identifiers.NodeNo.{NodeNo}
+use Rattle.qs_world_runs.proofs.Words.{◌≡◌, inl, ℕ, ◌==◌, ◌&&◌, not, true, false, List, [], fold, Option, Some, None, refl, if◌then◌else◌, insert_entry, is_at, find, list_any, lookup, is_none, is_some, same_member, Member, NodeNo, Tid, same_node, Cause, send, end_members, Work, change_server, here, with_manager, with_queues, forget, awaits_note, is_answered_by, is_by_files, is_forgotten, new_participant, Participant, Message, ask_came, become_asked, block, closer_came, count, pass_unknown}
+use Rattle.qs_world_runs.proofs.Words.{refusal_came, where_undecided, enter, begin_incarnation, find_gone, inquire, name_again, notice_decided, notice_part, notice_tid, peer_restarted, resume_home, resume_part, resume_tid, tell_again, known_tids, abort_old, age_rule, message_came, tick, with_node}
 use Rattle.qs_base.specs.declared.identifiers.Outcome.{Outcome}
 use Rattle.qs_base.specs.declared.identifiers.Outcome.TheVariants as outcomes
-use Rattle.qs_base.specs.declared.identifiers.Tid.{Tid}
-use Rattle.qs_engage.specs.Nodes.{same_node}
 use Rattle.qs_ipc.specs.Ipc as ipc
-use Rattle.qs_ops.specs.declared.answer.Cause.{Cause}
 use Rattle.qs_packet.specs.declared.message.Message.TheVariants as messages
-use Rattle.qs_node_step.specs.Bringing.{send}
-use Rattle.qs_node_step.specs.Deciding.{decide, decide_commit, end_members}
-use Rattle.qs_node_step.specs.State.{Work, change_server, here, part_of, with_manager, with_queues}
-use Rattle.qs_node_step.specs.Telling.{forget}
+use Rattle.qs_node_step.specs.Deciding.{decide, decide_commit}
+use Rattle.qs_node_step.specs.State.{part_of}
 use Rattle.qs_tm.specs.Manager as tm
 use Rattle.qs_tm.specs.Participant as participant
-use Rattle.qs_tm.specs.Participant.{awaits_note, is_answered_by, is_by_files, is_forgotten, new_participant}
-use Rattle.qs_tm.specs.declared.participant.Participant.{Participant}
 use Rattle.qs_book_journal.specs.declared.entry.Act.TheVariants as acts
 use Rattle.qs_ops.specs.declared.answer.Cause.TheVariants as causes
-use Rattle.qs_packet.specs.declared.message.Message.{Message}
 use Rattle.qs_node_servers.specs.Servers.{timers_no}
-use Rattle.qs_node_step.specs.Asking.{ask_came, become_asked, block, closer_came, count, pass_unknown, refusal_came, where_undecided}
 use Rattle.qs_node_step.specs.Asking as asking
-use Rattle.qs_node_step.specs.Bringing.{enter}
-use Rattle.qs_node_step.specs.Restarts.{begin_incarnation, find_gone, inquire, name_again, notice_decided, notice_part, notice_tid, peer_restarted, resume_home, resume_part, resume_tid, tell_again, known_tids}
-use Rattle.qs_node_step.specs.Step.{abort_old, age_rule, message_came, tick}
-use Rattle.qs_node_step.specs.State.{with_node}
 use Rattle.qs_world_runs.proofs.AwaitedKept.{elsewhere}
 use Rattle.qs_world_runs.proofs.AwaitedTurns.{came_on}
 use Rattle.qs_world_runs.proofs.AwaitedRequests.{reply_on}

@@ -1,48 +1,18 @@
 -- What waits for its reply waits on as clients command: the client that issued it does not, since its command is in hand.
-use Rattle.std.proofs.Common.{◌≡◌, inl, ℕ, ◌+◌, Bool, true, false, List, [], ◌∷◌, ◌++◌, Option, Some, None, refl, sym, subst, ◌∙◌, if◌then◌else◌}
-use Rattle.std.proofs.lemmas.Cmp.{nat_cmp_total, tied_itself}
-use Rattle.std.specs.BTreeMap.{is_at}
-use Rattle.std.specs.Map.{lookup}
-use Rattle.std.specs.Prelude.{is_some}
-use Rattle.std.specs.declared.cmp.Ordering.TheVariants.{Equal}
-use Rattle.qs_base.specs.declared.identifiers.ClientNo.{ClientNo}
-use Rattle.qs_base.specs.declared.identifiers.Member.{Member}
+use Rattle.qs_world_runs.proofs.Words.{◌≡◌, inl, ℕ, ◌+◌, Bool, true, false, List, [], ◌∷◌, ◌++◌, Option, Some, None, refl, sym, subst, ◌∙◌, if◌then◌else◌, nat_cmp_total, tied_itself, is_at, lookup, is_some, Equal, ClientNo, Member, Tid, Lent, Op, label_at, put_label, changed_apart, Work, client_cmp, with_doings, with_manager, Issued, OpenCommand, awaits_note, is_answered_by, is_by_files, is_forgotten, new_participant, Participant, Command, ScriptLine, first_untaken, give_back, last_taken}
+use Rattle.qs_world_runs.proofs.Words.{take_first, Begun, Decided, Answer, client_server, kept_outcome, become_asked, borrower_command, is_void, lent_command, take, with_loan, yield, answer, enter, ask, begin_as, begin_command, begin_or_refuse, decided_answer, enter_ask, open_command, owner_command, refuse_begin, request_as, request_command, command_came, is_owner, labelled, obey, with_command, with_kept, BeginFault, client_exact}
 use Rattle.qs_base.specs.declared.identifiers.Outcome.TheVariants as outcomes
-use Rattle.qs_base.specs.declared.identifiers.Tid.{Tid}
-use Rattle.qs_node_kept.specs.declared.kept.Lent.{Lent}
-use Rattle.qs_ops.specs.declared.operation.Op.{Op}
 use Rattle.qs_node_step.specs.Deciding.{decide}
 use Rattle.qs_node_step.specs.Requests.{next_number}
-use Rattle.qs_node_step.specs.Serving.{label_at, put_label}
-use Rattle.qs_book_laws.proofs.Maps.{changed_apart, lookup_put, lookup_put_apart}
-use Rattle.qs_node_step.specs.State.{Work, client_cmp, with_doings, with_manager}
-use Rattle.qs_node_step.specs.declared.state.Issued.{Issued}
-use Rattle.qs_node_step.specs.declared.state.OpenCommand.{OpenCommand}
+use Rattle.qs_book_laws.proofs.Maps.{lookup_put, lookup_put_apart}
 use Rattle.qs_tm.specs.Manager as tm
 use Rattle.qs_tm.specs.Participant as participant
-use Rattle.qs_tm.specs.Participant.{awaits_note, is_answered_by, is_by_files, is_forgotten, new_participant}
-use Rattle.qs_tm.specs.declared.participant.Participant.{Participant}
-use Rattle.qs_book_journal.specs.declared.script_line.Command.{Command}
 use Rattle.qs_book_journal.specs.declared.script_line.Command.TheVariants as commands
-use Rattle.qs_book_journal.specs.declared.script_line.ScriptLine.{ScriptLine}
 use Rattle.qs_book_journal.specs.declared.entry.Act.TheVariants as acts
-use Rattle.qs_node_kept.specs.Loans.{first_untaken, give_back, last_taken, take_first}
-use Rattle.qs_node_kept.specs.declared.kept.KeptLabel.{KeptLabel}
-use Rattle.qs_node_kept.specs.declared.kept.Decided.{Decided}
-use Rattle.qs_ops.specs.declared.answer.Answer.{Answer}
 use Rattle.qs_ops.specs.declared.answer.Answer.TheVariants as answers
 use Rattle.qs_ops.specs.declared.answer.Cause.TheVariants as causes
-use Rattle.qs_node_servers.specs.Servers.{client_server}
-use Rattle.qs_node_step.specs.Answering.{kept_outcome}
-use Rattle.qs_node_step.specs.Asking.{become_asked}
-use Rattle.qs_node_step.specs.Borrowing.{borrower_command, is_void, lent_command, take, with_loan, yield}
-use Rattle.qs_node_step.specs.Bringing.{answer, enter}
-use Rattle.qs_node_step.specs.Commands.{ask, begin_as, begin_command, begin_or_refuse, decided_answer, enter_ask, open_command, owner_command, refuse_begin, request_as, request_command, with_issued}
-use Rattle.qs_node_step.specs.Step.{command_came, is_owner, labelled, obey, with_command}
-use Rattle.qs_node_step.specs.State.{with_kept}
-use Rattle.qs_tm.specs.declared.manager.BeginFault.{BeginFault}
+use Rattle.qs_node_step.specs.Commands.{with_issued}
 use Rattle.qs_tm.specs.declared.manager.BeginFault.TheVariants as faults
-use Rattle.qs_world_lawful.proofs.Answers.{client_exact}
 use Rattle.qs_world_runs.proofs.AwaitedKept.{back_lent, borrowed_on, elsewhere, loans_on, put_on, take_lent, labelled_on, with_borrowed}
 use Rattle.qs_world_runs.proofs.AwaitedTurns.{issue_as_on}
 use Rattle.qs_world_runs.proofs.AwaitedRules.{become_on, On, Free, answer_on, decide_on, free_so, if_on, itself_on, then_on, undecided_on, waits_on}
@@ -191,7 +161,7 @@ module _ (D : Type 0) (tid : Tid) (member : Member) (number : ℕ) where
       borrows c None = itself_on D tid member number work
       borrows c (Some t) = borrower_on line.client t c work free
 
-      under : (c : Command) (o : Option KeptLabel) → L work (elim o [ None ↦ work | Some begun ↦ labelled line.client begun c work ])
+      under : (c : Command) (o : Option Begun) → L work (elim o [ None ↦ work | Some begun ↦ labelled line.client begun c work ])
       under c None = itself_on D tid member number work
       under c (Some begun) = if_on D tid member number (is_owner line.client begun.owner) (owner_command line.client begun.tid c work) (elim begun.tid [ None ↦ work | Some t ↦ borrower_command line.client t c work ]) work
           (λ so. owner_on line.client begun.tid c work free) (λ so. borrows c begun.tid)

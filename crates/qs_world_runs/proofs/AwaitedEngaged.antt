@@ -1,12 +1,6 @@
 -- A node where a pass is due, or a loan stands, is engaged: else it would be idle.
-use Rattle.std.proofs.Common.{◌≡◌, ◌&&◌, ◌||◌, not, Bool, true, false, Option, Some, None, refl}
-use Rattle.qs_base.specs.declared.identifiers.NodeNo.{NodeNo}
+use Rattle.qs_world_runs.proofs.Words.{◌≡◌, ◌&&◌, ◌||◌, not, Bool, true, false, Option, Some, None, refl, NodeNo, is_lent, needs_pass, is_engaged, where_so, known_sound, PartSound, is_apart}
 use Rattle.qs_ipc.specs.Ipc as ipc
-use Rattle.qs_node_step.specs.Settling.{is_lent}
-use Rattle.qs_tm.specs.Participant.{needs_pass}
-use Rattle.qs_world_refine.specs.Sound.{is_engaged, where_so}
-use Rattle.qs_world_refine.proofs.SoundHolds.{known_sound}
-use Rattle.qs_world_refine.proofs.SoundViews.{PartSound, is_apart}
 use Rattle.qs_world_runs.specs.Awaited.{BusyEngaged}
 
 pub busy_engaged : BusyEngaged

@@ -1,15 +1,8 @@
 -- A request that is issued to another node waits then: for its reply to files, to the owner at its home, or to a client that has a loan and commands nothing else.
-use Rattle.std.proofs.Common.{◌≡◌, ◌⊎◌, inl, inr, Bool, true, false, List, [], ◌∷◌, ◌++◌, Some, refl, ap, subst, sym, if◌then◌else◌}
-use Rattle.qs_base.specs.declared.identifiers.Tid.{Tid}
-use Rattle.qs_ops.specs.declared.operation.Op.{Op}
-use Rattle.qs_node_step.specs.Requests.{enter_issue, issue_away, issue_here}
-use Rattle.qs_node_step.specs.State.{Work, part_of}
+use Rattle.qs_world_runs.proofs.Words.{◌≡◌, ◌⊎◌, inl, inr, Bool, true, false, List, [], ◌∷◌, ◌++◌, Some, refl, ap, subst, sym, if◌then◌else◌, Tid, Op, enter_issue, issue_away, issue_here, Work, Outstanding, Participant, is_engaged, part_changed, Among, IsWaiting, WaitsAt}
+use Rattle.qs_node_step.specs.State.{part_of}
 use Rattle.qs_tm.specs.Participant as participant
-use Rattle.qs_tm.specs.declared.participant.Outstanding.{Outstanding}
-use Rattle.qs_tm.specs.declared.participant.Participant.{Participant}
-use Rattle.qs_world_refine.specs.Sound.{is_engaged}
-use Rattle.qs_world_lawful.proofs.Faces.{part_changed}
-use Rattle.qs_world_runs.specs.Awaited.{Among, HoldsIt, IsWaiting, IssuesWait, WaitsAt}
+use Rattle.qs_world_runs.specs.Awaited.{HoldsIt, IssuesWait}
 use Rattle.qs_world_runs.proofs.AwaitedTurns.{away_on}
 
 among_last : {A : Type 0} (x : A) (xs : List A) → Among x (xs ++ x ∷ [])

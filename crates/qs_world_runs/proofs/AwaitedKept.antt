@@ -1,30 +1,13 @@
 -- What waits for its reply waits on through each thing that a rule does: changes of what is kept of transactions, of commands, and of what is kept for clients.
-use Rattle.std.proofs.Common.{◌≡◌, ◌≢◌, ◌⊎◌, inl, inr, ℕ, ◌==◌, ◌&&◌, ◌||◌, not, Bool, true, false, List, [], ◌∷◌, ◌++◌, Some, None, refl, sym, ap, subst, ◌∙◌, arith, if◌then◌else◌}
-use Rattle.std.proofs.lemmas.Bool.Decides.{nat_tests}
-use Rattle.std.specs.BTreeMap.{is_at}
-use Rattle.std.specs.List.{filter, find, list_any}
-use Rattle.std.specs.Map.{lookup}
-use Rattle.std.specs.Prelude.{is_some}
-use Rattle.qs_base.specs.declared.identifiers.ClientNo.{ClientNo}
-use Rattle.qs_base.specs.declared.identifiers.Member.{Member}
-use Rattle.qs_base.specs.declared.identifiers.Tid.{Tid}
+use Rattle.qs_world_runs.proofs.Words.{◌≡◌, ◌≢◌, ◌⊎◌, inl, inr, ℕ, ◌==◌, ◌&&◌, ◌||◌, not, Bool, true, false, List, [], ◌∷◌, ◌++◌, Some, None, refl, sym, ap, subst, ◌∙◌, arith, if◌then◌else◌, nat_tests, is_at, filter, find, list_any, lookup, is_some, ClientNo, Member, Tid, give_back, is_taken, last_taken, take_first, Begun, Lent, forget_apart, is_engaged, client_cmp, OpenCommand, Manager, Outstanding, Participant, AreApart, same_client_or, same_or_apart, part_changed, Among, IsBorrowed}
+use Rattle.qs_world_runs.proofs.Words.{is_lent_to, eqb-true, and_first}
 use Rattle.qs_node_kept.specs.Keeping.{has_label}
-use Rattle.qs_node_kept.specs.Loans.{give_back, is_loan_of, is_taken, is_untaken, last_taken, take_first}
-use Rattle.qs_node_kept.specs.declared.kept.KeptLabel.{KeptLabel}
+use Rattle.qs_node_kept.specs.Loans.{is_loan_of, is_untaken}
 use Rattle.qs_node_kept.specs.declared.kept.Kept.{Kept}
-use Rattle.qs_node_kept.specs.declared.kept.Lent.{Lent}
-use Rattle.qs_world_refine.proofs.Others.{forget_apart}
-use Rattle.qs_world_refine.specs.Sound.{is_engaged}
-use Rattle.qs_node_step.specs.State.{client_cmp}
-use Rattle.qs_node_step.specs.declared.state.OpenCommand.{OpenCommand}
 use Rattle.qs_tm.specs.Manager as tm
-use Rattle.qs_tm.specs.declared.manager.Manager.{Manager}
-use Rattle.qs_tm.specs.declared.participant.Outstanding.{Outstanding}
-use Rattle.qs_tm.specs.declared.participant.Participant.{Participant}
-use Rattle.qs_world_lawful.proofs.Answers.{AreApart, same_client_or}
-use Rattle.qs_world_lawful.proofs.Apart.{Apart, same_or_apart}
-use Rattle.qs_world_lawful.proofs.Faces.{part_apart, part_changed, put_apart}
-use Rattle.qs_world_runs.specs.Awaited.{Among, IsBorrowed, WaitsIn, is_lent_to, its_request}
+use Rattle.qs_world_lawful.proofs.Apart.{Apart}
+use Rattle.qs_world_lawful.proofs.Faces.{part_apart, put_apart}
+use Rattle.qs_world_runs.specs.Awaited.{WaitsIn, its_request}
 
 -- ---- lists
 
@@ -67,12 +50,8 @@ module _ (client other : ClientNo) (far : (other.0 == client.0) ≡ false) (tid 
 
   -- one that is a loan of the other is none of the client's, whatever becomes of it
   others : (t : Tid) (loan : Lent) (rest : Bool) → (is_loan_of other t loan && rest) ≡ true → (loan.client.0 == client.0) ≡ false
-  others t loan rest is = apart loan.client.0 other.0 client.0 (first (loan.client.0 == other.0) _ (first (is_loan_of other t loan) rest is)) far
+  others t loan rest is = apart loan.client.0 other.0 client.0 (and_first (loan.client.0 == other.0) _ (and_first (is_loan_of other t loan) rest is)) far
     where
-      first : (a b : Bool) → (a && b) ≡ true → a ≡ true
-      first true b e = refl
-      first false b e = absurd (cc e)
-
       apart : (a b c : ℕ) → (a == b) ≡ true → (b == c) ≡ false → (a == c) ≡ false
       apart a b c e k = grind (arith, nat_tests, e, k)
 
@@ -92,13 +71,9 @@ module _ (client other : ClientNo) (far : (other.0 == client.0) ≡ false) (tid 
   back_lent t [] is = is
   back_lent t (loan ∷ loans) is = by (is_taken other t loan && not (is_some (last_taken other t loans))) refl is (back_lent t loans)
     where
-      left : (a b : Bool) → (a && b) ≡ true → a ≡ true
-      left true b e = refl
-      left false b e = absurd (cc e)
-
       by : (b : Bool) → (is_taken other t loan && not (is_some (last_taken other t loans))) ≡ b → (stands loan || list_any stands loans) ≡ true → (list_any stands loans ≡ true → list_any stands (give_back other t loans) ≡ true)
           → list_any stands (give_back other t (loan ∷ loans)) ≡ true
-      by true so any more = let none : (loan.client.0 == client.0) ≡ false = others t loan loan.taken (left (is_taken other t loan) _ so) in rw (so, none) (rw none at any)
+      by true so any more = let none : (loan.client.0 == client.0) ≡ false = others t loan loan.taken (and_first (is_taken other t loan) _ so) in rw (so, none) (rw none at any)
       by false so any more = rw so (either (stands loan) refl)
         where
           either : (c : Bool) → stands loan ≡ c → (stands loan || list_any stands (give_back other t loans)) ≡ true
@@ -216,7 +191,7 @@ module _ (tid : Tid) (member : Member) (number : ℕ) where
   -- ---- what is kept for clients
 
   module _ (commands : List (ClientNo × OpenCommand)) (inc : ℕ) where
-    pub labelled_on : (kept : Kept) (label : KeptLabel) → B commands kept inc → B commands (record kept { labels = kept.labels ++ label ∷ [] }) inc
+    pub labelled_on : (kept : Kept) (label : Begun) → B commands kept inc → B commands (record kept { labels = kept.labels ++ label ∷ [] }) inc
     labelled_on kept label b = record { client = b.client; command = b.command; there = b.there; issued = b.issued; begun = b.begun; label = find_more (has_label b.command.line.label) kept.labels (label ∷ []) b.begun b.label; other = b.other; lent = b.lent }
 
     pub lent_on : (kept : Kept) (loan : Lent) → B commands kept inc → B commands (record kept { loans = kept.loans ++ loan ∷ [] }) inc
@@ -230,9 +205,6 @@ module _ (tid : Tid) (member : Member) (number : ℕ) where
           client_as : ℕ → ClientNo
           client_as k = record { 0 = k }
 
-          same_client : (a b : ℕ) → (a == b) ≡ true → a ≡ b
-          same_client a b e = grind (arith, nat_tests, e)
-
           by : (c : Bool) → (client.0 == b.client.0) ≡ c → B commands (record kept { loans = loans }) inc ⊎ D
-          by true e = inr (other b (ap (λ (k : ℕ). client_as k) (same_client client.0 b.client.0 e)))
+          by true e = inr (other b (ap (λ (k : ℕ). client_as k) (eqb-true client.0 b.client.0 e)))
           by false far = inl (record { client = b.client; command = b.command; there = b.there; issued = b.issued; begun = b.begun; label = b.label; other = b.other; lent = goes b.client far b.lent })

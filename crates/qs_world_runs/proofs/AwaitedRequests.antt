@@ -1,57 +1,26 @@
 -- What waits for its reply waits on as requests are issued, come, are served and replied to, as servers vote, and as a transaction is settled: until its own reply comes, or its
 -- transaction is decided.
-use Rattle.std.proofs.Common.{◌≡◌, inr, ℕ, ◌+◌, ◌==◌, ◌&&◌, ◌||◌, not, Bool, true, false, List, [], ◌∷◌, Option, Some, None, refl, sym, ap, subst, ◌∙◌, arith, if◌then◌else◌}
-use Rattle.std.proofs.lemmas.Bool.Decides.{nat_tests}
-use Rattle.std.specs.BTreeMap.{is_at}
-use Rattle.std.specs.List.{find}
-use Rattle.std.specs.Map.{lookup}
-use Rattle.std.specs.Prelude.{is_some}
-use Rattle.qs_base.proofs.Same.{same_member-true, same_tid-true}
-use Rattle.qs_base.specs.Order.{same_member, same_tid}
-use Rattle.qs_base.specs.declared.identifiers.ClientNo.{ClientNo}
-use Rattle.qs_base.specs.declared.identifiers.Member.{Member}
-use Rattle.qs_base.specs.declared.identifiers.NodeNo.{NodeNo}
-use Rattle.qs_base.specs.declared.identifiers.ServerNo.{ServerNo}
-use Rattle.qs_base.specs.declared.identifiers.Tid.{Tid}
+use Rattle.qs_world_runs.proofs.Words.{◌≡◌, inr, ℕ, ◌+◌, ◌==◌, ◌&&◌, ◌||◌, not, Bool, true, false, List, [], ◌∷◌, Option, Some, None, refl, sym, ap, subst, ◌∙◌, arith, if◌then◌else◌, nat_tests, is_at, find, lookup, is_some, same_member-true, same_tid-true, same_member, same_tid, ClientNo, Member, NodeNo, ServerNo, Tid, last_number, peer_of, release_of, with_peer, Engage, answer_of, Reply, client_of, member_here, send, answer_issuer, ask_on, enqueue, enter_issue, is_asked, issue, issue_as}
+use Rattle.qs_world_runs.proofs.Words.{issue_away, issue_here, label_of, reply_came, take_reply, waits_as, with_local, Work, client_cmp, with_manager, Issued, OpenCommand, awaits_note, is_answered_by, is_by_files, is_forgotten, new_participant, Outstanding, Participant, same_Some, and_first, and_last}
 use Rattle.qs_engage.specs.Engage as engage
-use Rattle.qs_engage.specs.Engage.{last_number, peer_of, release_of, with_last, with_peer, with_superior}
-use Rattle.qs_engage.specs.declared.engage.Engage.{Engage}
-use Rattle.qs_ops.specs.Operations.{answer_of}
-use Rattle.qs_ops.specs.declared.reply.Reply.{Reply}
-use Rattle.qs_node_servers.specs.Servers.{client_of}
-use Rattle.qs_node_step.specs.Bringing.{member_here, send}
+use Rattle.qs_engage.specs.Engage.{with_last, with_superior}
 use Rattle.qs_node_step.specs.Requests as requests
-use Rattle.qs_node_step.specs.Requests.{answer_issuer, ask_on, enqueue, enter_issue, is_asked, issue, issue_as, issue_away, issue_here, label_of, next_number, reply_came, take_reply, waits_as, with_local}
-use Rattle.qs_node_step.specs.State.{Work, client_cmp, part_of, with_manager}
-use Rattle.qs_node_step.specs.declared.state.Issued.{Issued}
-use Rattle.qs_node_step.specs.declared.state.OpenCommand.{OpenCommand}
+use Rattle.qs_node_step.specs.Requests.{next_number}
+use Rattle.qs_node_step.specs.State.{part_of}
 use Rattle.qs_tm.specs.Manager as tm
 use Rattle.qs_tm.specs.Members.{files_no}
 use Rattle.qs_tm.specs.Participant as participant
-use Rattle.qs_tm.specs.Participant.{awaits_note, is_answered_by, is_by_files, is_forgotten, new_participant}
-use Rattle.qs_tm.specs.declared.participant.Outstanding.{Outstanding}
-use Rattle.qs_tm.specs.declared.participant.Participant.{Participant}
 use Rattle.qs_world_lawful.proofs.FactsQuiet.{sent_home}
 use Rattle.qs_world_runs.proofs.AwaitedKept.{among_left, among_more}
 use Rattle.qs_world_runs.proofs.AwaitedRules.{On, Kept, Free, answer_on, change_on, free_so, if_on, itself_on, plain, then_on}
-
-pub first : (a b : Bool) → (a && b) ≡ true → a ≡ true
-first true b e = refl
-first false b e = absurd (cc e)
-
-pub last : (a b : Bool) → (a && b) ≡ true → b ≡ true
-last true b e = e
-last false b e = absurd (cc e)
+use Rattle.std.proofs.lemmas.Bool.{false≢true}
 
 find_true : {A : Type 0} (p : A → Bool) (xs : List A) (x : A) → find p xs ≡ Some x → p x ≡ true
 find_true p [] x is = absurd (cc is)
 find_true {A} p (y ∷ xs) x is = by (p y) refl is (find_true p xs x)
   where
-    same : (a b : A) → Some a ≡ Some b → a ≡ b
-    same a b e = cc e
-
     by : (b : Bool) → p y ≡ b → find p (y ∷ xs) ≡ Some x → (find p xs ≡ Some x → p x ≡ true) → p x ≡ true
-    by true so found more = subst (λ z. p z ≡ true) (same y x (rw so at found)) so
+    by true so found more = subst (λ z. p z ≡ true) (same_Some y x (rw so at found)) so
     by false so found more = more (rw so at found)
 
 -- ---- changes of what is kept
@@ -122,10 +91,7 @@ module _ (D : Type 0) (tid : Tid) (member : Member) (number : ℕ) where
           of : (b : Bool) → (same_member member m && (number == n)) ≡ b → (c : Bool) → same_tid t tid ≡ c → On D tid member number work dropped
           of false far c is = change_on D tid member number t (participant.drop_waiting m n) work (λ e. dropped_kept m n far)
           of true near true is = λ w. inr (its (same_tid-true t tid is) near)
-          of true near false is = change_on D tid member number t (participant.drop_waiting m n) work (λ e. absurd (clash (sym is ∙ subst (λ (u : Tid). same_tid t u ≡ true) e (Rattle.qs_base.proofs.Same.same_tid-self t))))
-            where
-              clash : false ≡ true → ⊥
-              clash e = cc e
+          of true near false is = change_on D tid member number t (participant.drop_waiting m n) work (λ e. absurd (false≢true (sym is ∙ subst (λ (u : Tid). same_tid t u ≡ true) e (Rattle.qs_base.proofs.Same.same_tid-self t))))
 
       took : (request : Outstanding) → is_answered_by m n request ≡ true → On D tid member number dropped (take_reply t reply request dropped)
       took request answered = if_on D tid member number (is_by_files request) (with_manager (tm.note_served t request.count) dropped) (answer_issuer t request.member request.number reply (client_of request.issuer) dropped) dropped
@@ -143,16 +109,16 @@ module _ (D : Type 0) (tid : Tid) (member : Member) (number : ℕ) where
               of (Some c) so e = said (subst (λ (x : Option OpenCommand). waits_as t request.member request.number x ≡ true) e so)
                 where
                   said : waits_as t request.member request.number (Some command) ≡ true → D
-                  said so = its (sym (same_tid-true tid t (first (same_tid tid t) _ tests))) (rw (to_m, to_n) refl)
+                  said so = its (sym (same_tid-true tid t (and_first (same_tid tid t) _ tests))) (rw (to_m, to_n) refl)
                     where
                       tests : (same_tid tid t && (same_member member request.member && (number == request.number))) ≡ true
                       tests = subst (λ (o : Option Issued). (elim o [ None ↦ false | Some i ↦ requests.is_issued_as t request.member request.number i ]) ≡ true) issued so
 
                       to_m : same_member member m ≡ true
-                      to_m = subst (λ (x : Member). same_member member x ≡ true) (same_member-true request.member m (first (same_member request.member m) _ answered)) (first (same_member member request.member) _ (last (same_tid tid t) _ tests))
+                      to_m = subst (λ (x : Member). same_member member x ≡ true) (same_member-true request.member m (and_first (same_member request.member m) _ answered)) (and_first (same_member member request.member) _ (and_last (same_tid tid t) _ tests))
 
                       to_n : (number == n) ≡ true
-                      to_n = chain number request.number n (last (same_member member request.member) _ (last (same_tid tid t) _ tests)) (last (same_member request.member m) _ answered)
+                      to_n = chain number request.number n (and_last (same_member member request.member) _ (and_last (same_tid tid t) _ tests)) (and_last (same_member request.member m) _ answered)
                         where
                           chain : (a b c : ℕ) → (a == b) ≡ true → (b == c) ≡ true → (a == c) ≡ true
                           chain a b c p q = grind (arith, nat_tests, p, q)

@@ -1,44 +1,21 @@
 -- What waits for its reply waits on through each rule that decides nothing of its transaction: as messages are sent, servers are told, and outcomes are told, taken in and asked for.
-use Rattle.std.proofs.Common.{◌≡◌, ◌⊎◌, inl, inr, ℕ, Bool, true, false, List, [], ◌∷◌, ◌++◌, fold, Option, Some, None, refl, sym, ap, subst, ◌∙◌, if◌then◌else◌}
-use Rattle.std.specs.BTreeMap.{is_at}
-use Rattle.std.specs.List.{find, list_any}
-use Rattle.std.specs.Map.{lookup, remove_entry}
-use Rattle.std.specs.Prelude.{is_some}
-use Rattle.qs_base.proofs.Same.{same_tid-self}
-use Rattle.qs_base.specs.declared.identifiers.ClientNo.{ClientNo}
-use Rattle.qs_base.specs.declared.identifiers.Member.{Member}
-use Rattle.qs_base.specs.declared.identifiers.NodeNo.{NodeNo}
+use Rattle.qs_world_runs.proofs.Words.{◌≡◌, ◌⊎◌, inl, inr, ℕ, Bool, true, false, List, [], ◌∷◌, ◌++◌, fold, Option, Some, None, refl, sym, ap, subst, ◌∙◌, if◌then◌else◌, is_at, find, list_any, lookup, remove_entry, is_some, same_tid-self, ClientNo, Member, NodeNo, ServerNo, Tid, listed, Engage, is_outcome_of, Decided, Answer, Cause, Message, Record, kept_outcome, become_asked, block, where_undecided, answer, is_other, log_if, send, send_each, send_next, tid_of, decide_as, due_endings}
+use Rattle.qs_world_runs.proofs.Words.{end_member, end_members, give_notices, learn_member, learn_members, learners_at, notify, Work, client_cmp, with_manager, forget, OpenCommand, is_undecided, Decision, Participant, same_or_apart, IsWaiting, WaitsAt}
 use Rattle.qs_base.specs.declared.identifiers.Outcome.{Outcome}
 use Rattle.qs_base.specs.declared.identifiers.Outcome.TheVariants as outcomes
-use Rattle.qs_base.specs.declared.identifiers.ServerNo.{ServerNo}
-use Rattle.qs_base.specs.declared.identifiers.Tid.{Tid}
 use Rattle.qs_engage.specs.Engage as engage
-use Rattle.qs_engage.specs.Nodes.{listed}
-use Rattle.qs_engage.specs.declared.engage.Engage.{Engage}
-use Rattle.qs_node_kept.specs.Keeping.{is_outcome_of}
-use Rattle.qs_node_kept.specs.declared.kept.Decided.{Decided}
 use Rattle.qs_book_laws.proofs.Shares.{removed_apart}
-use Rattle.qs_ops.specs.declared.answer.Answer.{Answer}
-use Rattle.qs_ops.specs.declared.answer.Cause.{Cause}
-use Rattle.qs_packet.specs.declared.message.Message.{Message}
 use Rattle.qs_packet.specs.declared.message.Message.TheVariants as messages
-use Rattle.qs_record.specs.declared.record.Record.{Record}
-use Rattle.qs_node_step.specs.Answering.{kept_outcome}
-use Rattle.qs_node_step.specs.Asking.{become_asked, block, where_undecided}
-use Rattle.qs_node_step.specs.Bringing.{answer, is_other, log, log_if, send, send_each, send_next, tid_of}
-use Rattle.qs_node_step.specs.Deciding.{decide, decide_as, decide_commit, due_endings, end_member, end_members, give_notices, learn_member, learn_members, learners_at, notify}
-use Rattle.qs_node_step.specs.State.{Work, client_cmp, part_of, with_manager}
-use Rattle.qs_node_step.specs.Telling.{forget}
-use Rattle.qs_node_step.specs.declared.state.OpenCommand.{OpenCommand}
+use Rattle.qs_node_step.specs.Bringing.{log}
+use Rattle.qs_node_step.specs.Deciding.{decide, decide_commit}
+use Rattle.qs_node_step.specs.State.{part_of}
 use Rattle.qs_tm.specs.Manager as tm
 use Rattle.qs_tm.specs.Outcomes as outcome_rules
 use Rattle.qs_tm.specs.Participant as participant
-use Rattle.qs_tm.specs.Participant.{is_undecided}
-use Rattle.qs_tm.specs.declared.manager.Decision.{Decision}
-use Rattle.qs_tm.specs.declared.participant.Participant.{Participant}
-use Rattle.qs_world_lawful.proofs.Apart.{Apart, same_or_apart}
-use Rattle.qs_world_runs.specs.Awaited.{IsWaiting, WaitsAt, WaitsOn}
+use Rattle.qs_world_lawful.proofs.Apart.{Apart}
+use Rattle.qs_world_runs.specs.Awaited.{WaitsOn}
 use Rattle.qs_world_runs.proofs.AwaitedKept.{IsFree, IsOther, Stays, borrowed_on, forget_on, free_other, part_on, with_borrowed}
+use Rattle.qs_base_lemmas.proofs.Tests.{none_is}
 
 module _ (D : Type 0) (tid : Tid) (member : Member) (number : ℕ) where
   abbrev pub On : Work → Work → Type 0
@@ -88,13 +65,9 @@ module _ (D : Type 0) (tid : Tid) (member : Member) (number : ℕ) where
   pub undecided_on : (t : Tid) (rule : Participant → Work → Work) (work : Work) → ((part : Participant) → part_of t work ≡ Some part → part.outcome ≡ None → On work (rule part work)) → On work (where_undecided t rule work)
   undecided_on t rule work each = by (part_of t work) refl
     where
-      open_now : (o : Option Outcome) → Rattle.std.specs.Prelude.is_none o ≡ true → o ≡ None
-      open_now None is = refl
-      open_now (Some outcome) is = absurd (cc is)
-
       by : (o : Option Participant) → part_of t work ≡ o → On work (elim o [ None ↦ work | Some part ↦ if is_undecided part then rule part work else work ])
       by None is = itself_on work
-      by (Some part) is = if_on (is_undecided part) (rule part work) work work (λ so. each part is (open_now part.outcome so)) (λ so. itself_on work)
+      by (Some part) is = if_on (is_undecided part) (rule part work) work work (λ so. each part is (none_is part.outcome so)) (λ so. itself_on work)
 
   -- ---- messages, records and answers
 

@@ -1,53 +1,31 @@
 -- What waits for its reply waits on through a whole step, until its own reply comes or its node knows the outcome: a client whose request waits commands nothing else, and its node
 -- is busy, so that it answers nobody and is not forgotten.
-use Rattle.std.proofs.Common.{◌≡◌, ◌⊎◌, inl, inr, ℕ, ◌==◌, ◌&&◌, ◌||◌, not, Bool, true, false, List, [], ◌∷◌, fold, Option, Some, None, refl, sym, ap, subst, ◌∙◌, if◌then◌else◌}
-use Rattle.std.specs.List.{list_any}
-use Rattle.std.specs.Prelude.{is_none, is_some}
-use Rattle.qs_base.proofs.Same.{same_member-true, same_tid-true}
-use Rattle.qs_base.specs.Order.{same_tid}
-use Rattle.qs_base.specs.declared.identifiers.Member.{Member}
-use Rattle.qs_base.specs.declared.identifiers.NodeNo.{NodeNo}
+use Rattle.qs_world_runs.proofs.Words.{◌≡◌, ◌⊎◌, inl, inr, ℕ, ◌==◌, ◌&&◌, ◌||◌, not, Bool, true, false, List, [], ◌∷◌, fold, Option, Some, None, refl, sym, ap, subst, ◌∙◌, if◌then◌else◌, list_any, is_none, is_some, same_member-true, same_tid-true, same_tid, Member, NodeNo, Tid, release_of, is_standing_loan, Cause, answer_superior, forget_rule, is_busy, is_lent, is_quiet, may_answer, pass_rule, ready, ready_rule, refusal_goes_to, refuse_elsewhere, refuse_home, refuse_rule, say_yes}
+use Rattle.qs_world_runs.proofs.Words.{send_refusal, settle_tid, try, Work, doings_of, with_manager, forget, awaits_note, is_answered_by, is_by_files, is_forgotten, new_participant, Participant, Among, IsBorrowed, WaitsAt, is_lent_to, and_first, and_last, not-true, or_right, same_Some}
 use Rattle.qs_base.specs.declared.identifiers.Outcome.TheVariants as outcomes
-use Rattle.qs_base.specs.declared.identifiers.Tid.{Tid}
-use Rattle.qs_engage.specs.Engage.{release_of}
 use Rattle.qs_ipc.specs.Ipc as ipc
-use Rattle.qs_node_kept.specs.Loans.{is_standing_loan}
-use Rattle.qs_ops.specs.declared.answer.Cause.{Cause}
 use Rattle.qs_packet.specs.declared.message.Message.TheVariants as messages
 use Rattle.qs_node_step.specs.Deciding.{decide, decide_commit}
-use Rattle.qs_node_step.specs.Settling.{answer_superior, forget_rule, is_busy, is_lent, is_quiet, may_answer, pass_rule, ready, ready_rule, refusal_goes_to, refuse_elsewhere, refuse_home, refuse_rule, say_yes, send_refusal, settle_tid, try}
-use Rattle.qs_node_step.specs.State.{Work, doings_of, part_of, with_manager}
-use Rattle.qs_node_step.specs.Telling.{forget}
+use Rattle.qs_node_step.specs.State.{part_of}
 use Rattle.qs_tm.specs.Manager as tm
 use Rattle.qs_tm.specs.Participant as participant
-use Rattle.qs_tm.specs.Participant.{awaits_note, is_answered_by, is_by_files, is_forgotten, new_participant}
-use Rattle.qs_tm.specs.declared.participant.Participant.{Participant}
-use Rattle.qs_world_runs.specs.Awaited.{Among, IsBorrowed, WaitsAt, is_lent_to}
 use Rattle.qs_world_runs.proofs.AwaitedKept.{part_on}
 use Rattle.qs_world_runs.proofs.AwaitedTurns.{pass_on}
-use Rattle.qs_world_runs.proofs.AwaitedRequests.{first, last}
 use Rattle.qs_world_runs.proofs.AwaitedRules.{On, change_on, commit_on, decide_on, fold_on, forgets_on, if_on, itself_on, plain, send_on, then_on, undecided_on, waits_on}
+use Rattle.std.proofs.lemmas.Bool.{false≢true}
 
 any_among : {A : Type 0} (p : A → Bool) (x : A) (xs : List A) → p x ≡ true → Among x xs → list_any p xs ≡ true
 any_among p x [] is a = absurd a
 any_among p x (y ∷ ys) is (inl e) = let so : p y ≡ true = ap p (sym e) ∙ is in rw so refl
-any_among p x (y ∷ ys) is (inr more) = or (p y) (list_any p ys) (any_among p x ys is more)
-  where
-    or : (a b : Bool) → b ≡ true → (a || b) ≡ true
-    or true b e = refl
-    or false b e = e
+any_among p x (y ∷ ys) is (inr more) = or_right (p y) (list_any p ys) (any_among p x ys is more)
 
 any_wider : {A : Type 0} (p q : A → Bool) → ((x : A) → p x ≡ true → q x ≡ true) → (xs : List A) → list_any p xs ≡ true → list_any q xs ≡ true
 any_wider p q wide [] is = is
 any_wider p q wide (x ∷ xs) is = by (p x) refl is (any_wider p q wide xs)
   where
-    or : (a b : Bool) → b ≡ true → (a || b) ≡ true
-    or true b e = refl
-    or false b e = e
-
     by : (b : Bool) → p x ≡ b → (p x || list_any p xs) ≡ true → (list_any p xs ≡ true → list_any q xs ≡ true) → (q x || list_any q xs) ≡ true
     by true so any more = let wider : q x ≡ true = wide x so in rw wider refl
-    by false so any more = or (q x) (list_any q xs) (more (rw so at any))
+    by false so any more = or_right (q x) (list_any q xs) (more (rw so at any))
 
 module _ (D : Type 0) (tid : Tid) (member : Member) (number : ℕ) where
   abbrev L : Work → Work → Type 0
@@ -56,10 +34,7 @@ module _ (D : Type 0) (tid : Tid) (member : Member) (number : ℕ) where
   -- ---- settling
 
   one_part : (t : Tid) (part : Participant) (work : Work) → part_of t work ≡ Some part → t ≡ tid → (w : WaitsAt tid member number work.node) → w.part ≡ part
-  one_part t part work known e w = of w.part part (sym w.known ∙ subst (λ (u : Tid). part_of u work ≡ Some part) e known)
-    where
-      of : (a b : Participant) → Some a ≡ Some b → a ≡ b
-      of a b both = cc both
+  one_part t part work known e w = same_Some w.part part (sym w.known ∙ subst (λ (u : Tid). part_of u work ≡ Some part) e known)
 
   -- a node where it waits is busy, or the home
   busy : (part : Participant) (work : Work) → (w : WaitsAt tid member number work.node) → w.part ≡ part → is_busy tid work.node part ≡ false → part.engage.home ≡ true
@@ -76,7 +51,7 @@ module _ (D : Type 0) (tid : Tid) (member : Member) (number : ℕ) where
       by : (is_by_files w.request ≡ true) ⊎ ((w.part.engage.home ≡ true) ⊎ IsBorrowed tid member number work.node.commands work.node.kept.now work.node.setting.inc) → part.engage.home ≡ true
       by (inl files) = absurd (let awaits : awaits_note part ≡ true = subst (λ (p : Participant). awaits_note p ≡ true) same (any_among is_by_files w.request w.part.waiting files w.among) in let awaits_none : awaits_note part ≡ false = idle.1 in cc (awaits, awaits_none))
       by (inr (inl home)) = subst (λ (p : Participant). p.engage.home ≡ true) same home
-      by (inr (inr b)) = absurd (let lent : is_lent tid work.node ≡ true = any_wider (is_lent_to b.client tid work.node.setting.inc) (is_standing_loan tid work.node.setting.inc) (λ loan is. last (loan.client.0 == b.client.0) (is_standing_loan tid work.node.setting.inc loan) is) work.node.kept.now.loans b.lent in
+      by (inr (inr b)) = absurd (let lent : is_lent tid work.node ≡ true = any_wider (is_lent_to b.client tid work.node.setting.inc) (is_standing_loan tid work.node.setting.inc) (λ loan is. and_last (loan.client.0 == b.client.0) (is_standing_loan tid work.node.setting.inc loan) is) work.node.kept.now.loans b.lent in
           let unlent : is_lent tid work.node ≡ false = idle.0 in cc (lent, unlent))
 
   say_on : (t : Tid) (part : Participant) (superior : NodeNo × ℕ) (work : Work) → part_of t work ≡ Some part → is_busy t work.node part ≡ false → part.engage.home ≡ false → L work (say_yes t part superior work)
@@ -91,22 +66,15 @@ module _ (D : Type 0) (tid : Tid) (member : Member) (number : ℕ) where
           of : (b : Bool) → same_tid t tid ≡ b → WaitsAt tid member number released.node ⊎ D
           of true is = let e : t ≡ tid = same_tid-true t tid is in
               absurd (let home : part.engage.home ≡ true = busy part work w (one_part t part work known e w) (subst (λ (u : Tid). is_busy u work.node part ≡ false) e free) in cc (home, away))
-          of false is = inl (part_on tid member number work.node.commands work.node.kept.now work.node.setting.inc t participant.released work.node.manager (λ e. absurd (clash (sym is ∙ subst (λ (u : Tid). same_tid t u ≡ true) e (Rattle.qs_base.proofs.Same.same_tid-self t)))) w)
-            where
-              clash : false ≡ true → ⊥
-              clash e = cc e
+          of false is = inl (part_on tid member number work.node.commands work.node.kept.now work.node.setting.inc t participant.released work.node.manager (λ e. absurd (false≢true (sym is ∙ subst (λ (u : Tid). same_tid t u ≡ true) e (Rattle.qs_base.proofs.Same.same_tid-self t)))) w)
 
   ready_on : (t : Tid) (part : Participant) (work : Work) → part_of t work ≡ Some part → L work (ready_rule t part work)
   ready_on t part work known = if_on D tid member number (may_answer t part work) (ready t part work) work work
       (λ may. if_on D tid member number part.engage.home (if is_quiet (doings_of t work) then decide_commit t work else work) (answer_superior t part work) work
       (λ home. if_on D tid member number (is_quiet (doings_of t work)) (decide_commit t work) work work (λ so. commit_on D tid member number t work) (λ so. itself_on D tid member number work))
-      (λ away. answers (release_of part.engage) (off (is_busy t work.node part) (first (not (is_busy t work.node part)) _ (first _ (participant.all_agree part) (last (part.asked && not part.blocked) _ (first (participant.is_ready (is_busy t work.node part) part) _ may))))) away))
+      (λ away. answers (release_of part.engage) (not-true (is_busy t work.node part) (and_first (not (is_busy t work.node part)) _ (and_first _ (participant.all_agree part) (and_last (part.asked && not part.blocked) _ (and_first (participant.is_ready (is_busy t work.node part) part) _ may))))) away))
       (λ so. itself_on D tid member number work)
     where
-      off : (b : Bool) → not b ≡ true → b ≡ false
-      off true e = absurd (cc e)
-      off false e = refl
-
       answers : (o : Option (NodeNo × ℕ)) → is_busy t work.node part ≡ false → part.engage.home ≡ false → L work (elim o [ None ↦ work | Some superior ↦ say_yes t part superior work ])
       answers None free away = itself_on D tid member number work
       answers (Some superior) free away = say_on t part superior work known free away
@@ -129,12 +97,8 @@ module _ (D : Type 0) (tid : Tid) (member : Member) (number : ℕ) where
       (λ so. itself_on D tid member number work)
     where
       engaged : is_forgotten part ≡ true → Rattle.qs_world_refine.specs.Sound.is_engaged part ≡ true → ⊥
-      engaged so on = of part.engage.home part.engage.superior (off part.engage.home (last (participant.is_undecided part) _ (first _ _ so))) (first (is_none part.engage.superior) _ (first _ _ (last (participant.is_undecided part && not part.engage.home) _ so))) on
+      engaged so on = of part.engage.home part.engage.superior (not-true part.engage.home (and_last (participant.is_undecided part) _ (and_first _ _ so))) (and_first (is_none part.engage.superior) _ (and_first _ _ (and_last (participant.is_undecided part && not part.engage.home) _ so))) on
         where
-          off : (b : Bool) → not b ≡ true → b ≡ false
-          off true e = absurd (cc e)
-          off false e = refl
-
           of : (h : Bool) (s : Option NodeNo) → h ≡ false → is_none s ≡ true → (if h then participant.is_undecided part else is_some s) ≡ true → ⊥
           of true s away none on = cc away
           of false None away none on = cc on

@@ -1,38 +1,11 @@
 -- What waits for its reply waits on through a whole step: a client whose request waits is answered by its reply, or where abort is known.
-use Rattle.std.proofs.Common.{◌≡◌, ℕ, ◌==◌, ◌&&◌, Bool, true, false, Option, Some, None, refl, sym, ap, subst, ◌∙◌}
-use Rattle.std.specs.BTreeMap.{insert_entry, is_at}
-use Rattle.std.specs.List.{find, list_any}
-use Rattle.std.specs.Map.{lookup}
-use Rattle.std.specs.Prelude.{is_none, is_some}
-use Rattle.qs_base.specs.Order.{same_member}
-use Rattle.qs_base.specs.declared.identifiers.ClientNo.{ClientNo}
-use Rattle.qs_base.specs.declared.identifiers.Member.{Member}
-use Rattle.qs_base.specs.declared.identifiers.ServerNo.{ServerNo}
-use Rattle.qs_base.specs.declared.identifiers.Tid.{Tid}
+use Rattle.qs_world_runs.proofs.Words.{◌≡◌, ℕ, ◌==◌, ◌&&◌, Bool, true, false, Option, Some, None, refl, sym, ap, subst, ◌∙◌, insert_entry, is_at, find, list_any, lookup, is_none, is_some, same_member, ClientNo, Member, ServerNo, Tid, member_here, label_at, due_tids, settle, Work, client_cmp, Setting, Issued, OpenCommand, Participant, Begun, Decided, kept_outcome, is_aborted, answer, decided_answer, begin_incarnation, borrower_waits, happen, is_owner, owner_waits, step_work, wait_command}
+use Rattle.qs_world_runs.proofs.Words.{wait_on, waiting_clients, waits_at, work_on, Event, begin_same, is_engaged, IsBorrowed, same_Some}
 use Rattle.qs_packet.specs.declared.message.Message.TheVariants as messages
-use Rattle.qs_node_step.specs.Bringing.{member_here}
-use Rattle.qs_node_step.specs.Serving.{label_at}
-use Rattle.qs_node_step.specs.Settling.{due_tids, settle}
-use Rattle.qs_node_step.specs.State.{Work, client_cmp}
-use Rattle.qs_node_step.specs.declared.setting.Setting.{Setting}
-use Rattle.qs_node_step.specs.declared.state.Issued.{Issued}
-use Rattle.qs_node_step.specs.declared.state.OpenCommand.{OpenCommand}
-use Rattle.qs_tm.specs.declared.participant.Participant.{Participant}
-use Rattle.qs_node_kept.specs.declared.kept.KeptLabel.{KeptLabel}
-use Rattle.qs_node_kept.specs.declared.kept.Decided.{Decided}
 use Rattle.qs_ops.specs.declared.answer.Answer.TheVariants as answers
-use Rattle.qs_node_step.specs.Answering.{kept_outcome}
-use Rattle.qs_node_step.specs.Borrowing.{is_aborted}
-use Rattle.qs_node_step.specs.Bringing.{answer}
-use Rattle.qs_node_step.specs.Commands.{decided_answer}
-use Rattle.qs_node_step.specs.Restarts.{begin_incarnation}
-use Rattle.qs_node_step.specs.Step.{borrower_waits, happen, is_owner, owner_waits, step_work, wait_command, wait_on, waiting_clients, waits_at}
-use Rattle.qs_node_step.specs.State.{NodeValue, work_on}
-use Rattle.qs_node_step.specs.declared.event.Event.{Event}
+use Rattle.qs_node_step.specs.State.{NodeValue}
 use Rattle.qs_node_step.specs.declared.event.Event.TheVariants as events
-use Rattle.qs_world_lawful.proofs.SameSettingTold.{begin_same}
-use Rattle.qs_world_refine.specs.Sound.{is_engaged}
-use Rattle.qs_world_runs.specs.Awaited.{ComesSo, StepsWaitOn, TakesIt, WaitsEngaged, IsBorrowed, its_request}
+use Rattle.qs_world_runs.specs.Awaited.{ComesSo, StepsWaitOn, TakesIt, WaitsEngaged, its_request}
 use Rattle.qs_world_runs.proofs.AwaitedCommands.{BeginsOther, HasNone, borrower_on, command_on}
 use Rattle.qs_world_runs.proofs.AwaitedComes.{TakesIn, begins_on, message_on, peer_on, tick_on}
 use Rattle.qs_world_runs.proofs.AwaitedSettles.{settles_on}
@@ -54,20 +27,14 @@ module _ (D : Type 0) (tid : Tid) (member : Member) (number : ℕ) where
   module _ (client : ClientNo) (command : OpenCommand) (work : Work) (there : lookup (is_at (client_cmp client)) work.node.commands ≡ Some command) where
     -- the command of that client is this one
     its_own : (b : IsBorrowed tid member number work.node.commands work.node.kept.now work.node.setting.inc) → client ≡ b.client → b.command ≡ command
-    its_own b e = of b.command command (sym b.there ∙ subst (λ (c : ClientNo). lookup (is_at (client_cmp c)) work.node.commands ≡ Some command) e there)
-      where
-        of : (a b : OpenCommand) → Some a ≡ Some b → a ≡ b
-        of a b e = cc e
+    its_own b e = same_Some b.command command (sym b.there ∙ subst (λ (c : ClientNo). lookup (is_at (client_cmp c)) work.node.commands ≡ Some command) e there)
 
-    owner_wait_on : (begun : KeptLabel) → label_at command.line.label work.node ≡ Some begun → is_owner client begun.owner ≡ true → L work (owner_waits client begun.tid command.line.command work)
+    owner_wait_on : (begun : Begun) → label_at command.line.label work.node ≡ Some begun → is_owner client begun.owner ≡ true → L work (owner_waits client begun.tid command.line.command work)
     owner_wait_on begun label owns = of begun.tid
       where
         not_its : Ot client work
-        not_its w b e = absurd (let mine : is_owner b.client b.begun.owner ≡ true = subst (λ (c : ClientNo). is_owner c b.begun.owner ≡ true) e (subst (λ (x : KeptLabel). is_owner client x.owner ≡ true) (same begun b.begun (sym label ∙ subst (λ (c : OpenCommand). label_at c.line.label work.node ≡ Some b.begun) (its_own b e) b.label)) owns) in
+        not_its w b e = absurd (let mine : is_owner b.client b.begun.owner ≡ true = subst (λ (c : ClientNo). is_owner c b.begun.owner ≡ true) e (subst (λ (x : Begun). is_owner client x.owner ≡ true) (same_Some begun b.begun (sym label ∙ subst (λ (c : OpenCommand). label_at c.line.label work.node ≡ Some b.begun) (its_own b e) b.label)) owns) in
             let none : is_owner b.client b.begun.owner ≡ false = b.other in cc (mine, none))
-          where
-            same : (a b : KeptLabel) → Some a ≡ Some b → a ≡ b
-            same a b e = cc e
 
         kept : (o : Option Decided) → L work (elim o [ None ↦ work | Some decided ↦ answer client (decided_answer decided command.line.command) work ])
         kept None = itself_on D tid member number work
@@ -81,24 +48,18 @@ module _ (D : Type 0) (tid : Tid) (member : Member) (number : ℕ) where
     borrower_wait_on (Some issued) is t = if_on D tid member number (is_aborted issued.tid work.node) (answer client answers.Ended work) work work (λ so. answer_on D tid member number client answers.Ended work (not_its so)) (λ so. itself_on D tid member number work)
       where
         not_its : is_aborted issued.tid work.node ≡ true → Ot client work
-        not_its aborted w b e = absurd (let ended : is_aborted tid work.node ≡ true = subst (λ (u : Tid). is_aborted u work.node ≡ true) (ap (λ (i : Issued). i.tid) (same issued (its_request tid member number) (sym is ∙ (ap (λ (c : OpenCommand). c.issued) (sym (its_own b e)) ∙ b.issued)))) aborted in
+        not_its aborted w b e = absurd (let ended : is_aborted tid work.node ≡ true = subst (λ (u : Tid). is_aborted u work.node ≡ true) (ap (λ (i : Issued). i.tid) (same_Some issued (its_request tid member number) (sym is ∙ (ap (λ (c : OpenCommand). c.issued) (sym (its_own b e)) ∙ b.issued)))) aborted in
             let runs : is_aborted tid work.node ≡ false = ap (λ (o : Option Participant). elim o [ None ↦ false | Some part ↦ Rattle.qs_tm.specs.Outcomes.is_abort part.outcome ]) w.known ∙ ap Rattle.qs_tm.specs.Outcomes.is_abort w.undecided in cc (ended, runs))
-          where
-            same : (a b : Issued) → Some a ≡ Some b → a ≡ b
-            same a b e = cc e
     borrower_wait_on None is None = itself_on D tid member number work
     borrower_wait_on None is (Some t) = borrower_on D tid member number client t command.line.command work free
       where
         free : Fr client work
-        free other found issued = absurd (let none : other.issued ≡ None = ap (λ (c : OpenCommand). c.issued) (same other command (sym found ∙ there)) ∙ is in cc (none, issued))
-          where
-            same : (a b : OpenCommand) → Some a ≡ Some b → a ≡ b
-            same a b e = cc e
+        free other found issued = absurd (let none : other.issued ≡ None = ap (λ (c : OpenCommand). c.issued) (same_Some other command (sym found ∙ there)) ∙ is in cc (none, issued))
 
     known_on : L work (wait_command client command work)
     known_on = by (label_at command.line.label work.node) refl
       where
-        by : (o : Option KeptLabel) → label_at command.line.label work.node ≡ o → L work (elim o [ None ↦ work | Some begun ↦ waits_at client command begun work ])
+        by : (o : Option Begun) → label_at command.line.label work.node ≡ o → L work (elim o [ None ↦ work | Some begun ↦ waits_at client command begun work ])
         by None label = itself_on D tid member number work
         by (Some begun) label = if_on D tid member number (is_owner client begun.owner) (owner_waits client begun.tid command.line.command work) (borrower_waits client command.issued begun.tid command.line.command work) work
             (λ owns. owner_wait_on begun label owns) (λ so. borrower_wait_on command.issued refl begun.tid)
@@ -164,7 +125,4 @@ steps_wait_on tid member number node event free away comes waiting = step_on (Ta
     came events.Tick c = tt
 
 pub waits_engaged : WaitsEngaged
-waits_engaged tid member number node part known open_now w = subst (λ (p : Participant). is_engaged p ≡ true) (of w.part part (sym w.known ∙ known)) w.engaged
-  where
-    of : (a b : Participant) → Some a ≡ Some b → a ≡ b
-    of a b e = cc e
+waits_engaged tid member number node part known open_now w = subst (λ (p : Participant). is_engaged p ≡ true) (same_Some w.part part (sym w.known ∙ known)) w.engaged

@@ -1,28 +1,18 @@
 -- What waits for its reply waits on as outcomes are told, taken in and asked for, where the outcome is another transaction's.
-use Rattle.std.proofs.Common.{◌≡◌, ◌⊎◌, inl, inr, ℕ, Bool, true, false, List, Option, Some, None, refl, sym, subst, ◌∙◌, if◌then◌else◌}
-use Rattle.std.specs.List.{list_any}
-use Rattle.std.specs.Prelude.{is_some}
-use Rattle.qs_base.specs.declared.identifiers.Member.{Member}
-use Rattle.qs_base.specs.declared.identifiers.NodeNo.{NodeNo}
+use Rattle.qs_world_runs.proofs.Words.{◌≡◌, ◌⊎◌, inl, inr, ℕ, Bool, true, false, List, Option, Some, None, refl, sym, subst, ◌∙◌, if◌then◌else◌, list_any, is_some, Member, NodeNo, Tid, listed, same_node, answer_known, answer_unknown, inquiry_at_home, inquiry_came, kept_outcome, send, give_notices, Work, here, with_manager, end_told, forget, is_other_node, keep_abort_told, learn, learn_unknown, names_at, record_learnt, take_names, take_outcome, take_told, tell_came, told_at_home, told_came}
+use Rattle.qs_world_runs.proofs.Words.{told_known, told_unknown, is_undecided, Participant, same_or_apart, WaitsAt, same_Some}
 use Rattle.qs_base.specs.declared.identifiers.Outcome.{Outcome}
 use Rattle.qs_base.specs.declared.identifiers.Outcome.TheVariants as outcomes
-use Rattle.qs_base.specs.declared.identifiers.Tid.{Tid}
-use Rattle.qs_engage.specs.Nodes.{listed, same_node}
 use Rattle.qs_packet.specs.declared.message.Message.TheVariants as messages
 use Rattle.qs_record.specs.declared.record.Record.TheVariants as records
-use Rattle.qs_node_step.specs.Answering.{answer_known, answer_unknown, inquiry_at_home, inquiry_came, kept_outcome, was_committed}
-use Rattle.qs_node_step.specs.Bringing.{log, send}
-use Rattle.qs_node_step.specs.Deciding.{give_notices}
-use Rattle.qs_node_step.specs.State.{Work, here, part_of, with_manager}
-use Rattle.qs_node_step.specs.Telling.{end_told, forget, is_other_node, keep_abort_told, learn, learn_unknown, names_at, record_learnt, take_names, take_outcome, take_told, tell_came, told_at_home, told_came, told_known, told_unknown}
+use Rattle.qs_node_step.specs.Answering.{was_committed}
+use Rattle.qs_node_step.specs.Bringing.{log}
+use Rattle.qs_node_step.specs.State.{part_of}
 use Rattle.qs_tm.specs.Manager as tm
 use Rattle.qs_tm.specs.Outcomes as outcome_rules
 use Rattle.qs_tm.specs.Participant as participant
-use Rattle.qs_tm.specs.Participant.{is_undecided}
-use Rattle.qs_tm.specs.declared.participant.Participant.{Participant}
-use Rattle.qs_world_lawful.proofs.Apart.{Apart, same_or_apart}
+use Rattle.qs_world_lawful.proofs.Apart.{Apart}
 use Rattle.qs_world_runs.proofs.AwaitedRules.{On, change_on, decided_on, forgets_on, if_on, itself_on, log_if_on, log_on, notices_on, plain, send_each_on, send_on, then_on, waits_on}
-use Rattle.qs_world_runs.specs.Awaited.{WaitsAt}
 use Rattle.qs_world_runs.proofs.AwaitedKept.{unknown_on}
 
 module _ (D : Type 0) (tid : Tid) (member : Member) (number : ℕ) where
@@ -61,10 +51,7 @@ module _ (D : Type 0) (tid : Tid) (member : Member) (number : ℕ) where
   open_still t part outcome work known is e w = let both : Some w.part ≡ Some part = sym w.known ∙ subst (λ (u : Tid). part_of u work ≡ Some part) e known in one w.part part both w.undecided
     where
       one : (a b : Participant) → Some a ≡ Some b → a.outcome ≡ None → ⊥
-      one a b both none = let same : a ≡ b = of a b both in cc (none, is, same)
-        where
-          of : (a b : Participant) → Some a ≡ Some b → a ≡ b
-          of a b both = cc both
+      one a b both none = let same : a ≡ b = same_Some a b both in cc (none, is, same)
 
   names_on : (t : Tid) (further : List NodeNo) (work : Work) → L work (take_names t further work)
   names_on t further work = then_on D tid member number work (with_manager (tm.take_names t further) work) (take_names t further work) (change_on D tid member number t (outcome_rules.take_names t.home further) work (λ same. plain D tid member number (outcome_rules.take_names t.home further) (λ p. refl) (λ p. refl) (λ p. refl)))

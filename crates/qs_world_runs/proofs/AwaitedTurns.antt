@@ -1,45 +1,23 @@
 -- What waits for its reply waits on as requests come, are issued and served, as servers vote, and as a transaction is settled, until that is decided: its node is busy, so it answers nobody.
-use Rattle.std.proofs.Common.{◌≡◌, inl, ℕ, ◌==◌, ◌&&◌, Bool, true, false, List, [], ◌∷◌, ◌++◌, fold, Option, Some, None, refl, sym, subst, if◌then◌else◌}
-use Rattle.std.specs.Prelude.{is_none}
-use Rattle.qs_base.specs.Order.{same_member}
-use Rattle.qs_base.specs.declared.identifiers.ClientNo.{ClientNo}
-use Rattle.qs_base.specs.declared.identifiers.Member.{Member}
-use Rattle.qs_base.specs.declared.identifiers.NodeNo.{NodeNo}
-use Rattle.qs_base.specs.declared.identifiers.ServerNo.{ServerNo}
-use Rattle.qs_base.specs.declared.identifiers.Tid.{Tid}
-use Rattle.qs_engage.specs.Nodes.{same_node}
-use Rattle.qs_engage.specs.declared.engage.Engaged.{Engaged}
+use Rattle.qs_world_runs.proofs.Words.{◌≡◌, inl, ℕ, ◌==◌, ◌&&◌, Bool, true, false, List, [], ◌∷◌, ◌++◌, fold, Option, Some, None, refl, sym, subst, if◌then◌else◌, is_none, same_member, ClientNo, Member, NodeNo, ServerNo, Tid, same_node, Engaged, Delivery, after_serving, Op, Note, Reply, Vote, client_of, is_client, member_here, send, end_members, ask_on, enqueue, enter_issue, is_asked, issue, issue_as, issue_away, issue_here, label_of, reply_came, with_local, change_served, cover_from}
+use Rattle.qs_world_runs.proofs.Words.{enter_serve, label_at, learn_label, lent_to, make_loan, put_label, reply_here, request_came, serve, serve_all, serve_next, serve_or_drop, take_in, is_pass_due, pass_rule, Work, change_server, here, with_doings, with_manager, with_queues, change_count, due_votes, enter_vote, issue_note, log_vote, owes_note, vote_next, vote_pass, vote_with, Setting, awaits_note, is_answered_by, is_by_files, is_forgotten, new_participant, Outstanding, Participant, and_first}
 use Rattle.qs_engage.specs.declared.engage.Engaged.TheVariants as engagements
 use Rattle.qs_ipc.specs.Ipc as ipc
 use Rattle.qs_ipc.specs.Queue.{is_for}
-use Rattle.qs_ipc.specs.declared.delivery.Delivery.{Delivery}
-use Rattle.qs_ops.specs.Server.{after_serving}
-use Rattle.qs_ops.specs.declared.operation.Op.{Op}
-use Rattle.qs_ops.specs.declared.operation.Op.TheVariants.{Note}
-use Rattle.qs_ops.specs.declared.reply.Reply.{Reply}
-use Rattle.qs_ops.specs.declared.vote.Vote.{Vote}
 use Rattle.qs_ops.specs.declared.vote.Vote.TheVariants as votes
 use Rattle.qs_packet.specs.declared.message.Message.TheVariants as messages
-use Rattle.qs_node_servers.specs.Servers.{client_of, is_client}
-use Rattle.qs_node_step.specs.Bringing.{member_here, send}
-use Rattle.qs_node_step.specs.Deciding.{end_members}
-use Rattle.qs_node_step.specs.Requests.{ask_on, enqueue, enter_issue, is_asked, issue, issue_as, issue_away, issue_here, label_of, next_number, reply_came, with_local}
-use Rattle.qs_node_step.specs.Serving.{change_served, cover_from, enter_serve, give_reply, label_at, learn_label, lent_to, make_loan, may_serve, met, put_label, reply_here, request_came, serve, serve_all, serve_next, serve_or_drop, take_in}
+use Rattle.qs_node_step.specs.Requests.{next_number}
+use Rattle.qs_node_step.specs.Serving.{give_reply, may_serve, met}
 use Rattle.qs_node_step.specs.Serving as serving
-use Rattle.qs_node_step.specs.Settling.{is_pass_due, pass_rule}
-use Rattle.qs_node_step.specs.State.{Work, change_server, here, part_of, with_doings, with_manager, with_queues}
-use Rattle.qs_node_step.specs.Voting.{change_count, due_votes, enter_vote, issue_note, log_vote, note_text, owes_note, vote_next, vote_pass, vote_with}
-use Rattle.qs_node_step.specs.declared.setting.Setting.{Setting}
+use Rattle.qs_node_step.specs.State.{part_of}
+use Rattle.qs_node_step.specs.Voting.{note_text}
 use Rattle.qs_tm.specs.Manager as tm
 use Rattle.qs_tm.specs.Members.{files_no}
 use Rattle.qs_tm.specs.Participant as participant
-use Rattle.qs_tm.specs.Participant.{awaits_note, is_answered_by, is_by_files, is_forgotten, new_participant}
-use Rattle.qs_tm.specs.declared.participant.Outstanding.{Outstanding}
-use Rattle.qs_tm.specs.declared.participant.Participant.{Participant}
 use Rattle.qs_node_servers.specs.Servers.{audit_no}
 use Rattle.qs_world_lawful.proofs.SameSetting.{serve_next_same}
 use Rattle.qs_world_runs.proofs.AwaitedKept.{labelled_on, lent_on, part_on, unknown_on, with_borrowed}
-use Rattle.qs_world_runs.proofs.AwaitedRequests.{first, issued_kept, reply_on, requested_kept, sent_kept, served_kept}
+use Rattle.qs_world_runs.proofs.AwaitedRequests.{issued_kept, reply_on, requested_kept, sent_kept, served_kept}
 use Rattle.qs_world_runs.proofs.AwaitedRules.{On, change_on, ended_on, fold_on, if_on, itself_on, log_on, plain, send_on, then_on, waits_on}
 
 module _ (D : Type 0) (tid : Tid) (member : Member) (number : ℕ) where
@@ -158,7 +136,7 @@ module _ (D : Type 0) (tid : Tid) (member : Member) (number : ℕ) where
           (λ b. inl (lent_on tid member number served.node.commands served.node.setting.inc served.node.kept.now (record { tid = delivery.tid; client = client; inc = served.node.setting.inc; taken = false; yielded = false }) b))) (λ k. k)
 
       not_its : {X : Type 0} → (same_member member (member_here work server) && (number == delivery.number)) ≡ true → X
-      not_its so = absurd (let yes_it : same_member member (member_here work server) ≡ true = first (same_member member (member_here work server)) _ so in let not_it : same_member member (member_here work server) ≡ false = away server in cc (yes_it, not_it))
+      not_its so = absurd (let yes_it : same_member member (member_here work server) ≡ true = and_first (same_member member (member_here work server)) _ so in let not_it : same_member member (member_here work server) ≡ false = away server in cc (yes_it, not_it))
 
       given : L lent (serve server delivery reply work)
       given = if_on D tid member number (same_node delivery.from (here lent)) (reply_came delivery.tid (member_here work server) delivery.number reply lent) (if delivery.stale then lent else send delivery.from (messages.Answered delivery.tid (member_here work server) delivery.number reply) lent) lent

@@ -1,22 +1,10 @@
 -- What a node takes up from its log is bare: no request of it waits for a reply, it knows no cause and nobody who is to be told; and no tick was made.
-use Rattle.std.proofs.Common.{◌≡◌, ◌⊎◌, inl, inr, ℕ, ◌==◌, Bool, true, false, List, [], ◌∷◌, length, fold, Some, refl, sym, subst, ◌∙◌, if◌then◌else◌}
-use Rattle.qs_base.specs.declared.identifiers.NodeNo.{NodeNo}
-use Rattle.qs_base.specs.declared.identifiers.ServerNo.{ServerNo}
-use Rattle.qs_base.specs.declared.identifiers.Tid.{Tid}
+use Rattle.qs_world_runs.proofs.Words.{◌≡◌, ◌⊎◌, inl, inr, ℕ, ◌==◌, Bool, true, false, List, [], ◌∷◌, length, fold, Some, refl, sym, subst, ◌∙◌, if◌then◌else◌, NodeNo, ServerNo, Tid, Record, take_up, committed_before, voted_before, new_participant, Manager, Participant, same_or_apart, each_changed, put_there, of_some}
 use Rattle.qs_engage.specs.Nodes.{no_nodes}
-use Rattle.qs_record.specs.declared.record.Record.{Record}
 use Rattle.qs_record.specs.declared.record.Record.TheVariants as records
-use Rattle.qs_node_step.specs.Opening.{take_up}
 use Rattle.qs_tm.specs.Manager as tm
-use Rattle.qs_tm.specs.Outcomes.{committed_before, voted_before}
-use Rattle.qs_tm.specs.Participant.{new_participant}
-use Rattle.qs_tm.specs.declared.manager.Manager.{Manager}
-use Rattle.qs_tm.specs.declared.participant.Participant.{Participant}
-use Rattle.qs_world_lawful.proofs.Apart.{Apart, same_or_apart}
+use Rattle.qs_world_lawful.proofs.Apart.{Apart}
 use Rattle.qs_world_lawful.proofs.Faces.{put_apart}
-use Rattle.qs_world_lawful.proofs.FactsKept.{each_changed}
-use Rattle.qs_world_lawful.proofs.Marks.{put_there}
-use Rattle.qs_world_lawful.proofs.Truths.{of_some}
 
 pub record IsBare (part : Participant) : Type 0 where
   pub waiting : part.waiting ≡ []

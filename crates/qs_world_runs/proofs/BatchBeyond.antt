@@ -1,34 +1,14 @@
 -- A vote of a step covers more than what is on record, or other: what is on record is aborted, or found in the log, since what is voted on is not committed.
-use Rattle.std.proofs.Common.{◌≡◌, inl, inr, ℕ, ◌==◌, ◌&&◌, arith, not, Bool, true, false, List, Some, refl, sym, ap, ◌∙◌}
-use Rattle.std.specs.List.{list_any}
-use Rattle.std.proofs.lemmas.Bool.Decides.{nat_tests}
-use Rattle.std.specs.Prelude.{nat_lt}
-use Rattle.qs_base.specs.declared.identifiers.ServerNo.{ServerNo}
-use Rattle.qs_base.specs.declared.identifiers.Tid.{Tid}
-use Rattle.qs_book_journal.specs.declared.entry.Act.{Act}
-use Rattle.qs_book_machine.specs.Book.{BookValue, cell_of_transaction, inc_at}
+use Rattle.qs_world_runs.proofs.Words.{◌≡◌, inl, inr, ℕ, ◌==◌, ◌&&◌, not, Bool, true, false, List, Some, refl, sym, ap, ◌∙◌, list_any, nat_lt, ServerNo, Tid, Act, BookValue, cell_of_transaction, inc_at, is_among, is_found_as, is_commit, OnRecord, Cell, Recovery, effects_of, Event, entries_of, HasAborted, IsRecordSafe, HasCommitted, found_votes, EntersVote, IsVoteDue, Inv, some_same}
 use Rattle.qs_book_machine.specs.Lawful.{IsLawful}
 use Rattle.qs_book_machine.specs.Nodes as machine
-use Rattle.qs_book_machine.specs.Restart.{is_among, is_found_as, member_at}
-use Rattle.qs_book_machine.specs.Transaction.{is_commit}
-use Rattle.qs_book_machine.specs.declared.state.OnRecord.{OnRecord}
-use Rattle.qs_book_machine.specs.declared.transaction.Cell.{Cell}
+use Rattle.qs_book_machine.specs.Restart.{member_at}
 use Rattle.qs_book_machine.specs.declared.transaction.Cell.TheVariants as cells
 use Rattle.qs_ops.specs.declared.vote.Vote.TheVariants as votes
-use Rattle.qs_restart.specs.Recovery.{Recovery}
 use Rattle.qs_node_step.specs.State.{NodeValue}
-use Rattle.qs_node_step.specs.Step.{effects_of}
-use Rattle.qs_node_step.specs.declared.event.Event.{Event}
-use Rattle.qs_world.specs.Posting.{entries_of}
-use Rattle.qs_world_lawful.specs.Logged.{HasAborted, IsRecordSafe, HasCommitted}
-use Rattle.qs_world_lawful.specs.Logs.{found_votes}
 use Rattle.qs_world_runs.specs.CutBatches.{IsBeyond}
-use Rattle.qs_world_runs.specs.CutVotes.{EntersVote, IsVoteDue}
 use Rattle.qs_world_runs.proofs.DueVotes.{steps_vote_due}
-use Rattle.qs_book_laws.proofs.Outcomes.{Inv}
-
-covers_apart : (a b : ℕ) → nat_lt a b ≡ true → (a == b) ≡ false
-covers_apart a b e = grind (arith, nat_tests, e)
+use Rattle.qs_base_lemmas.proofs.Tests.{ltb_apart}
 
 module _ (n stamp free : ℕ) (node : NodeValue) (event : Event) (book : BookValue) (inv : Inv book) (lawful : IsLawful book (entries_of n stamp (effects_of node event free).entries)) (state : machine.NodeValue) (log : Recovery)
     (kept : (tid : Tid) (server : ℕ) (rec : OnRecord) → machine.record_of state tid server ≡ Some rec → IsRecordSafe book log (machine.voter tid server) rec.covers) (committed : (tid : Tid) → is_among log.committed tid ≡ true → HasCommitted book tid) where
@@ -55,21 +35,18 @@ module _ (n stamp free : ℕ) (node : NodeValue) (event : Event) (book : BookVal
           off false true c e = absurd (cc e)
 
           uncommitted : IsVoteDue book tid (member_at n server.0) (inc_at book (record { 0 = n })) covers → ⊥
-          uncommitted due = of due.tx.cell refl (one (sym (ap cell_of_transaction due.found) ∙ committed tid among))
+          uncommitted due = of due.tx.cell refl (some_same (sym (ap cell_of_transaction due.found) ∙ committed tid among))
             where
-              one : {x y : Cell} → Some x ≡ Some y → x ≡ y
-              one e = cc e
-
               of : (c : Cell) → due.tx.cell ≡ c → due.tx.cell ≡ cells.Commit → ⊥
               of c is done_is = let no : is_commit due.tx.cell ≡ false = off _ (is_commit due.tx.cell) _ due.due in let on : is_commit due.tx.cell ≡ true = ap is_commit done_is in cc (no, on)
 
       apart : (rec : OnRecord) → machine.record_of state tid server.0 ≡ Some rec → IsRecordSafe book log (machine.voter tid server.0) rec.covers → (rec.covers == covers) ≡ false
       apart rec is (inr (inl among)) = undone among
-      apart rec is (inr (inr found)) = covers_apart rec.covers covers (beyond rec is found)
+      apart rec is (inr (inr found)) = ltb_apart rec.covers covers (beyond rec is found)
       apart rec is (inl aborted) = by (list_any (is_found_as (machine.voter tid server.0) rec.covers) (found_votes log)) refl
         where
           by : (b : Bool) → list_any (is_found_as (machine.voter tid server.0) rec.covers) (found_votes log) ≡ b → (rec.covers == covers) ≡ false
-          by true found = covers_apart rec.covers covers (beyond rec is found)
+          by true found = ltb_apart rec.covers covers (beyond rec is found)
           by false none = fresh rec is aborted none
 
       more : (HasAborted book tid → ⊥) → (rec : OnRecord) → machine.record_of state tid server.0 ≡ Some rec → IsRecordSafe book log (machine.voter tid server.0) rec.covers → nat_lt rec.covers covers ≡ true

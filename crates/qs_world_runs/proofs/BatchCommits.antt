@@ -1,36 +1,18 @@
 -- Of what a step commits, or is told to be committed, its log had no Commit before; no server votes on it in the step, it is not aborted, and it is committed once.
-use Rattle.std.proofs.Common.{◌≡◌, ◌⊎◌, inl, inr, ℕ, ◌≤◌, ◌+◌, ◌||◌, ◌++◌, arith, Bool, true, false, List, [], ◌∷◌, Some, refl, sym, ap, subst, ◌∙◌, is_some}
-use Rattle.std.proofs.lemmas.List.Folds.{list_any-append}
-use Rattle.std.specs.List.{list_any}
-use Rattle.qs_base.proofs.Same.{same_tid-self, same_tid-true}
-use Rattle.qs_base.specs.Order.{same_tid}
-use Rattle.qs_base.specs.declared.identifiers.NodeNo.{NodeNo}
+use Rattle.qs_world_runs.proofs.Words.{◌≡◌, ◌⊎◌, inl, inr, ℕ, ◌≤◌, ◌+◌, ◌++◌, arith, Bool, true, false, List, [], ◌∷◌, Some, refl, sym, ap, subst, ◌∙◌, is_some, list_any-append, list_any, same_tid-self, same_tid-true, same_tid, NodeNo, Tid, Act, BookValue, is_among, TransactionValue, cell_of, Record, Recovery, names_transaction, effects_of, step_work, end_record, Event, entries_of, HasAborted, HasCommitted, HasOutcome, IsTrueEvent, lasts_ran, LastsWell, EntersDecide, IsSource, decides_of}
+use Rattle.qs_world_runs.proofs.Words.{one_if, told_commit, deeds_of, is_noted, or_right, or_parts, some_same}
 use Rattle.qs_base.specs.declared.identifiers.Outcome.{Outcome}
 use Rattle.qs_base.specs.declared.identifiers.Outcome.TheVariants as outcomes
-use Rattle.qs_base.specs.declared.identifiers.Tid.{Tid}
-use Rattle.qs_book_journal.specs.declared.entry.Act.{Act}
 use Rattle.qs_book_journal.specs.declared.entry.Act.TheVariants as acts
-use Rattle.qs_book_machine.specs.Book.{BookValue}
 use Rattle.qs_book_machine.specs.Lawful.{IsLawful}
-use Rattle.qs_book_machine.specs.Restart.{is_among}
-use Rattle.qs_book_machine.specs.Transaction.{TransactionValue, cell_of}
 use Rattle.qs_book_machine.specs.declared.transaction.Cell.TheVariants as cells
 use Rattle.qs_packet.specs.declared.message.Message.TheVariants as messages
-use Rattle.qs_record.specs.declared.record.Record.{Record}
 use Rattle.qs_record.specs.declared.record.Record.TheVariants as made
-use Rattle.qs_restart.specs.Recovery.{Recovery, names_transaction}
 use Rattle.qs_node_step.specs.State.{NodeValue}
-use Rattle.qs_node_step.specs.Step.{effects_of, step_work}
-use Rattle.qs_node_step.specs.Telling.{end_record}
-use Rattle.qs_node_step.specs.declared.event.Event.{Event}
 use Rattle.qs_node_step.specs.declared.event.Event.TheVariants as events
-use Rattle.qs_world.specs.Posting.{entries_of}
-use Rattle.qs_world_lawful.specs.Logged.{HasAborted, HasCommitted, HasOutcome, IsTrueEvent, KnowsLog}
-use Rattle.qs_world_lawful.proofs.LastsOpening.{lasts_ran}
-use Rattle.qs_world_lawful.proofs.LastsWell.{LastsWell}
-use Rattle.qs_world_runs.specs.CutRecords.{EntersDecide, IsSource, IsTold, decides_of, one_if, told_commit}
-use Rattle.qs_world_runs.specs.Deeds.{deeds_of}
-use Rattle.qs_world_runs.specs.Firsts.{CommitsFirst, StaysOpen, is_commit_of, is_noted, is_vote_of}
+use Rattle.qs_world_lawful.specs.Logged.{KnowsLog}
+use Rattle.qs_world_runs.specs.CutRecords.{IsTold}
+use Rattle.qs_world_runs.specs.Firsts.{CommitsFirst, StaysOpen, is_commit_of, is_vote_of}
 use Rattle.qs_world_runs.proofs.BatchSources.{aborted_either, shut_of, told_has}
 use Rattle.qs_world_runs.proofs.CommitsFirst.{commits_so}
 use Rattle.qs_world_runs.proofs.DecidedOnce.{Decided, IsShut, decided_so, none_decided, once_decided}
@@ -86,12 +68,8 @@ module _ (n stamp free : ℕ) (node : NodeValue) (event : Event) (book : BookVal
 
     before_off : (xs : List Act) → list_any (is_noted tid) xs ≡ false → list_any (is_vote_of tid) xs ≡ false
     before_off [] off = refl
-    before_off (x ∷ xs) off = rw (head x (neither (is_noted tid x) _ off).0) (before_off xs (neither (is_noted tid x) _ off).1)
+    before_off (x ∷ xs) off = rw (head x (or_parts (is_noted tid x) _ off).0) (before_off xs (or_parts (is_noted tid x) _ off).1)
       where
-        neither : (a b : Bool) → (a || b) ≡ false → (a ≡ false) × (b ≡ false)
-        neither false b e = (refl, e)
-        neither true b e = absurd (cc e)
-
         head : (a : Act) → is_noted tid a ≡ false → is_vote_of tid a ≡ false
         head (acts.Vote t member ballot covers) is = is
         head (acts.Decide t outcome cause) is = refl
@@ -115,10 +93,6 @@ module _ (n stamp free : ℕ) (node : NodeValue) (event : Event) (book : BookVal
         any_in : (xs ys : List Act) (x : Act) (p : Act → Bool) → p x ≡ true → list_any p (xs ++ x ∷ ys) ≡ true
         any_in [] ys x p is = rw is refl
         any_in (w ∷ xs) ys x p is = or_right (p w) _ (any_in xs ys x p is)
-          where
-            or_right : (a b : Bool) → b ≡ true → (a || b) ≡ true
-            or_right true b e = refl
-            or_right false b e = e
 
         by : CommitsFirst tid done ⊎ StaysOpen tid (deeds_of (step_work node event free)) → list_any (is_vote_of tid) done ≡ false
         by (inl c) = ap (list_any (is_vote_of tid)) c.is ∙ (list_any-append (is_vote_of tid) c.before (acts.Decide tid outcomes.Commit c.cause ∷ c.after)
@@ -144,11 +118,8 @@ module _ (n stamp free : ℕ) (node : NodeValue) (event : Event) (book : BookVal
         other : EntersDecide tid outcomes.Abort done ⊎ HasAborted book tid → ⊥
         other (inr has) = was outcomes.Abort has
         other (inl a) = let x : Decided n stamp book tid outcomes.Abort done = decided_so n stamp done book well tid outcomes.Abort lawful a in
-            let same : x.then_is.tx ≡ d.then_is.tx = one (sym x.then_is.found ∙ d.then_is.found) in clash (sym x.then_is.cell_is ∙ (ap (λ (tx : TransactionValue). tx.cell) same ∙ d.then_is.cell_is))
+            let same : x.then_is.tx ≡ d.then_is.tx = some_same (sym x.then_is.found ∙ d.then_is.found) in clash (sym x.then_is.cell_is ∙ (ap (λ (tx : TransactionValue). tx.cell) same ∙ d.then_is.cell_is))
           where
-            one : {x y : TransactionValue} → Some x ≡ Some y → x ≡ y
-            one e = cc e
-
             clash : cells.Abort ≡ cells.Commit → ⊥
             clash e = cc e
 

@@ -1,28 +1,14 @@
 -- What a log has committed with one more Commit is what a restart applies of it: the changes that are on record of each transaction whose Commit is new.
-use Rattle.std.proofs.Common.{◌≡◌, ℕ, ◌&&◌, ◌||◌, ◌++◌, not, Bool, true, false, List, [], ◌∷◌, append-nil, flat_map, map, Option, Some, None, fold, refl, sym, ap, subst, ◌∙◌, ◌==◌, if◌then◌else◌, is_some}
-use Rattle.std.proofs.lemmas.Grind.{flat_map-append}
-use Rattle.std.proofs.lemmas.List.Sums.{fold-append}
-use Rattle.std.specs.List.{filter, list_any}
-use Rattle.std.specs.Prelude.{slice_get}
-use Rattle.qs_base.specs.Order.{same_tid}
-use Rattle.qs_base.proofs.Same.{same_tid-self, same_tid-true}
-use Rattle.qs_base.specs.declared.identifiers.NodeNo.{NodeNo}
-use Rattle.qs_base.specs.declared.identifiers.ServerNo.{ServerNo}
-use Rattle.qs_base.specs.declared.identifiers.Tid.{Tid}
-use Rattle.qs_book_machine.specs.Book.{BookValue}
+use Rattle.qs_world_runs.proofs.Words.{◌≡◌, ℕ, ◌&&◌, ◌||◌, ◌++◌, not, Bool, true, false, List, [], ◌∷◌, append-nil, map, Option, Some, None, fold, refl, sym, ap, subst, ◌∙◌, ◌==◌, if◌then◌else◌, is_some, flat_map-append, fold-append, filter, list_any, slice_get, same_tid, same_tid-self, same_tid-true, NodeNo, ServerNo, Tid, BookValue, changes_of, record_of, commits_found, is_among, record_at, OnRecord, TableValue, applied, Op, Record, Prepared, Recovery, found_record, mark_committed}
+use Rattle.qs_world_runs.proofs.Words.{names_transaction, IsMadeBy, is_record_of}
+use Rattle.std.proofs.Common.{flat_map}
 use Rattle.qs_book_machine.specs.Nodes as machine
-use Rattle.qs_book_machine.specs.Nodes.{changes_of, record_of}
-use Rattle.qs_book_machine.specs.Restart.{add_commit, changes_at, commits_found, has_record, is_among, record_at}
-use Rattle.qs_book_machine.specs.declared.state.OnRecord.{OnRecord}
+use Rattle.qs_book_machine.specs.Restart.{add_commit, changes_at, has_record}
 use Rattle.qs_ops.specs.Servers.{audit_no, files_no}
-use Rattle.qs_ops.specs.Table.{TableValue, applied, apply_change, apply_note}
-use Rattle.qs_ops.specs.declared.operation.Op.{Op}
-use Rattle.qs_record.specs.declared.record.Record.{Record}
+use Rattle.qs_ops.specs.Table.{apply_change, apply_note}
 use Rattle.qs_record.specs.declared.record.Record.TheVariants as made
 use Rattle.qs_restart.specs.Recovery as logs
-use Rattle.qs_restart.specs.Recovery.{Prepared, Recovery, ended, found_commit, found_record, is_of, is_vote_of, mark_committed, names_transaction}
-use Rattle.qs_world_lawful.specs.Said.{IsMadeBy}
-use Rattle.qs_world_runs.specs.CutBatches.{is_record_of}
+use Rattle.qs_restart.specs.Recovery.{ended, found_commit, is_of, is_vote_of}
 
 -- ---- records of other transactions leave what a log has of one
 

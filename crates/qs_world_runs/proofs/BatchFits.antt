@@ -1,65 +1,29 @@
 -- Each record of a step fits what the machine had as it began, as far as its votes are of what was pending then: whatever else its log makes, it has a source that says so.
-use Rattle.std.proofs.Common.{◌≡◌, inl, inr, ℕ, ◌<◌, ◌≤◌, ◌+◌, ◌&&◌, ◌||◌, ◌++◌, append_assoc, arith, not, Bool, true, false, List, [], ◌∷◌, length, Option, Some, None, refl, sym, ap, subst, ◌∙◌}
-use Rattle.std.specs.List.{list_any}
-use Rattle.std.specs.Prelude.{is_some, slice_get}
-use Rattle.qs_base.proofs.Same.{same_tid-self, same_tid-true}
-use Rattle.qs_base.specs.Order.{same_tid}
-use Rattle.qs_base.specs.declared.identifiers.Member.{Member}
-use Rattle.qs_base.specs.declared.identifiers.NodeNo.{NodeNo}
+use Rattle.qs_world_runs.proofs.Words.{◌≡◌, inl, inr, ℕ, ◌<◌, ◌≤◌, ◌+◌, ◌&&◌, ◌||◌, ◌++◌, append_assoc, arith, not, Bool, true, false, List, [], ◌∷◌, length, Option, Some, None, refl, sym, ap, subst, ◌∙◌, list_any, is_some, slice_get, same_tid-self, same_tid-true, same_tid, Member, NodeNo, ServerNo, Tid, Act, BookValue, cell_of_transaction, find_transaction, is_among, TransactionValue, is_empty, OnRecord, changes_in, Op, Record, Prepared, Recovery, names_transaction, recovery, server_at}
+use Rattle.qs_world_runs.proofs.Words.{effects_of, end_record, Event, InLog, Participant, book_of, opened_from, Source, entries_of, Host, Opening, World, IsRecordSafe, HasCommitted, Every, IsApart, HoldsNodeAt, HoldsUp, opens_soundly, in_runs, lasts_first, lasts_ran, LastsWell, opened_numbered, opening_named, held_at, MakesStep, FitCut, is_record_of, IsSource, commits_of, one_if, EntersVote, IsVoteDue, Joined, book_in, AfterStep, StaysUnanimousThen, WholeSteps, some_same, le_le, or_right}
+use Rattle.qs_world_runs.proofs.Words.{not-true}
 use Rattle.qs_base.specs.declared.identifiers.Outcome.{Outcome}
 use Rattle.qs_base.specs.declared.identifiers.Outcome.TheVariants as outcomes
-use Rattle.qs_base.specs.declared.identifiers.ServerNo.{ServerNo}
-use Rattle.qs_base.specs.declared.identifiers.Tid.{Tid}
-use Rattle.qs_book_journal.specs.declared.entry.Act.{Act}
 use Rattle.qs_book_journal.specs.declared.entry.Act.TheVariants as acts
 use Rattle.qs_book_laws.specs.Served.{keeps_contents}
-use Rattle.qs_book_machine.specs.Book.{BookValue, cell_of_transaction, find_transaction, pending_in}
+use Rattle.qs_book_machine.specs.Book.{pending_in}
 use Rattle.qs_book_machine.specs.Lawful.{IsLawful}
 use Rattle.qs_book_machine.specs.Nodes as machine
-use Rattle.qs_book_machine.specs.Restart.{is_among, member_at}
-use Rattle.qs_book_machine.specs.Transaction.{TransactionValue, is_empty}
-use Rattle.qs_book_machine.specs.declared.state.OnRecord.{OnRecord}
+use Rattle.qs_book_machine.specs.Restart.{member_at}
 use Rattle.qs_book_machine.specs.declared.transaction.Cell.TheVariants as cells
-use Rattle.qs_ops.specs.Server.{changes_in}
-use Rattle.qs_ops.specs.declared.operation.Op.{Op}
 use Rattle.qs_ops.specs.declared.vote.Vote.TheVariants as votes
-use Rattle.qs_record.specs.declared.record.Record.{Record}
 use Rattle.qs_record.specs.declared.record.Record.TheVariants as made
-use Rattle.qs_restart.specs.Recovery.{Prepared, Recovery, is_of, names_transaction, recovery}
-use Rattle.qs_node_servers.specs.Servers.{server_at}
+use Rattle.qs_restart.specs.Recovery.{is_of}
 use Rattle.qs_node_step.specs.State.{NodeValue}
-use Rattle.qs_node_step.specs.Step.{effects_of}
-use Rattle.qs_node_step.specs.Telling.{end_record}
-use Rattle.qs_node_step.specs.declared.event.Event.{Event}
-use Rattle.qs_tm.specs.declared.participant.InLog.{InLog}
-use Rattle.qs_tm.specs.declared.participant.Participant.{Participant}
-use Rattle.qs_world.specs.Histories.{book_of, opened_from}
-use Rattle.qs_world.specs.Moves.{Source}
-use Rattle.qs_world.specs.Posting.{entries_of}
-use Rattle.qs_world.specs.World.{Host, Opening, World}
 use Rattle.qs_world_refine.proofs.SaysSeen.{said_seen}
 use Rattle.qs_world_refine.specs.SaidLaws.{AreSaid, IsSoundOver, no_flags}
-use Rattle.qs_world_lawful.specs.Logged.{IsRecordSafe, HasCommitted}
-use Rattle.qs_world_lawful.specs.Logs.{Every}
-use Rattle.qs_world_lawful.specs.Said.{IsApart}
 use Rattle.qs_world_lawful.specs.Saying.{ArePending}
 use Rattle.qs_world_lawful.specs.Holds.{Holds}
-use Rattle.qs_world_lawful.specs.Worlds.{HoldsNodeAt, HoldsUp}
-use Rattle.qs_world_lawful.proofs.CoherentOpenings.{opens_soundly}
 use Rattle.qs_world_lawful.proofs.FoundMembers.{and_both}
-use Rattle.qs_world_lawful.proofs.LastsAlways.{in_runs}
-use Rattle.qs_world_lawful.proofs.LastsOpening.{lasts_first, lasts_ran}
-use Rattle.qs_world_lawful.proofs.LastsWell.{LastsWell}
 use Rattle.qs_world_lawful.proofs.SaidHeld.{pending_of}
-use Rattle.qs_world_lawful.proofs.NumberedLogs.{opened_numbered, opening_named}
-use Rattle.qs_world_lawful.proofs.Still.{held_at}
-use Rattle.qs_world_runs.specs.Agrees.{MakesStep}
-use Rattle.qs_world_runs.specs.CutBatches.{FitCut, FitsCut, IsOwnVote, IsVoteOfStart, is_record_of}
-use Rattle.qs_world_runs.specs.CutRecords.{IsSource, IsTold, commits_of, is_commit_record, one_if}
-use Rattle.qs_world_runs.specs.CutVotes.{EntersVote, IsVoteDue}
+use Rattle.qs_world_runs.specs.CutBatches.{FitsCut, IsOwnVote, IsVoteOfStart}
+use Rattle.qs_world_runs.specs.CutRecords.{IsTold, is_commit_record}
 use Rattle.qs_world_runs.specs.Firsts.{is_vote_of}
-use Rattle.qs_world_runs.specs.Joined.{Joined, book_in}
-use Rattle.qs_world_runs.specs.JoinedLaws.{AfterStep, StaysUnanimousThen, WholeSteps}
 use Rattle.qs_world_runs.proofs.BatchBeyond.{beyond_now}
 use Rattle.qs_world_runs.proofs.BatchCommits.{Commits, commit_is}
 use Rattle.qs_world_runs.proofs.BatchSources.{aborted_fits, end_fits}
@@ -76,14 +40,10 @@ doubt_apart : (tid : Tid) (log : Recovery) → names_transaction tid ≡ true �
 doubt_apart tid log named [] apart some = absurd (cc some)
 doubt_apart tid log named (vote ∷ votes) apart some = by (is_of tid vote && not vote.committed) refl some (doubt_apart tid log named votes apart.1)
   where
-    off : (b : Bool) → not b ≡ true → b ≡ false
-    off false e = refl
-    off true e = absurd (cc e)
-
     by : (b : Bool) → (is_of tid vote && not vote.committed) ≡ b → (b || list_any (λ (vote : Prepared). is_of tid vote && not vote.committed) votes) ≡ true
         → (list_any (λ (vote : Prepared). is_of tid vote && not vote.committed) votes ≡ true → is_among log.committed tid ≡ false) → is_among log.committed tid ≡ false
     by true e i more = let p = and_both (is_of tid vote) (not vote.committed) e in let same : vote.tid ≡ tid = same_tid-true vote.tid tid p.0 in
-        subst (λ (t : Tid). is_among log.committed t ≡ false) same (apart.0 (ap names_transaction same ∙ named) (off vote.committed p.1))
+        subst (λ (t : Tid). is_among log.committed t ≡ false) same (apart.0 (ap names_transaction same ∙ named) (not-true vote.committed p.1))
     by false e i more = more i
 
 module _ (P : Opening → World → Type 0) (steps : WholeSteps P) (unanimous : AfterStep P StaysUnanimousThen) (o : Opening) (world : World) (n stamp free : ℕ) (source : Source) (event : Event) (j : Joined P o world) (makes : MakesStep world n stamp source event)
@@ -180,10 +140,7 @@ module _ (P : Opening → World → Type 0) (steps : WholeSteps P) (unanimous : 
       held = held_at n stamp book node at.node up.still (j.held.order n stamp (step_ordered P steps o world j n stamp free source event makes))
 
       same : held.state ≡ state
-      same = one (sym held.there ∙ (ap (λ (k : ℕ). slice_get book.nodes k) at.node ∙ there))
-        where
-          one : {x y : machine.NodeValue} → Some x ≡ Some y → x ≡ y
-          one e = cc e
+      same = some_same (sym held.there ∙ (ap (λ (k : ℕ). slice_get book.nodes k) at.node ∙ there))
 
   entered : (tid : Tid) (server : ServerNo) (covers : ℕ) (changes : List Op) → From (made.Prepare tid server covers changes) → EntersVote tid (member_at n server.0) votes.Recoverable covers done × (is_empty changes ≡ false)
   entered tid server covers changes (inl e) = (subst (λ (k : NodeNo). EntersVote tid (record { node = k; server = server }) votes.Recoverable covers done) me_is e.0, e.1)
@@ -202,10 +159,7 @@ module _ (P : Opening → World → Type 0) (steps : WholeSteps P) (unanimous : 
       clash e = cc e
 
   kept_so : (tid : Tid) (server : ℕ) (rec : OnRecord) → machine.record_of state tid server ≡ Some rec → IsRecordSafe book log (machine.voter tid server) rec.covers
-  kept_so tid server rec is = up.log.all.kept tid server rec (ap (λ (s : machine.NodeValue). machine.record_of s tid server) (one (sym up.log.there ∙ there)) ∙ is)
-    where
-      one : {x y : machine.NodeValue} → Some x ≡ Some y → x ≡ y
-      one e = cc e
+  kept_so tid server rec is = up.log.all.kept tid server rec (ap (λ (s : machine.NodeValue). machine.record_of s tid server) (some_same (sym up.log.there ∙ there)) ∙ is)
 
   vote_fits : (tid : Tid) (server : ServerNo) (covers : ℕ) (changes : List Op) → From (made.Prepare tid server covers changes) → IsVoteOfStart node book state log (made.Prepare tid server covers changes) → IsOwnVote n book state tid server covers changes
   vote_fits tid server covers changes from of = let e : EntersVote tid (member_at n server.0) votes.Recoverable covers done = (entered tid server covers changes from).0 in record {
@@ -229,10 +183,6 @@ module _ (P : Opening → World → Type 0) (steps : WholeSteps P) (unanimous : 
       in_middle : (xs : List Act) → list_any (is_vote_of tid) (xs ++ acts.Vote tid member votes.Recoverable covers ∷ e.after) ≡ true
       in_middle [] = rw (same_tid-self tid) refl
       in_middle (x ∷ xs) = or_right (is_vote_of tid x) _ (in_middle xs)
-        where
-          or_right : (a b : Bool) → b ≡ true → (a || b) ≡ true
-          or_right true b e = refl
-          or_right false b e = e
 
   none_of : (tid : Tid) → Commits n stamp free node event book well lawful (true_event P steps unanimous o world j n stamp free source event makes) log up.log.knows committed undoubted tid → (before : List Record) → Every From before → commits_of tid before ≡ 0 → list_any (is_record_of tid) before ≡ false
   none_of tid c [] all none = refl
@@ -283,12 +233,9 @@ module _ (P : Opening → World → Type 0) (steps : WholeSteps P) (unanimous : 
         named = c.named;
         fresh = c.fresh;
         first = none_of tid c before front (none (commits_of tid before) (commits_of tid rest) (one_if (same_tid tid tid)) (ap one_if (same_tid-self tid))
-            (subst (λ (k : ℕ). k ≤ 1) (ap (commits_of tid) so ∙ commits_both tid before (made.Commit tid told ∷ rest)) (less _ _ 1 ((steps_make_records node event free).once tid) c.once)));
+            (subst (λ (k : ℕ). k ≤ 1) (ap (commits_of tid) so ∙ commits_both tid before (made.Commit tid told ∷ rest)) (le_le _ _ 1 ((steps_make_records node event free).once tid) c.once)));
       }
         where
-          less : (a b k : ℕ) → a ≤ b → b ≤ k → a ≤ k
-          less a b k p q = grind (arith, p, q)
-
           none : (a b k : ℕ) → k ≡ 1 → a + (k + b) ≤ 1 → a ≡ 0
           none a b k p q = grind (arith, p, q)
       one (made.Aborted tid) so from pending = aborted_so tid from

@@ -1,25 +1,12 @@
 -- Which votes of a log are found: a Commit that marks them finds the same, and each is of a transaction that is named.
-use Rattle.std.proofs.Common.{◌≡◌, ◌⊎◌, inl, inr, ℕ, ◌==◌, ◌||◌, arith, Bool, true, false, List, [], ◌∷◌, map, Option, Some, None, refl, sym, ap, ◌∙◌, if◌then◌else◌, nat_le, nat_lt}
-use Rattle.std.proofs.lemmas.Bool.Decides.{nat_tests}
-use Rattle.qs_base.specs.declared.identifiers.Tid.{Tid}
-use Rattle.qs_book_machine.specs.Book.{cell_of_transaction}
-use Rattle.qs_book_machine.specs.Restart.{may_be_lost}
-use Rattle.qs_book_machine.specs.Transaction.{TransactionValue}
-use Rattle.qs_book_machine.specs.declared.state.Voter.{Voter}
-use Rattle.qs_book_machine.specs.declared.transaction.Cell.{Cell}
+use Rattle.qs_world_runs.proofs.Words.{◌≡◌, ◌⊎◌, inl, inr, ℕ, ◌||◌, arith, Bool, true, false, List, [], ◌∷◌, map, Option, Some, None, refl, sym, ap, ◌∙◌, if◌then◌else◌, nat_le, nat_lt, nat_tests, Tid, cell_of_transaction, may_be_lost, TransactionValue, Voter, Cell, Prepared, mark_committed, names_transaction, is_found_in, some_same}
 use Rattle.qs_book_machine.specs.declared.transaction.Cell.TheVariants as cells
-use Rattle.qs_restart.specs.Recovery.{Prepared, is_of, mark_committed, names_transaction}
+use Rattle.qs_restart.specs.Recovery.{is_of}
 use Rattle.qs_world_lawful.proofs.FoundMembers.{and_both}
-use Rattle.qs_world_lawful.proofs.LogRecords.{found_is, is_found, is_found_in}
+use Rattle.qs_world_lawful.proofs.LogRecords.{found_is, is_found}
 
 pub less_than : (a b : ℕ) → nat_lt a b ≡ true → nat_le a b ≡ true
 less_than a b e = grind (arith, nat_tests, e)
-
-pub no_is : (a b : ℕ) → (a == b) ≡ true → a ≡ b
-no_is a b e = grind (arith, nat_tests, e)
-
-pub no_turned : (a b : ℕ) → (a == b) ≡ false → (b == a) ≡ false
-no_turned a b e = grind (arith, nat_tests, e)
 
 -- a Commit marks votes, and finds the same
 pub marked_found : (at : Voter) (covers : ℕ) (tid : Tid) (votes : List Prepared) → is_found_in at covers (map (mark_committed tid) votes) ≡ is_found_in at covers votes
@@ -42,10 +29,7 @@ found_named at covers (vote ∷ votes) is = by (is_found at covers vote) refl is
 -- what is aborted may be lost; and each cell is that or is not
 pub lost_is : (here : ℕ) (tid : Tid) (o : Option TransactionValue) → cell_of_transaction o ≡ Some cells.Abort → may_be_lost here tid o ≡ true
 lost_is here tid None e = absurd (cc e)
-lost_is here tid (Some tx) e = let c : tx.cell ≡ cells.Abort = one e in rw c refl
-  where
-    one : {x y : Cell} → Some x ≡ Some y → x ≡ y
-    one p = cc p
+lost_is here tid (Some tx) e = let c : tx.cell ≡ cells.Abort = some_same e in rw c refl
 
 pub is_aborted_or : (o : Option TransactionValue) → (cell_of_transaction o ≡ Some cells.Abort) ⊎ (cell_of_transaction o ≡ Some cells.Abort → ⊥)
 is_aborted_or None = inr (λ e. cc e)

@@ -1,33 +1,15 @@
 -- What a log says goes on record by record of a batch: each vote was on record or applied, or is the batch's own; what is on record stays found, or is over; and what is committed is what a restart would commit.
-use Rattle.std.proofs.Common.{◌≡◌, ◌⊎◌, inl, inr, ℕ, ◌==◌, ◌&&◌, ◌||◌, ◌++◌, not, Bool, true, false, List, [], ◌∷◌, map, Some, fold, refl, sym, ap, subst, ◌∙◌, if◌then◌else◌, is_some, nat_lt}
-use Rattle.std.proofs.lemmas.List.Folds.{list_any-append}
-use Rattle.std.proofs.lemmas.List.Sums.{fold-append}
-use Rattle.std.specs.List.{filter, list_any}
-use Rattle.std.specs.Prelude.{slice_get}
-use Rattle.qs_base.specs.Order.{same_tid}
-use Rattle.qs_base.proofs.Same.{same_tid-self, same_tid-true}
-use Rattle.qs_base.specs.declared.identifiers.NodeNo.{NodeNo}
-use Rattle.qs_base.specs.declared.identifiers.ServerNo.{ServerNo}
-use Rattle.qs_base.specs.declared.identifiers.Tid.{Tid}
-use Rattle.qs_book_machine.specs.Book.{BookValue, crossed_in, find_transaction}
+use Rattle.qs_world_runs.proofs.Words.{◌≡◌, ◌⊎◌, inl, inr, ℕ, ◌==◌, ◌&&◌, ◌||◌, ◌++◌, not, Bool, true, false, List, [], ◌∷◌, map, Some, fold, refl, sym, ap, subst, ◌∙◌, if◌then◌else◌, is_some, nat_lt, list_any-append, fold-append, filter, list_any, slice_get, same_tid, same_tid-self, same_tid-true, NodeNo, ServerNo, Tid, BookValue, crossed_in, find_transaction, record_of, voter, is_among, may_be_lost, OnRecord, Voter, Op, Record, Prepared, Recovery, found_record, mark_committed}
+use Rattle.qs_world_runs.proofs.Words.{names_transaction, HasAborted, StandsIn, Every, IsVoteLogged, IsAsRecorded, every_on, every_append, every_filter, every_map, is_found_in, FitCut, is_record_of, eqb-true, apart_turned}
 use Rattle.qs_book_machine.specs.Nodes as machine
-use Rattle.qs_book_machine.specs.Nodes.{record_of, voter}
-use Rattle.qs_book_machine.specs.Restart.{is_among, may_be_lost, member_at}
-use Rattle.qs_book_machine.specs.declared.state.OnRecord.{OnRecord}
-use Rattle.qs_book_machine.specs.declared.state.Voter.{Voter}
-use Rattle.qs_ops.specs.declared.operation.Op.{Op}
-use Rattle.qs_record.specs.declared.record.Record.{Record}
+use Rattle.qs_book_machine.specs.Restart.{member_at}
 use Rattle.qs_record.specs.declared.record.Record.TheVariants as made
 use Rattle.qs_restart.specs.Recovery as logs
-use Rattle.qs_restart.specs.Recovery.{Prepared, Recovery, found_record, is_of, is_vote_of, mark_committed, names_transaction}
-use Rattle.qs_world_lawful.specs.Logged.{HasAborted, StandsIn}
-use Rattle.qs_world_lawful.specs.Logs.{Every, IsVoteLogged}
-use Rattle.qs_world_lawful.specs.Said.{IsAsRecorded}
-use Rattle.qs_world_lawful.proofs.LogFrames.{every_on}
-use Rattle.qs_world_lawful.proofs.LogRecords.{among_last, among_more, any_append, any_filter, every_append, every_filter, every_map, found_is, is_found, is_found_in}
-use Rattle.qs_world_runs.specs.CutBatches.{FitCut, FitsCut, IsOwnCommit, IsOwnVote, is_record_of}
+use Rattle.qs_restart.specs.Recovery.{is_of, is_vote_of}
+use Rattle.qs_world_lawful.proofs.LogRecords.{among_last, among_more, any_append, any_filter, found_is, is_found}
+use Rattle.qs_world_runs.specs.CutBatches.{FitsCut, IsOwnCommit, IsOwnVote}
 use Rattle.qs_world_runs.proofs.BatchContents.{Applies, SaysRecord, all_among_left, all_changes_left, commit_applies, ended_applies}
-use Rattle.qs_world_runs.proofs.BatchFound.{found_named, is_aborted_or, less_than, lost_is, marked_found, no_is, no_turned}
+use Rattle.qs_world_runs.proofs.BatchFound.{found_named, is_aborted_or, less_than, lost_is, marked_found}
 use Rattle.qs_world_runs.proofs.BatchVotes.{among_all}
 
 module _ (here : ℕ) (book : BookValue) (state : machine.NodeValue) (there : slice_get book.nodes here ≡ Some state) (first : Recovery) where
@@ -113,7 +95,7 @@ module _ (here : ℕ) (book : BookValue) (state : machine.NodeValue) (there : sl
               one = same_tid-true tid t near
 
               beyond : nat_lt r.covers covers ≡ true
-              beyond = own.of.beyond.more (subst (λ (x : Tid). HasAborted book x → ⊥) (sym one) stands) r (ap (λ (x : Tid). record_of state x server.0) one ∙ (ap (λ (k : ℕ). record_of state t k) (no_is server.0 s same) ∙ is))
+              beyond = own.of.beyond.more (subst (λ (x : Tid). HasAborted book x → ⊥) (sym one) stands) r (ap (λ (x : Tid). record_of state x server.0) one ∙ (ap (λ (k : ℕ). record_of state t k) (eqb-true server.0 s same) ∙ is))
 
               found_own : is_found at r.covers vote ≡ true
               found_own = rw (ap names_transaction one ∙ found_named at r.covers said.prepared found, near, same) (less_than r.covers covers beyond)
@@ -124,7 +106,7 @@ module _ (here : ℕ) (book : BookValue) (state : machine.NodeValue) (there : sl
               and_off false b e = refl
 
               passes : (v : Prepared) → (v.server.0 == s) ≡ true → others v ≡ true
-              passes v i = and_off (same_tid v.tid tid) (v.server.0 == server.0) (ap (λ (k : ℕ). k == server.0) (no_is v.server.0 s i) ∙ no_turned server.0 s far)
+              passes v i = and_off (same_tid v.tid tid) (v.server.0 == server.0) (ap (λ (k : ℕ). k == server.0) (eqb-true v.server.0 s i) ∙ apart_turned server.0 s far)
           here_found stands found false b far _ = any_append (is_found at r.covers) (filter others said.prepared) (vote ∷ []) (inl (any_filter (is_found at r.covers) others (λ v i. passes v (found_is at r.covers v i).0) said.prepared found))
             where
               apart : (b : Bool) → same_tid t tid ≡ b → same_tid t tid ≡ false

@@ -1,48 +1,20 @@
 -- Where each record of a batch fits what the machine had before its step, the machine has after the crash what the log says with the batch.
-use Rattle.std.proofs.Common.{◌≡◌, ◌⊎◌, inl, inr, ℕ, ◌<◌, ◌==◌, ◌&&◌, ◌||◌, ◌++◌, not, Bool, true, false, List, [], flat_map, Option, Some, None, fold, refl, sym, ap, subst, ◌∙◌, arith, if◌then◌else◌, is_some, nat_lt}
-use Rattle.std.proofs.lemmas.Bool.Decides.{nat_tests}
-use Rattle.std.proofs.lemmas.List.Sums.{fold-append}
-use Rattle.std.specs.BTreeMap.{is_at}
-use Rattle.std.specs.Map.{lookup}
-use Rattle.std.specs.Prelude.{slice_get}
-use Rattle.qs_base.specs.declared.identifiers.Tid.{Tid}
+use Rattle.qs_world_runs.proofs.Words.{◌≡◌, ◌⊎◌, inl, inr, ℕ, ◌==◌, ◌&&◌, ◌||◌, ◌++◌, not, Bool, true, false, List, [], Option, Some, None, fold, refl, sym, ap, subst, ◌∙◌, if◌then◌else◌, is_some, fold-append, is_at, lookup, slice_get, Tid, CrashCause, Found, voter_exact, changed_at_here, BookValue, cell_of_transaction, crossed_in, find_transaction, effect, pending_at, record_of, voter, voter_cmp, commits_found, is_among, record_at, TransactionValue, is_commit, is_crossed, is_empty, has_vote}
+use Rattle.qs_world_runs.proofs.Words.{OnRecord, Voter, Cell, applied, Op, Record, Prepared, Recovery, found_record, names_transaction, nothing_said, recovery, stopped_host, entry_of, Host, Lasts, HasCommitted, HoldsLogged, StandsIn, Every, IsCommitLogged, IsVoteLogged, found_votes, HoldsDown, HoldsSaid, IsApart, IsMadeBy, every_among, every_two, every_on, of_votes, FitCut, KeptVotes, lt-ltb, and_right}
+use Rattle.std.proofs.Common.{flat_map}
 use Rattle.qs_book_journal.specs.declared.entry.Act.TheVariants as acts
-use Rattle.qs_book_journal.specs.declared.entry.CrashCause.{CrashCause}
-use Rattle.qs_book_journal.specs.declared.entry.Found.{Found}
-use Rattle.qs_book_laws.proofs.Alikes.{voter_exact}
-use Rattle.qs_book_laws.proofs.Maps.{changed_at_here}
-use Rattle.qs_book_machine.specs.Book.{BookValue, cell_of_transaction, crash_node, crossed_in, find_transaction}
-use Rattle.qs_book_machine.specs.Lawful.{effect}
+use Rattle.qs_book_machine.specs.Book.{crash_node}
 use Rattle.qs_book_machine.specs.Nodes as machine
-use Rattle.qs_book_machine.specs.Nodes.{pending_at, record_of, voter, voter_cmp}
-use Rattle.qs_book_machine.specs.Restart.{changes_at, commits_found, could_vote, is_among, is_new_vote, is_on_record, member_at, record_at, vote_as_stopped, voter_of}
-use Rattle.qs_book_machine.specs.Transaction.{TransactionValue, is_before, is_commit, is_crossed, is_empty, was_committed, was_in_commit}
-use Rattle.qs_book_machine.specs.Clauses.{has_vote}
-use Rattle.qs_book_machine.specs.declared.state.OnRecord.{OnRecord}
-use Rattle.qs_book_machine.specs.declared.state.Voter.{Voter}
-use Rattle.qs_book_machine.specs.declared.transaction.Cell.{Cell}
+use Rattle.qs_book_machine.specs.Restart.{changes_at, could_vote, is_new_vote, is_on_record, member_at, vote_as_stopped, voter_of}
+use Rattle.qs_book_machine.specs.Transaction.{is_before, was_committed, was_in_commit}
 use Rattle.qs_book_machine.specs.declared.transaction.Cell.TheVariants as cells
 use Rattle.qs_ops.specs.Servers.{audit_no, files_no}
-use Rattle.qs_ops.specs.Table.{applied}
-use Rattle.qs_ops.specs.declared.operation.Op.{Op}
 use Rattle.qs_ops.specs.declared.vote.Vote.TheVariants as votes
-use Rattle.qs_record.specs.declared.record.Record.{Record}
-use Rattle.qs_restart.specs.Recovery.{Prepared, Recovery, found_record, names_transaction, nothing_said, recovery}
-use Rattle.qs_world.specs.Moves.{stopped_host}
-use Rattle.qs_world.specs.Posting.{entry_of}
-use Rattle.qs_world.specs.World.{Host}
-use Rattle.qs_world_lawful.specs.Lasting.{Lasts}
-use Rattle.qs_world_lawful.specs.Logged.{HasCommitted, HoldsLogged, IsCommitMade, StandsIn}
-use Rattle.qs_world_lawful.specs.Logs.{Every, HoldsStopped, IsCommitLogged, IsCutVote, IsRecordKept, IsVoteLogged, found_of, found_votes}
-use Rattle.qs_world_lawful.specs.Worlds.{HoldsDown}
-use Rattle.qs_world_lawful.specs.Said.{HoldsLeft, HoldsSaid, IsApart, IsMadeBy, IsRecorded, IsToBeRecorded, book_found}
-use Rattle.qs_world_lawful.proofs.FoundMembers.{every_among, every_two}
+use Rattle.qs_world_lawful.specs.Logged.{IsCommitMade}
+use Rattle.qs_world_lawful.specs.Logs.{HoldsStopped, IsCutVote, IsRecordKept, found_of}
+use Rattle.qs_world_lawful.specs.Said.{HoldsLeft, IsRecorded, IsToBeRecorded, book_found}
 use Rattle.qs_world_lawful.proofs.FoundOnce.{found_once}
-use Rattle.qs_world_lawful.proofs.LogFrames.{every_on}
-use Rattle.qs_world_lawful.proofs.LogRecords.{of_votes}
 use Rattle.qs_world_lawful.proofs.RestoredRecords.{all_of_found, found_of_all}
-use Rattle.qs_world_runs.specs.CutBatches.{FitCut}
-use Rattle.qs_world_runs.specs.CutCommits.{KeptVotes}
 use Rattle.qs_world_runs.specs.CutVotes.{IsMarkedBefore}
 use Rattle.qs_world_runs.proofs.BatchGoes.{Goes, IsEither, IsKeptIn, NewVote, OldVote}
 use Rattle.qs_world_runs.proofs.BatchVotes.{among_all}
@@ -50,10 +22,6 @@ use Rattle.qs_world_runs.proofs.BatchWhole.{goes}
 use Rattle.qs_world_runs.proofs.CommitsApplied.{IsSame, every_self, same_applied}
 use Rattle.qs_world_runs.proofs.CutCould.{due_votes_cut}
 use Rattle.qs_world_runs.proofs.FoundRecords.{LeavesAt, each_on_record, found_then, is_new, others_then, record_then}
-
-and_false : (a b : Bool) → b ≡ false → (a && b) ≡ false
-and_false true b e = e
-and_false false b e = refl
 
 between : (a b c : Bool) → b ≡ false → (a && (b && c)) ≡ false
 between true true c e = absurd (cc e)
@@ -110,19 +78,16 @@ module _ (n : ℕ) (book : BookValue) (state : machine.NodeValue) (there : slice
 
           before : (o : Option ℕ) → done.tx.decided ≡ o → (is_commit done.tx.cell && (not (is_some o) || is_before book.place o)) ≡ true
           before None e = rw cell refl
-          before (Some p) e = rw cell (low p book.place (lasts.past v.tid done.tx p done.found e))
-            where
-              low : (a b : ℕ) → a < b → nat_lt a b ≡ true
-              low a b e = grind (arith, nat_tests, e)
+          before (Some p) e = rw cell (lt-ltb p book.place (lasts.past v.tid done.tx p done.found e))
 
           past : was_committed book.place done.tx ≡ true
           past = before done.tx.decided refl
 
           in_commit : was_in_commit book.place done.tx ≡ false
-          in_commit = and_false (is_before book.place done.tx.asked) (not (was_committed book.place done.tx)) (ap not past)
+          in_commit = and_right (is_before book.place done.tx.asked) (not (was_committed book.place done.tx)) (ap not past)
 
           clear : (not (is_on_record state_now (found_of v)) && could_vote n state_now done.tx (found_of v)) ≡ false
-          clear = and_false (not (is_on_record state_now (found_of v))) (could_vote n state_now done.tx (found_of v)) (between (has_vote v.server.0 votes.Recoverable) (was_in_commit book.place done.tx) _ in_commit)
+          clear = and_right (not (is_on_record state_now (found_of v))) (could_vote n state_now done.tx (found_of v)) (between (has_vote v.server.0 votes.Recoverable) (was_in_commit book.place done.tx) _ in_commit)
 
   -- and the batch's own votes are
   module _ (v : Prepared) (new : NewVote n book state there first v) where

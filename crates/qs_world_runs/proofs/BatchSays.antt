@@ -1,34 +1,15 @@
 -- What a log has of a transaction that is not aborted, not crossed at its node, and has no Commit there, is what is on record of it.
-use Rattle.std.proofs.Common.{◌≡◌, inl, inr, ℕ, ◌==◌, ◌&&◌, ◌||◌, ◌++◌, not, Bool, true, false, List, [], ◌∷◌, append-nil, map, flat_map, Option, Some, None, refl, sym, ap, ◌∙◌, arith}
-use Rattle.std.proofs.lemmas.Bool.Decides.{nat_tests}
-use Rattle.std.specs.List.{filter, list_any}
-use Rattle.qs_base.specs.Order.{same_tid}
-use Rattle.qs_base.specs.declared.identifiers.ServerNo.{ServerNo}
-use Rattle.qs_base.specs.declared.identifiers.Tid.{Tid}
-use Rattle.qs_base.proofs.Same.{same_tid-self, same_tid-true}
-use Rattle.qs_book_machine.specs.Book.{BookValue, crossed_in, find_transaction}
+use Rattle.qs_world_runs.proofs.Words.{◌≡◌, inl, inr, ℕ, ◌==◌, ◌&&◌, ◌||◌, ◌++◌, not, Bool, true, false, List, [], ◌∷◌, append-nil, map, Option, Some, None, refl, sym, ap, ◌∙◌, filter, list_any, same_tid, ServerNo, Tid, same_tid-self, same_tid-true, BookValue, crossed_in, find_transaction, changes_of, record_of, voter, is_among, OnRecord, Op, Prepared, Recovery, HasAborted, HoldsLogged, IsMarked, IsRecordSafe, Every, IsVoteLogged, HoldsSaid, IsAsRecorded, every_two, to_votes, eqb-self}
+use Rattle.qs_world_runs.proofs.Words.{not-true, eqb-true}
+use Rattle.std.proofs.Common.{flat_map}
 use Rattle.qs_book_machine.specs.Nodes as machine
-use Rattle.qs_book_machine.specs.Nodes.{changes_of, record_of, voter}
-use Rattle.qs_book_machine.specs.Restart.{is_among, is_on_record, is_same_vote, member_at, votes_once}
-use Rattle.qs_book_machine.specs.declared.state.OnRecord.{OnRecord}
-use Rattle.qs_ops.specs.declared.operation.Op.{Op}
-use Rattle.qs_restart.specs.Recovery.{Prepared, Recovery, changes_at, is_vote_of}
-use Rattle.qs_world_lawful.specs.Logged.{HasAborted, HoldsLogged, IsMarked, IsRecordSafe}
-use Rattle.qs_world_lawful.specs.Logs.{Every, IsVoteLogged, found_of}
-use Rattle.qs_world_lawful.specs.Said.{HoldsSaid, IsAsRecorded}
-use Rattle.qs_world_lawful.proofs.FoundMembers.{and_both, every_two}
+use Rattle.qs_book_machine.specs.Restart.{is_on_record, is_same_vote, member_at, votes_once}
+use Rattle.qs_restart.specs.Recovery.{changes_at, is_vote_of}
+use Rattle.qs_world_lawful.specs.Logs.{found_of}
+use Rattle.qs_world_lawful.proofs.FoundMembers.{and_both}
 use Rattle.qs_world_lawful.proofs.FoundOnce.{same_vote_sym}
-use Rattle.qs_world_lawful.proofs.LogRecords.{found_is, is_found, to_votes}
-
-off : (b : Bool) → not b ≡ true → b ≡ false
-off false e = refl
-off true e = absurd (cc e)
-
-no_is : (a b : ℕ) → (a == b) ≡ true → a ≡ b
-no_is a b e = grind (arith, nat_tests, e)
-
-no_same : (a : ℕ) → (a == a) ≡ true
-no_same a = grind (arith, nat_tests)
+use Rattle.qs_world_lawful.proofs.LogRecords.{found_is, is_found}
+use Rattle.qs_base_lemmas.proofs.Tests.{or_last}
 
 module _ (tid : Tid) (server : ServerNo) where
   abbrev test : Prepared → Bool
@@ -46,25 +27,21 @@ module _ (tid : Tid) (server : ServerNo) where
       by false is more = rw is (more (rw is at none))
 
   test_is : (v : Prepared) → test v ≡ true → (v.tid ≡ tid) × (v.server.0 ≡ server.0)
-  test_is v is = let p = and_both (same_tid v.tid tid) (v.server.0 == server.0) is in (same_tid-true v.tid tid p.0, no_is v.server.0 server.0 p.1)
+  test_is v is = let p = and_both (same_tid v.tid tid) (v.server.0 == server.0) is in (same_tid-true v.tid tid p.0, eqb-true v.server.0 server.0 p.1)
 
   both_same : (x y : Prepared) → test x ≡ true → test y ≡ true → is_same_vote (found_of x) (found_of y) ≡ true
   both_same x y p q =
       same_vote_sym x y ∙ (ap (λ (t : Tid). same_tid x.tid t && (x.server.0 == y.server.0)) ((test_is y q).0 ∙ sym (test_is x p).0)
-      ∙ (ap (λ (b : Bool). b && (x.server.0 == y.server.0)) (same_tid-self x.tid) ∙ (ap (λ (n : ℕ). x.server.0 == n) ((test_is y q).1 ∙ sym (test_is x p).1) ∙ no_same x.server.0)))
+      ∙ (ap (λ (b : Bool). b && (x.server.0 == y.server.0)) (same_tid-self x.tid) ∙ (ap (λ (n : ℕ). x.server.0 == n) ((test_is y q).1 ∙ sym (test_is x p).1) ∙ eqb-self x.server.0)))
 
   -- it is the only one
   alone : (x : Prepared) → test x ≡ true → (xs : List Prepared) → list_any (is_same_vote (found_of x)) (map found_of xs) ≡ false → list_any test xs ≡ false
   alone x is [] none = refl
   alone x is (y ∷ ys) none = by (test y) refl (alone x is ys)
     where
-      rest : (a b : Bool) → (a || b) ≡ false → b ≡ false
-      rest true b e = absurd (cc e)
-      rest false b e = e
-
       by : (b : Bool) → test y ≡ b → (list_any (is_same_vote (found_of x)) (map found_of ys) ≡ false → list_any test ys ≡ false) → list_any test (y ∷ ys) ≡ false
       by true same more = absurd (cc (rw (both_same x y is same) at none))
-      by false far more = rw far (more (rest (is_same_vote (found_of x) (found_of y)) (list_any (is_same_vote (found_of x)) (map found_of ys)) none))
+      by false far more = rw far (more (or_last (is_same_vote (found_of x) (found_of y)) (list_any (is_same_vote (found_of x)) (map found_of ys)) none))
 
   one_of : (c : List Op) (votes : List Prepared) → votes_once (map found_of votes) ≡ true → list_any test votes ≡ true → Every (λ (v : Prepared). test v ≡ true → v.changes ≡ c) votes → of votes ≡ c
   one_of c [] once any all = absurd (cc any)
@@ -74,7 +51,7 @@ module _ (tid : Tid) (server : ServerNo) where
       apart = and_both _ (votes_once (map found_of votes)) once
 
       by : (b : Bool) → test v ≡ b → (votes_once (map found_of votes) ≡ true → list_any test votes ≡ true → Every (λ (v : Prepared). test v ≡ true → v.changes ≡ c) votes → of votes ≡ c) → of (v ∷ votes) ≡ c
-      by true is more = rw is (ap (λ (ops : List Op). v.changes ++ ops) (none_of votes (alone v is votes (off _ apart.0))) ∙ (append-nil v.changes ∙ all.0 is))
+      by true is more = rw is (ap (λ (ops : List Op). v.changes ++ ops) (none_of votes (alone v is votes (not-true _ apart.0))) ∙ (append-nil v.changes ∙ all.0 is))
       by false is more = rw is (more apart.1 (rw is at any) all.1)
 
 any_more : (one two : Prepared → Bool) → ((v : Prepared) → one v ≡ true → two v ≡ true) → (votes : List Prepared) → list_any one votes ≡ true → list_any two votes ≡ true

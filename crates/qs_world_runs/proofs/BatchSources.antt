@@ -1,27 +1,14 @@
 -- What the sources of a step's records say of what the machine had before: what is aborted was so or could be, and what is ended was committed.
-use Rattle.std.proofs.Common.{◌≡◌, ◌⊎◌, inl, inr, ℕ, ◌==◌, arith, true, false, List, [], Option, Some, None, refl, sym, ap, subst, ◌∙◌, is_some}
-use Rattle.std.proofs.lemmas.Bool.Decides.{nat_tests}
+use Rattle.qs_world_runs.proofs.Words.{◌≡◌, ◌⊎◌, inl, inr, ℕ, true, false, List, [], Option, Some, None, refl, sym, ap, subst, ◌∙◌, is_some, Tid, Act, BookValue, cell_of_transaction, find_transaction, is_among, may_be_lost, TransactionValue, cell_of, Cell, Record, Recovery, effects_of, end_record, Event, entries_of, HasAborted, HasCommitted, HasOutcome, IsTrueEvent, LastsWell, EntersDecide, IsSource, some_same, eq-eqb}
 use Rattle.qs_base.specs.declared.identifiers.Outcome.{Outcome}
 use Rattle.qs_base.specs.declared.identifiers.Outcome.TheVariants as outcomes
-use Rattle.qs_base.specs.declared.identifiers.Tid.{Tid}
-use Rattle.qs_book_journal.specs.declared.entry.Act.{Act}
-use Rattle.qs_book_machine.specs.Book.{BookValue, cell_of_transaction, find_transaction}
 use Rattle.qs_book_machine.specs.Lawful.{IsLawful}
-use Rattle.qs_book_machine.specs.Restart.{is_among, may_be_lost}
-use Rattle.qs_book_machine.specs.Transaction.{TransactionValue, cell_of, is_open}
-use Rattle.qs_book_machine.specs.declared.transaction.Cell.{Cell}
+use Rattle.qs_book_machine.specs.Transaction.{is_open}
 use Rattle.qs_book_machine.specs.declared.transaction.Cell.TheVariants as cells
-use Rattle.qs_record.specs.declared.record.Record.{Record}
 use Rattle.qs_record.specs.declared.record.Record.TheVariants as made
-use Rattle.qs_restart.specs.Recovery.{Recovery}
 use Rattle.qs_node_step.specs.State.{NodeValue}
-use Rattle.qs_node_step.specs.Step.{effects_of}
-use Rattle.qs_node_step.specs.Telling.{end_record}
-use Rattle.qs_node_step.specs.declared.event.Event.{Event}
-use Rattle.qs_world.specs.Posting.{entries_of}
-use Rattle.qs_world_lawful.specs.Logged.{HasAborted, HasCommitted, HasOutcome, IsTrueEvent, KnowsLog}
-use Rattle.qs_world_lawful.proofs.LastsWell.{LastsWell}
-use Rattle.qs_world_runs.specs.CutRecords.{EntersDecide, IsSource, IsTold}
+use Rattle.qs_world_lawful.specs.Logged.{KnowsLog}
+use Rattle.qs_world_runs.specs.CutRecords.{IsTold}
 use Rattle.qs_world_runs.proofs.DecidedOnce.{Decided, IsShut, decided_so}
 
 module _ (n stamp free : ℕ) (node : NodeValue) (event : Event) (book : BookValue) (well : LastsWell book) (lawful : IsLawful book (entries_of n stamp (effects_of node event free).entries)) (true_event : IsTrueEvent book event)
@@ -46,10 +33,7 @@ module _ (n stamp free : ℕ) (node : NodeValue) (event : Event) (book : BookVal
 
       by : (o : Option TransactionValue) → find_transaction book tid ≡ o → IsShut n stamp book tid (cell_of outcome)
       by None none = absurd (cc (sym (ap cell_of_transaction none) ∙ has))
-      by (Some tx) found = record { tx = tx; found = found; cell_is = one (sym (ap cell_of_transaction found) ∙ has); shut = off outcome }
-        where
-          one : {x y : Cell} → Some x ≡ Some y → x ≡ y
-          one e = cc e
+      by (Some tx) found = record { tx = tx; found = found; cell_is = some_same (sym (ap cell_of_transaction found) ∙ has); shut = off outcome }
 
   pub told_has : (rec : Record) (t : IsTold node event rec) → HasOutcome book t.tid t.outcome
   told_has rec t = subst (IsTrueEvent book) t.comes true_event
@@ -59,12 +43,9 @@ module _ (n stamp free : ℕ) (node : NodeValue) (event : Event) (book : BookVal
   aborted_lost : (tid : Tid) → HasAborted book tid → may_be_lost n tid (find_transaction book tid) ≡ true
   aborted_lost tid has = by (find_transaction book tid) has
     where
-      one : {x y : Cell} → Some x ≡ Some y → x ≡ y
-      one e = cc e
-
       by : (o : Option TransactionValue) → cell_of_transaction o ≡ Some cells.Abort → may_be_lost n tid o ≡ true
       by None e = absurd (cc e)
-      by (Some tx) e = let c : tx.cell ≡ cells.Abort = one e in rw c refl
+      by (Some tx) e = let c : tx.cell ≡ cells.Abort = some_same e in rw c refl
 
   -- it was so as the step began, or is decided in it
   pub aborted_either : (tid : Tid) → Source (made.Aborted tid) → EntersDecide tid outcomes.Abort done ⊎ HasAborted book tid
@@ -92,9 +73,6 @@ module _ (n stamp free : ℕ) (node : NodeValue) (event : Event) (book : BookVal
   pub aborted_fits : (tid : Tid) → Source (made.Aborted tid) → is_some (find_transaction book tid) ≡ true → may_be_lost n tid (find_transaction book tid) ≡ true
   aborted_fits tid source some = by (aborted_either tid source)
     where
-      equal : (a b : ℕ) → a ≡ b → (a == b) ≡ true
-      equal a b e = grind (arith, nat_tests, e)
-
       by : EntersDecide tid outcomes.Abort done ⊎ HasAborted book tid → may_be_lost n tid (find_transaction book tid) ≡ true
       by (inr has) = aborted_lost tid has
       by (inl e) = of (find_transaction book tid) refl some
@@ -107,7 +85,7 @@ module _ (n stamp free : ℕ) (node : NodeValue) (event : Event) (book : BookVal
           of (Some tx) found is = cell tx.cell refl
             where
               cell : (c : Cell) → tx.cell ≡ c → may_be_lost n tid (Some tx) ≡ true
-              cell cells.Open c = rw (c, equal tid.home.0 n d.home) refl
+              cell cells.Open c = rw (c, eq-eqb tid.home.0 n d.home) refl
               cell cells.Abort c = rw c refl
               cell cells.Commit c = absurd (d.was_open cells.Commit (record { tx = tx; found = found; cell_is = c; shut = refl }))
 

@@ -1,17 +1,9 @@
 -- What a batch leaves of the votes of a log: those that stood, with or without a Commit behind them now, and those of its own Prepares.
-use Rattle.std.proofs.Common.{◌≡◌, ◌⊎◌, inl, inr, ◌||◌, ◌++◌, Bool, true, false, not, List, [], ◌∷◌, fold, refl, sym, subst, ◌∙◌, if◌then◌else◌}
-use Rattle.std.proofs.lemmas.List.Folds.{list_any-append}
-use Rattle.std.proofs.lemmas.List.Sums.{fold-append}
-use Rattle.qs_base.specs.Order.{same_tid}
-use Rattle.qs_base.specs.declared.identifiers.Tid.{Tid}
-use Rattle.qs_book_machine.specs.Restart.{is_among}
-use Rattle.qs_record.specs.declared.record.Record.{Record}
+use Rattle.qs_world_runs.proofs.Words.{◌≡◌, ◌⊎◌, inl, inr, ◌++◌, Bool, true, false, not, List, [], ◌∷◌, fold, sym, subst, ◌∙◌, if◌then◌else◌, list_any-append, fold-append, same_tid, Tid, is_among, Record, Prepared, Recovery, found_record, mark_committed, names_transaction, nothing_said, recovery, Every, IsVoteLogged, every_on, every_append, every_filter, every_map, IsOfPrepare, or_left}
 use Rattle.qs_record.specs.declared.record.Record.TheVariants as made
-use Rattle.qs_restart.specs.Recovery.{Prepared, Recovery, found_record, is_of, is_vote_of, mark_committed, names_transaction, nothing_said, recovery}
-use Rattle.qs_world_lawful.specs.Logs.{Every, IsCutVote, IsVoteLogged}
-use Rattle.qs_world_lawful.proofs.LogFrames.{every_on}
-use Rattle.qs_world_lawful.proofs.LogRecords.{every_append, every_filter, every_map}
-use Rattle.qs_world_runs.specs.CutVotes.{BatchLeavesVotes, IsOfPrepare}
+use Rattle.qs_restart.specs.Recovery.{is_of, is_vote_of}
+use Rattle.qs_world_lawful.specs.Logs.{IsCutVote}
+use Rattle.qs_world_runs.specs.CutVotes.{BatchLeavesVotes}
 
 module _ (P : Prepared → Type 0) (unmarked : (tid : Tid) (vote : Prepared) → P vote → P (mark_committed tid vote)) where
   one_record : (said : Recovery) (rec : Record) → IsOfPrepare P rec → Every P said.prepared → Every P (found_record said rec).prepared
@@ -25,14 +17,10 @@ module _ (P : Prepared → Type 0) (unmarked : (tid : Tid) (vote : Prepared) →
   each_record [] said own all = all
   each_record (rec ∷ records) said own all = each_record records (found_record said rec) own.1 (one_record said rec own.0 all)
 
--- what is committed stays among the Commits
-or_right : (a b : Bool) → a ≡ true → (a || b) ≡ true
-or_right a b is = rw is refl
-
 pub among_one : (tid : Tid) (said : Recovery) (rec : Record) → is_among said.committed tid ≡ true → is_among (found_record said rec).committed tid ≡ true
 among_one tid said (made.Prepare t server covers changes) is = is
-among_one tid said (made.Commit t []) is = list_any-append (same_tid tid) said.committed (if names_transaction t then t ∷ [] else []) ∙ or_right _ _ is
-among_one tid said (made.Commit t (node ∷ told)) is = list_any-append (same_tid tid) said.committed (if names_transaction t then t ∷ [] else []) ∙ or_right _ _ is
+among_one tid said (made.Commit t []) is = list_any-append (same_tid tid) said.committed (if names_transaction t then t ∷ [] else []) ∙ or_left _ _ is
+among_one tid said (made.Commit t (node ∷ told)) is = list_any-append (same_tid tid) said.committed (if names_transaction t then t ∷ [] else []) ∙ or_left _ _ is
 among_one tid said (made.Aborted t) is = is
 among_one tid said (made.End t) is = is
 

@@ -1,33 +1,12 @@
 -- Where each record of a batch fits what the machine had before its step, its log goes on record by record to what it says with the batch.
-use Rattle.std.proofs.Common.{◌≡◌, inl, inr, ℕ, ◌==◌, ◌&&◌, ◌++◌, true, false, List, [], ◌∷◌, Option, Some, None, fold, refl, sym, ap, subst, ◌∙◌, is_some}
-use Rattle.std.proofs.lemmas.List.Sums.{fold-append}
-use Rattle.std.specs.BTreeMap.{is_at}
-use Rattle.std.specs.List.{list_all}
-use Rattle.std.specs.Map.{lookup}
-use Rattle.std.specs.Prelude.{slice_get}
-use Rattle.qs_base.specs.Order.{member_cmp}
-use Rattle.qs_base.specs.declared.identifiers.Member.{Member}
-use Rattle.qs_base.specs.declared.identifiers.ServerNo.{ServerNo}
-use Rattle.qs_base.specs.declared.identifiers.Tid.{Tid}
-use Rattle.qs_book_machine.specs.Book.{BookValue, cell_of_transaction, crossed_in, find_transaction}
+use Rattle.qs_world_runs.proofs.Words.{◌≡◌, inl, inr, ℕ, ◌==◌, ◌&&◌, ◌++◌, true, false, List, [], ◌∷◌, Option, Some, None, fold, refl, sym, ap, subst, ◌∙◌, is_some, fold-append, is_at, list_all, lookup, slice_get, member_cmp, Member, ServerNo, Tid, BookValue, cell_of_transaction, crossed_in, find_transaction, pending_at, record_of, voter, voter_cmp, is_among, is_committed, may_be_lost, TransactionValue, agrees, all_served, is_crossed, is_empty, is_unanimous, Cell, Record, Prepared, Recovery}
+use Rattle.qs_world_runs.proofs.Words.{found_record, names_transaction, nothing_said, recovery, Lasts, HasCommitted, HoldsLogged, IsRecordSafe, StandsIn, Every, IsCommitLogged, IsVoteLogged, HoldsSaid, IsAsRecorded, every_among, every_two, to_votes, FitCut, KeptVotes, some_same}
 use Rattle.qs_book_machine.specs.Nodes as machine
-use Rattle.qs_book_machine.specs.Nodes.{pending_at, record_of, voter, voter_cmp}
-use Rattle.qs_book_machine.specs.Restart.{is_among, is_committed, may_be_lost, member_at}
-use Rattle.qs_book_machine.specs.Transaction.{TransactionValue, agrees, all_served, is_crossed, is_empty, is_unanimous}
-use Rattle.qs_book_machine.specs.declared.transaction.Cell.{Cell}
+use Rattle.qs_book_machine.specs.Restart.{member_at}
 use Rattle.qs_book_machine.specs.declared.transaction.Cell.TheVariants as cells
-use Rattle.qs_record.specs.declared.record.Record.{Record}
 use Rattle.qs_restart.specs.Recovery as logs
-use Rattle.qs_restart.specs.Recovery.{Prepared, Recovery, found_record, names_transaction, nothing_said, recovery}
-use Rattle.qs_world_lawful.specs.Lasting.{Lasts}
-use Rattle.qs_world_lawful.specs.Logged.{HasCommitted, HoldsLogged, IsRecordSafe, StandsIn}
-use Rattle.qs_world_lawful.specs.Logs.{Every, IsCommitLogged, IsVoteLogged}
-use Rattle.qs_world_lawful.specs.Said.{HoldsSaid, IsAsRecorded}
-use Rattle.qs_world_lawful.proofs.FoundMembers.{and_both, every_among, every_two}
+use Rattle.qs_world_lawful.proofs.FoundMembers.{and_both}
 use Rattle.qs_world_lawful.proofs.FoundOnce.{votes_once_in}
-use Rattle.qs_world_lawful.proofs.LogRecords.{to_votes}
-use Rattle.qs_world_runs.specs.CutBatches.{FitCut}
-use Rattle.qs_world_runs.specs.CutCommits.{KeptVotes}
 use Rattle.qs_world_runs.proofs.BatchGoes.{Goes, IsKeptIn, IsSettled, KeepsAll, OldVote, goes_whole}
 use Rattle.qs_world_runs.proofs.BatchSays.{says_record}
 use Rattle.qs_world_runs.proofs.CommitsApplied.{nothing_applied}
@@ -76,10 +55,7 @@ module _ (n : ℕ) (book : BookValue) (state : machine.NodeValue) (there : slice
         where
           made : (o : Option TransactionValue) → cell_of_transaction o ≡ Some cells.Commit → is_committed n tid o ≡ true
           made None e = absurd (cc e)
-          made (Some tx) e = let c : tx.cell ≡ cells.Commit = one e in rw c refl
-            where
-              one : {x y : Cell} → Some x ≡ Some y → x ≡ y
-              one p = cc p
+          made (Some tx) e = let c : tx.cell ≡ cells.Commit = some_same e in rw c refl
 
       by : IsCommitLogged n book state tid → is_committed n tid (find_transaction book tid) ≡ true
       by (inl opening) = committed ((lasts.nodes (record { 0 = n }) state there).committed tid opening)
@@ -89,11 +65,8 @@ module _ (n : ℕ) (book : BookValue) (state : machine.NodeValue) (there : slice
       of None none is = absurd (cc (sym (ap (is_committed n tid) none) ∙ is))
       of (Some tx) found is = let v : IsOver tid tx = over tid tx found (sym (ap (is_committed n tid) found) ∙ is) in record {
         clean = λ server. ap (λ (o : Option TransactionValue). crossed_in o (member_at n server)) found ∙ none_crossed tx (member_at n server) v.uncrossed;
-        stands = λ aborted. v.stands (cell (sym (ap cell_of_transaction found) ∙ aborted));
+        stands = λ aborted. v.stands (some_same (sym (ap cell_of_transaction found) ∙ aborted));
       }
-        where
-          cell : {x y : Cell} → Some x ≡ Some y → x ≡ y
-          cell p = cc p
 
   -- ---- the batch goes on from the log
 
@@ -113,11 +86,8 @@ module _ (n : ℕ) (book : BookValue) (state : machine.NodeValue) (there : slice
           by : IsRecordSafe book first (voter tid server) rec.covers → IsKeptIn n book state there first first tid server rec.covers
           by (inl aborted) = inl (lost (find_transaction book tid) aborted)
             where
-              one : {x y : Cell} → Some x ≡ Some y → x ≡ y
-              one p = cc p
-
               lost : (o : Option TransactionValue) → cell_of_transaction o ≡ Some cells.Abort → may_be_lost n tid o ≡ true
               lost None e = absurd (cc e)
-              lost (Some tx) e = let c : tx.cell ≡ cells.Abort = one e in rw c refl
+              lost (Some tx) e = let c : tx.cell ≡ cells.Abort = some_same e in rw c refl
           by (inr (inl among)) = inr (inl among)
           by (inr (inr found)) = inr (inr (to_votes (voter tid server) rec.covers first found))

@@ -1,43 +1,18 @@
 -- What begins in a step is not asked for there, and nothing of it is lent: so none of its servers votes, and no borrower has a request of it issued.
-use Rattle.std.proofs.Common.{◌≡◌, ℕ, ◌+◌, ◌==◌, ◌&&◌, ◌||◌, not, Bool, true, false, List, [], ◌∷◌, length, Option, Some, None, is_some, suc, refl, sym, ap, subst, ◌∙◌, arith, if◌then◌else◌}
-use Rattle.std.specs.BTreeMap.{is_at}
-use Rattle.std.specs.List.{filter}
-use Rattle.std.specs.Map.{lookup}
-use Rattle.std.proofs.lemmas.Bool.Decides.{nat_tests}
-use Rattle.qs_base.specs.Order.{same_tid}
-use Rattle.qs_base.specs.declared.identifiers.ClientNo.{ClientNo}
-use Rattle.qs_base.specs.declared.identifiers.Tid.{Tid}
+use Rattle.qs_world_runs.proofs.Words.{◌≡◌, ℕ, ◌==◌, ◌&&◌, not, Bool, true, false, List, [], ◌∷◌, length, Option, Some, None, is_some, suc, refl, sym, ap, subst, ◌∙◌, arith, if◌then◌else◌, is_at, filter, lookup, nat_tests, same_tid, ClientNo, Tid, Command, first_untaken, give_back, is_standing_loan, is_taken, last_taken, take_first, Begun, Decided, Lent, Answer, Cause, client_server, kept_outcome, borrower_command, is_aborted, is_void, lent_command, loan_command, take, with_loan, yield}
+use Rattle.qs_world_runs.proofs.Words.{answer, enter, decided_answer, request_as, label_at, forget_rule, is_pass_due, may_answer, pass_rule, ready_rule, refuse_rule, settle_tid, try, Work, client_cmp, with_doings, with_kept, borrower_waits, is_owner, owner_waits, wait_command, wait_on, waits_at, Issued, OpenCommand, is_undecided, Participant, settle_leaves, same_is, next_not_zero, not_implied}
 use Rattle.qs_book_journal.specs.declared.entry.Act.TheVariants as acts
-use Rattle.qs_book_journal.specs.declared.script_line.Command.{Command}
 use Rattle.qs_book_journal.specs.declared.script_line.Command.TheVariants as commands
-use Rattle.qs_node_kept.specs.Loans.{first_untaken, give_back, is_standing_loan, is_taken, last_taken, take_first}
-use Rattle.qs_node_kept.specs.declared.kept.KeptLabel.{KeptLabel}
-use Rattle.qs_node_kept.specs.declared.kept.Decided.{Decided}
-use Rattle.qs_node_kept.specs.declared.kept.Lent.{Lent}
-use Rattle.qs_ops.specs.declared.answer.Answer.{Answer}
 use Rattle.qs_ops.specs.declared.answer.Answer.TheVariants as answers
-use Rattle.qs_ops.specs.declared.answer.Cause.{Cause}
-use Rattle.qs_node_servers.specs.Servers.{client_server}
-use Rattle.qs_node_step.specs.Answering.{kept_outcome}
-use Rattle.qs_node_step.specs.Borrowing.{borrower_command, is_aborted, is_void, lent_command, loan_command, take, with_loan, yield}
-use Rattle.qs_node_step.specs.Bringing.{answer, enter}
-use Rattle.qs_node_step.specs.Commands.{decided_answer, request_as, with_issued}
+use Rattle.qs_node_step.specs.Commands.{with_issued}
 use Rattle.qs_node_step.specs.Deciding.{decide}
 use Rattle.qs_node_step.specs.Requests.{next_number}
-use Rattle.qs_node_step.specs.Serving.{label_at}
-use Rattle.qs_node_step.specs.Settling.{forget_rule, is_pass_due, may_answer, pass_rule, ready_rule, refuse_rule, settle_tid, try}
-use Rattle.qs_node_step.specs.State.{Work, client_cmp, part_of, with_doings, with_kept}
-use Rattle.qs_node_step.specs.Step.{borrower_waits, is_owner, owner_waits, wait_command, wait_on, waits_at}
-use Rattle.qs_node_step.specs.declared.state.Issued.{Issued}
-use Rattle.qs_node_step.specs.declared.state.OpenCommand.{OpenCommand}
-use Rattle.qs_tm.specs.Participant.{is_undecided}
-use Rattle.qs_tm.specs.declared.participant.Participant.{Participant}
+use Rattle.qs_node_step.specs.State.{part_of}
 use Rattle.qs_world_refine.specs.NodeFaces.{loans_at}
 use Rattle.qs_world_refine.proofs.During.{Leaves}
 use Rattle.qs_world_refine.proofs.Keeping.{answer_leaves}
 use Rattle.qs_world_refine.proofs.Lending.{taken_stands}
-use Rattle.qs_world_refine.proofs.SettleFrames.{issue_as_leaves, settle_leaves}
-use Rattle.qs_world_refine.proofs.SoundKnown.{same_is}
+use Rattle.qs_world_refine.proofs.SettleFrames.{issue_as_leaves}
 
 -- ---- nothing is due, whatever the rules try
 
@@ -145,11 +120,8 @@ module _ (t : Tid) where
   taken_counts client inc loan [] found given now none = cc found
   taken_counts client inc loan (first ∷ loans) found given now none = by (last_taken client t loans) refl found (taken_counts client inc loan loans)
     where
-      positive : (k : ℕ) → k + 1 ≡ 0 → ⊥
-      positive k is = omega (arith, is)
-
       rest : (b : Bool) → length (if b then first ∷ filter (is_standing_loan t inc) loans else filter (is_standing_loan t inc) loans) ≡ 0 → (b ≡ false) × (length (filter (is_standing_loan t inc) loans) ≡ 0)
-      rest true is = absurd (positive (length (filter (is_standing_loan t inc) loans)) (omega (arith, is)))
+      rest true is = absurd (next_not_zero (length (filter (is_standing_loan t inc) loans)) (omega (arith, is)))
       rest false is = (refl, is)
 
       off : is_standing_loan t inc first ≡ false
@@ -168,11 +140,7 @@ module _ (t : Tid) where
       by (Some other) there is more = more (there ∙ rw there at is) given now (rest (is_standing_loan t inc first) none).1
 
   pub none_borrowed : (client : ClientNo) (loan : Lent) (work : Work) → NoneLent work → last_taken client t work.node.kept.now.loans ≡ Some loan → loan.yielded ≡ false → is_void t loan work.node ≡ false → ⊥
-  none_borrowed client loan work none found given valid = taken_counts client work.node.setting.inc loan work.node.kept.now.loans found given (present (loan.inc == work.node.setting.inc) (is_aborted t work.node) valid) none
-    where
-      present : (a b : Bool) → (not a || b) ≡ false → a ≡ true
-      present true b so = refl
-      present false b so = absurd (cc so)
+  none_borrowed client loan work none found given valid = taken_counts client work.node.setting.inc loan work.node.kept.now.loans found given (not_implied (loan.inc == work.node.setting.inc) (is_aborted t work.node) valid) none
 
   answered : (client : ClientNo) (said : Answer) (work : Work) → NoneLent work → NoneLent (answer client said work)
   answered client said work none = (answer_leaves t client said work).node.around.loans ∙ none
@@ -248,11 +216,11 @@ module _ (t : Tid) where
       borrowed None None command = none
       borrowed None (Some tid) command = borrower_on client tid command work none
 
-      whose : (command : OpenCommand) (begun : KeptLabel) (b : Bool) → NoneLent (if b then owner_waits client begun.tid command.line.command work else borrower_waits client command.issued begun.tid command.line.command work)
+      whose : (command : OpenCommand) (begun : Begun) (b : Bool) → NoneLent (if b then owner_waits client begun.tid command.line.command work else borrower_waits client command.issued begun.tid command.line.command work)
       whose command begun true = owned begun.tid command.line.command
       whose command begun false = borrowed command.issued begun.tid command.line.command
 
-      labelled : (command : OpenCommand) (o : Option KeptLabel) → NoneLent (elim o [ None ↦ work | Some begun ↦ waits_at client command begun work ])
+      labelled : (command : OpenCommand) (o : Option Begun) → NoneLent (elim o [ None ↦ work | Some begun ↦ waits_at client command begun work ])
       labelled command None = none
       labelled command (Some begun) = whose command begun (is_owner client begun.owner)
 

@@ -1,47 +1,17 @@
 -- What has not begun before a step is not known to its node as it begins; so once what came is done it is not known still, or it has just begun.
-use Rattle.std.proofs.Common.{◌≡◌, ◌⊎◌, inl, inr, ℕ, ◌+◌, ◌<◌, ◌==◌, ◌&&◌, ◌||◌, not, nat_lt, Bool, true, false, List, [], ◌∷◌, length, Option, Some, None, refl, sym, ap, subst, ◌∙◌, arith, if◌then◌else◌}
-use Rattle.std.specs.List.{filter, list_any}
-use Rattle.std.proofs.lemmas.Bool.Decides.{nat_tests}
-use Rattle.qs_base.specs.declared.identifiers.ClientNo.{ClientNo}
-use Rattle.qs_base.specs.declared.identifiers.Tid.{Tid}
+use Rattle.qs_world_runs.proofs.Words.{◌≡◌, ◌⊎◌, inl, inr, ℕ, ◌+◌, ◌<◌, ◌==◌, ◌&&◌, ◌||◌, not, nat_lt, Bool, true, false, List, [], ◌∷◌, length, Option, Some, None, refl, sym, ap, subst, ◌∙◌, if◌then◌else◌, filter, list_any, ClientNo, Tid, ScriptLine, is_standing_loan, Lent, Answer, names_transaction, answer, enter, begin_as, begin_command, begin_or_refuse, put_label, due_tids, settle, settle_tid, Work, with_manager, happen, wait_on, waiting_clients, with_command, Event, begun_participant}
+use Rattle.qs_world_runs.proofs.Words.{is_undecided, BeginFault, Manager, Participant, Source, World, may_be_known, is_sound, IsShownWorld, IsTidy, nothing_lent, begun_tidy, begins_in, tidy_reads, AtEach, done_work, first_work, MakesStep, SoundStages, lt-ltb}
 use Rattle.qs_book_journal.specs.declared.entry.Act.TheVariants as acts
 use Rattle.qs_book_journal.specs.declared.script_line.Command.TheVariants as commands
-use Rattle.qs_book_journal.specs.declared.script_line.ScriptLine.{ScriptLine}
-use Rattle.qs_node_kept.specs.Loans.{is_standing_loan}
-use Rattle.qs_node_kept.specs.declared.kept.Lent.{Lent}
-use Rattle.qs_ops.specs.declared.answer.Answer.{Answer}
 use Rattle.qs_ops.specs.declared.answer.Answer.TheVariants as answers
-use Rattle.qs_restart.specs.Recovery.{names_transaction}
-use Rattle.qs_node_step.specs.Bringing.{answer, enter}
-use Rattle.qs_node_step.specs.Commands.{begin_as, begin_command, begin_or_refuse}
-use Rattle.qs_node_step.specs.Serving.{put_label}
-use Rattle.qs_node_step.specs.Settling.{due_tids, settle, settle_tid}
-use Rattle.qs_node_step.specs.State.{Work, part_of, with_manager}
-use Rattle.qs_node_step.specs.Step.{happen, wait_on, waiting_clients, with_command}
-use Rattle.qs_node_step.specs.declared.event.Event.{Event}
+use Rattle.qs_node_step.specs.State.{part_of}
 use Rattle.qs_node_step.specs.declared.event.Event.TheVariants as events
 use Rattle.qs_tm.specs.Manager as tm
 use Rattle.qs_tm.specs.Outcomes.{is_abort}
-use Rattle.qs_tm.specs.Participant.{begun_participant, is_undecided}
-use Rattle.qs_tm.specs.declared.manager.BeginFault.{BeginFault}
 use Rattle.qs_tm.specs.declared.manager.BeginFault.TheVariants as faults
-use Rattle.qs_tm.specs.declared.manager.Manager.{Manager}
-use Rattle.qs_tm.specs.declared.participant.Participant.{Participant}
-use Rattle.qs_world.specs.Moves.{Source}
-use Rattle.qs_world.specs.World.{World}
-use Rattle.qs_world_refine.specs.Begun.{has_begun, may_be_known}
-use Rattle.qs_world_refine.specs.Sound.{is_sound}
-use Rattle.qs_world_refine.specs.ShownWorlds.{IsShownWorld}
-use Rattle.qs_world_refine.specs.Tidy.{IsTidy}
+use Rattle.qs_world_refine.specs.Begun.{has_begun}
 use Rattle.qs_world_refine.proofs.Keeping.{answer_leaves}
 use Rattle.qs_world_refine.proofs.PartsAfter.{IsPut, IsSame, put_seen}
-use Rattle.qs_world_refine.proofs.SoundKnown.{nothing_lent}
-use Rattle.qs_world_refine.proofs.SteadyBegins.{begun_tidy}
-use Rattle.qs_world_refine.proofs.StillSteps.{begins_in}
-use Rattle.qs_world_refine.proofs.TidyReads.{tidy_reads}
-use Rattle.qs_world_lawful.specs.Given.{AtEach}
-use Rattle.qs_world_lawful.specs.GivenStep.{done_work, first_work}
-use Rattle.qs_world_runs.specs.Agrees.{MakesStep, SoundStages}
 use Rattle.qs_world_runs.specs.BegunBare.{BegunBare, IsBegunBare, NotBorrowed, NotDue}
 use Rattle.qs_world_runs.proofs.AgreesEach.{fit, low, up}
 use Rattle.qs_world_runs.proofs.AgreesPasses.{stages_sound}
@@ -78,10 +48,7 @@ module _ (t : Tid) (world : World) (n stamp free : ℕ) (source : Source) (event
   never_known may = by (names_transaction t) (nat_lt t.home.0 world.size) (has_begun world t) unbegun in_run may
     where
       in_run : nat_lt t.home.0 world.size ≡ true
-      in_run = low_so t.home.0 world.size (subst (λ (k : ℕ). k < world.size) (sym home) n_low)
-        where
-          low_so : (a b : ℕ) → a < b → nat_lt a b ≡ true
-          low_so a b less = grind (arith, nat_tests, less)
+      in_run = lt-ltb t.home.0 world.size (subst (λ (k : ℕ). k < world.size) (sym home) n_low)
 
       by : (a b c : Bool) → c ≡ false → b ≡ true → (a && (not b || c)) ≡ true → ⊥
       by true b c off on so = cc (rw (on, off) at so)

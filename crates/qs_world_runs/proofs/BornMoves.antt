@@ -1,24 +1,13 @@
 -- Incarnations that have begun are those of the opening and of Restarts in the journal: where a world begins, and after each move.
-use Rattle.std.proofs.Common.{◌≡◌, ℕ, ◌≤◌, ◌<◌, ◌==◌, ◌&&◌, ◌||◌, not, Bool, true, false, List, [], ◌∷◌, ◌++◌, Option, Some, None, is_some, refl, sym, ap, subst, ◌∙◌, arith, nat_le, nat_lt, if◌then◌else◌}
-use Rattle.std.proofs.lemmas.Bool.{eqb-true}
-use Rattle.std.proofs.lemmas.Bool.Decides.{nat_tests}
-use Rattle.std.proofs.lemmas.List.Folds.{list_any-append}
-use Rattle.std.specs.List.{list_any}
+use Rattle.qs_world_runs.proofs.Words.{◌≡◌, ℕ, ◌≤◌, ◌<◌, ◌==◌, ◌&&◌, ◌||◌, not, Bool, true, false, List, [], ◌∷◌, ◌++◌, Option, Some, None, is_some, refl, sym, ap, subst, ◌∙◌, arith, nat_le, nat_lt, if◌then◌else◌, eqb-true, ltb-true, nat_tests, list_any-append, list_any, CrashCause, Entry, Record, effects_of, Event, Clock, Commanded, Cut, Handed, Meet, Move, Noticed, Queues, Rise, Source, Step, Stop, cut_log, cut_with, event_of, hand_next, is_later, may_move, moved, step_with, stopped}
+use Rattle.qs_world_runs.proofs.Words.{taken_by, next_parcel, Opening, Parcel, World, inc_of, known_of, start, inc_taken, inc_all, peer_all, eqb-self}
 use Rattle.qs_session_channels.specs.Network.{with_at}
-use Rattle.qs_book_journal.specs.declared.entry.CrashCause.{CrashCause}
-use Rattle.qs_book_journal.specs.declared.entry.Entry.{Entry}
 use Rattle.qs_book_laws.specs.Gone.{restarts_into}
-use Rattle.qs_record.specs.declared.record.Record.{Record}
-use Rattle.qs_node_step.specs.Step.{effects_of}
-use Rattle.qs_node_step.specs.declared.event.Event.{Event}
 use Rattle.qs_node_step.specs.declared.event.Event.TheVariants as events
-use Rattle.qs_world.specs.Moves.{Clock, Commanded, Cut, Handed, Meet, Move, Noticed, Queues, Rise, Source, Step, Stop, cut_log, cut_with, event_of, hand_next, has_begun, is_before, is_later, may_move, moved, node_no, step_with, stopped, taken_by}
-use Rattle.qs_world.specs.Posting.{next_parcel}
-use Rattle.qs_world.specs.World.{Opening, Parcel, World, inc_of, known_of, start}
-use Rattle.qs_world_refine.proofs.Moving.{inc_taken}
-use Rattle.qs_world_refine.proofs.Posted.{inc_all, peer_all}
+use Rattle.qs_world.specs.Moves.{has_begun, is_before, node_no}
 use Rattle.qs_world_refine.proofs.SoundParts.{and_both}
 use Rattle.qs_world_runs.specs.Born.{BornAt, HasRun}
+use Rattle.qs_base_lemmas.proofs.Tests.{le_lt_le}
 
 -- ---- where a world begins
 
@@ -29,13 +18,10 @@ stamped b = if b then Some 0 else None
 pub born_start : (o : Opening) → BornAt o (start o)
 born_start o = record {
   born = λ m inc is. first m inc (inc == (o.settings m).inc) refl is;
-  present = λ m. opened m ((o.settings m).inc == (o.settings m).inc) (itself (o.settings m).inc);
+  present = λ m. opened m ((o.settings m).inc == (o.settings m).inc) (eqb-self (o.settings m).inc);
   known = λ n m some. absurd (none some);
 }
   where
-    itself : (k : ℕ) → (k == k) ≡ true
-    itself k = grind (arith, nat_tests)
-
     none : 1 ≤ 0 → ⊥
     none some = grind (arith, some)
 
@@ -117,10 +103,7 @@ module _ (o : Opening) (world : World) (b : BornAt o world) where
     new = moved (Rise n stamp inc) world
 
     later : world.channels.inc n < inc
-    later = less (world.channels.inc n) inc (and_both _ (nat_lt (inc_of world n) inc) (and_both (not (world.channels.up n)) _ may).1).1
-      where
-        less : (a c : ℕ) → nat_lt a c ≡ true → a < c
-        less a c is = grind (arith, nat_tests, is)
+    later = ltb-true (world.channels.inc n) inc (and_both _ (nat_lt (inc_of world n) inc) (and_both (not (world.channels.up n)) _ may).1).1
 
     -- it has begun then, and what had begun has
     still_some : (m i : ℕ) → is_some (world.born m i) ≡ true → is_some (new.born m i) ≡ true
@@ -135,14 +118,8 @@ module _ (o : Opening) (world : World) (b : BornAt o world) where
         by false far = is
 
     own : HasRun o new.journal n inc
-    own = record { least = up_to (o.settings n).inc (world.channels.inc n) inc (b.born n (world.channels.inc n) (b.present n)).least later; ran = last ((o.settings n).inc == inc) (list_any (restarts_into (record { 0 = n }) inc) world.journal) (n == n) (inc == inc) (list_any-append (restarts_into (record { 0 = n }) inc) world.journal _) (itself n) (itself inc) }
+    own = record { least = le_lt_le (o.settings n).inc (world.channels.inc n) inc (b.born n (world.channels.inc n) (b.present n)).least later; ran = last ((o.settings n).inc == inc) (list_any (restarts_into (record { 0 = n }) inc) world.journal) (n == n) (inc == inc) (list_any-append (restarts_into (record { 0 = n }) inc) world.journal _) (eqb-self n) (eqb-self inc) }
       where
-        up_to : (a c d : ℕ) → a ≤ c → c < d → a ≤ d
-        up_to a c d p q = grind (arith, p, q)
-
-        itself : (k : ℕ) → (k == k) ≡ true
-        itself k = grind (arith, nat_tests)
-
         last : (a c x y : Bool) {e : Bool} → e ≡ (c || ((x && y) || false)) → x ≡ true → y ≡ true → (a || e) ≡ true
         last true c x y is p q = refl
         last false true x y is p q = is
@@ -166,9 +143,6 @@ module _ (o : Opening) (world : World) (b : BornAt o world) where
       known = λ a c one. knows a c (a == n) refl one;
     }
       where
-        itself : (k : ℕ) → (k == k) ≡ true
-        itself k = grind (arith, nat_tests)
-
         now : (m : ℕ) (x : Bool) → (m == n) ≡ x → is_some (new.born m (if x then inc else world.channels.inc m)) ≡ true
         now m false far = still_some m (world.channels.inc m) (b.present m)
         now m true here = at (m == n) here
@@ -177,7 +151,7 @@ module _ (o : Opening) (world : World) (b : BornAt o world) where
             is_it y e = rw e refl
 
             at : (x : Bool) → x ≡ true → is_some ((if x then with_at (world.born n) inc (Some stamp) else world.born m) inc) ≡ true
-            at true e = is_it (inc == inc) (itself inc)
+            at true e = is_it (inc == inc) (eqb-self inc)
             at false e = absurd (cc e)
 
         none : 1 ≤ 0 → ⊥

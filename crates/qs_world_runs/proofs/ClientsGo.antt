@@ -1,22 +1,7 @@
 -- A step and its clients, in a world in which all stands together.
-use Rattle.std.proofs.Common.{ℕ, sym, ap, subst}
-use Rattle.qs_book_laws.proofs.Rising.{IsRising}
-use Rattle.qs_book_machine.specs.Lawful.{book_after}
-use Rattle.qs_node_step.specs.State.{client_cmp}
-use Rattle.qs_node_step.specs.Step.{effects_of}
-use Rattle.qs_node_step.specs.declared.event.Event.{Event}
-use Rattle.qs_world.specs.Moves.{Source, step_with}
-use Rattle.qs_world.specs.Posting.{entries_of}
-use Rattle.qs_world.specs.World.{Opening, World}
-use Rattle.qs_world_refine.proofs.MoveGoes.{StepMay, step_may}
-use Rattle.qs_world_lawful.specs.Aside.{IsOfStep}
-use Rattle.qs_world_lawful.specs.Logs.{Every}
-use Rattle.qs_world_lawful.specs.Scripts.{HoldsScripts}
-use Rattle.qs_world_lawful.specs.Worlds.{HoldsNodeAt}
-use Rattle.qs_world_runs.specs.Agrees.{MakesStep}
-use Rattle.qs_world_runs.specs.StepLaws.{AnswersAside, BeginsOwned, InStep, KeepsClients, KeepsScripts}
+use Rattle.qs_world_runs.proofs.Words.{ℕ, sym, ap, subst, IsRising, book_after, client_cmp, effects_of, Event, Source, step_with, entries_of, Opening, World, StepMay, step_may, IsOfStep, Every, HoldsScripts, HoldsNodeAt, MakesStep, InStep, ClientsAt, Joined, book_in}
+use Rattle.qs_world_runs.specs.StepLaws.{AnswersAside, BeginsOwned, KeepsClients, KeepsScripts}
 use Rattle.qs_world_runs.specs.Answering.{IsFree}
-use Rattle.qs_world_runs.specs.Joined.{ClientsAt, Joined, book_in}
 use Rattle.qs_world_runs.proofs.JoinedClients as clients
 use Rattle.qs_world_runs.proofs.JoinedScripts as scripts
 

@@ -1,73 +1,40 @@
 -- Whatever comes in a step finds what it needs, or the transaction is doomed in the machine that shows it then.
-use Rattle.std.proofs.Common.{◌≡◌, ◌≢◌, ◌⊎◌, inl, inr, ℕ, ◌+◌, ◌<◌, ◌≤◌, ◌&&◌, nat_lt, Bool, true, false, List, Some, None, refl, sym, ap, subst, ◌∙◌, arith, if◌then◌else◌}
-use Rattle.std.proofs.lemmas.Bool.Decides.{nat_tests}
-use Rattle.qs_base.specs.Order.{same_tid}
-use Rattle.qs_base.specs.declared.identifiers.Member.{Member}
-use Rattle.qs_base.specs.declared.identifiers.ServerNo.{ServerNo}
-use Rattle.qs_base.specs.declared.identifiers.Tid.{Tid}
-use Rattle.qs_engage.specs.Nodes.{same_node}
+use Rattle.qs_world_runs.proofs.Words.{◌≡◌, ◌≢◌, ◌⊎◌, inl, inr, ℕ, ◌+◌, ◌<◌, ◌&&◌, nat_lt, Bool, true, false, List, Some, None, refl, sym, ap, subst, ◌∙◌, arith, if◌then◌else◌, nat_tests, same_tid, Member, ServerNo, Tid, same_node, IpcValue, queue_at, Command, ScriptLine, BookValue, Op, Message, names_transaction, is_dropped, Work, here, work_on, command_came, message_came, Event, Clock, Commanded, Handed, Noticed, Queues, Source, command_of, event_of, next_parcel, Parcel, World, Committed}
+use Rattle.qs_world_runs.proofs.Words.{IsDoomed, doom_stays, ShowsAll, taken_scene, scene_of, IsShownWorld, server_no, IsSteady, StepCame, step_came, FromNotice, from_client, from_node, from_notice, StepMay, step_may, shown_fit, same_is, begun_low, steady_gives, done_work, ComesFound, ComesWell, some_not_zero, some_same}
 use Rattle.qs_ipc.specs.Ipc as ipc
-use Rattle.qs_ipc.specs.Ipc.{IpcValue, queue_at}
 use Rattle.qs_ipc.specs.Queue.{count_of, is_for}
-use Rattle.qs_book_journal.specs.declared.script_line.Command.{Command}
 use Rattle.qs_book_journal.specs.declared.script_line.Command.TheVariants as commands
-use Rattle.qs_book_journal.specs.declared.script_line.ScriptLine.{ScriptLine}
-use Rattle.qs_book_machine.specs.Book.{BookValue}
-use Rattle.qs_ops.specs.declared.operation.Op.{Op}
-use Rattle.qs_packet.specs.declared.message.Message.{Message}
 use Rattle.qs_packet.specs.declared.message.Message.TheVariants as messages
-use Rattle.qs_restart.specs.Recovery.{names_transaction}
-use Rattle.qs_node_step.specs.Serving.{is_dropped}
-use Rattle.qs_node_step.specs.State.{NodeValue, Work, here, part_of, work_on}
-use Rattle.qs_node_step.specs.Step.{command_came, message_came}
-use Rattle.qs_node_step.specs.declared.event.Event.{Event}
+use Rattle.qs_node_step.specs.State.{NodeValue, part_of}
 use Rattle.qs_node_step.specs.declared.event.Event.TheVariants as events
-use Rattle.qs_world.specs.Moves.{Clock, Commanded, Handed, Noticed, Queues, Source, command_of, event_of, may_serve}
-use Rattle.qs_world.specs.Posting.{next_parcel}
-use Rattle.qs_world.specs.World.{Parcel, World}
+use Rattle.qs_world.specs.Moves.{may_serve}
 use Rattle.qs_world_agree.specs.World as machine
-use Rattle.qs_world_agree.specs.World.{Committed}
-use Rattle.qs_world_agree.specs.Doomed.{IsDoomed}
-use Rattle.qs_world_agree.proofs.Doomed.{doom_stays}
 use Rattle.qs_world_refine.specs.Begun.{has_begun}
-use Rattle.qs_world_refine.specs.EachMove.{ShowsAll}
 use Rattle.qs_world_refine.specs.Links.{node_no}
-use Rattle.qs_world_refine.specs.MoveLaws.{taken_scene}
 use Rattle.qs_world_refine.specs.NodeFaces.{waiting_at}
 use Rattle.qs_world_refine.specs.ServeWhole.{CanCount}
-use Rattle.qs_world_refine.specs.Shows.{handed, scene_of}
-use Rattle.qs_world_refine.specs.ShownWorlds.{IsShownWorld}
-use Rattle.qs_world_refine.specs.Sights.{server_no}
+use Rattle.qs_world_refine.specs.Shows.{handed}
 use Rattle.qs_world_refine.specs.Sound.{goes_in_run}
 use Rattle.qs_world_refine.specs.SoundSteps.{FitsMessage, begun}
 use Rattle.qs_world_refine.specs.Stands.{GoesOn, Stands}
-use Rattle.qs_world_refine.specs.Steady.{IsSteady, is_fit_message, is_of_run}
+use Rattle.qs_world_refine.specs.Steady.{is_fit_message, is_of_run}
 use Rattle.qs_world_refine.specs.Steps.{IsNext}
 use Rattle.qs_world_refine.specs.TakenLaws.{rest_behind}
 use Rattle.qs_world_refine.proofs.CommandStands.{command_goes}
-use Rattle.qs_world_refine.proofs.EachEvent.{StepCame, step_came}
 use Rattle.qs_world_refine.proofs.EachHears.{counts_no_more, first, is_calm, keeps, learnt}
-use Rattle.qs_world_refine.proofs.EachMay.{FromNotice, from_client, from_node, from_notice, is_fit, is_next}
+use Rattle.qs_world_refine.proofs.EachMay.{is_fit, is_next}
 use Rattle.qs_world_refine.proofs.Heads.{no_request}
 use Rattle.qs_world_refine.proofs.MayCount.{can_count}
-use Rattle.qs_world_refine.proofs.MoveGoes.{StepMay, step_may}
 use Rattle.qs_world_refine.proofs.RequestStands.{request_stands}
 use Rattle.qs_world_refine.proofs.Same.{tid_same}
-use Rattle.qs_world_refine.proofs.ShownMoves.{shown_fit}
-use Rattle.qs_world_refine.proofs.SoundKnown.{same_is}
 use Rattle.qs_world_refine.proofs.SoundParts.{and_both}
-use Rattle.qs_world_refine.proofs.SteadyFrom.{begun_low, steady_gives}
 use Rattle.qs_world_refine.proofs.Taken.{handed_taken}
-use Rattle.qs_world_lawful.specs.GivenStep.{done_work}
-use Rattle.qs_world_runs.specs.ComesFind.{ComesFind, ComesFound, ComesLater, CommandsFind}
-use Rattle.qs_world_runs.specs.PlacesWhole.{ComesWell, TakesIn}
+use Rattle.qs_world_runs.specs.ComesFind.{ComesFind, ComesLater, CommandsFind}
+use Rattle.qs_world_runs.specs.PlacesWhole.{TakesIn}
 use Rattle.qs_world_runs.proofs.DropDooms.{dropped_dooms}
 use Rattle.qs_world_runs.proofs.NoticeFinds.{notice_finds}
 use Rattle.qs_world_runs.proofs.ServesFind.{ServesFound, all_find, serves_later}
 use Rattle.qs_world_runs.proofs.TurnsShown.{stands_taken}
-
-one : {A : Type 0} {a b : A} → Some a ≡ Some b → a ≡ b
-one e = cc e
 
 module _ (t : Tid) (world : World) (w : machine.World) (steady : IsSteady world) (is_shown : IsShownWorld world) (home_in : t.home.0 < world.size) (begins : has_begun world t ≡ true) (all : ShowsAll t world w)
     (n stamp free : ℕ) (low : n < world.size) (on : world.channels.up n ≡ true) (before : BookValue) where
@@ -198,10 +165,7 @@ module _ (t : Tid) (world : World) (w : machine.World) (steady : IsSteady world)
   can_count_now serves = by node.is_first refl
     where
       by : (b : Bool) → node.is_first ≡ b → CanCount t work
-      by true early = λ part s known below waits. absurd (never (waiting_at work.node t s) waits (ap (λ (queues : IpcValue). count_of t (queue_at queues (server_no s)).waiting) (keeps t world w steady home_in all n free low on).queues ∙ (steady.nodes n low on).idle early t s))
-        where
-          never : (k : ℕ) → 1 ≤ k → k ≡ 0 → ⊥
-          never k some none = omega (arith, some, none)
+      by true early = λ part s known below waits. absurd (some_not_zero (waiting_at work.node t s) waits (ap (λ (queues : IpcValue). count_of t (queue_at queues (server_no s)).waiting) (keeps t world w steady home_in all n free low on).queues ∙ (steady.nodes n low on).idle early t s))
       by false further = subst (λ (k : Work). CanCount t k) (sym (picked node.is_first further)) (can_count t node free serves)
         where
           picked : (b : Bool) → b ≡ false → (if b then Rattle.std.proofs.Common.fold Rattle.qs_node_step.specs.Restarts.resume_tid (Rattle.qs_node_step.specs.State.with_node (λ node. record node { is_first = false }) (work_on node free)) (Rattle.qs_node_step.specs.Restarts.known_tids (work_on node free)) else work_on node free) ≡ work_on node free
@@ -238,8 +202,8 @@ module _ (t : Tid) (world : World) (w : machine.World) (steady : IsSteady world)
   pub comes_found : (source : Source) (event : Event) → may_serve node source ≡ true → event_of world n stamp source ≡ Some event → CommandsFind t world n stamp free before source event w → Found source event
   comes_found (Commanded k) event serves comes finds = commanded k event comes finds
   comes_found (Handed m) event serves comes finds = handed_up m event comes
-  comes_found Queues event serves comes finds = subst (λ (e : Event). Found Queues e) (one comes) (served serves)
-  comes_found Clock event serves comes finds = subst (λ (e : Event). Found Clock e) (one comes) (by_step Clock events.Tick (came Clock events.Tick refl refl) (λ v stands. tt))
+  comes_found Queues event serves comes finds = subst (λ (e : Event). Found Queues e) (some_same comes) (served serves)
+  comes_found Clock event serves comes finds = subst (λ (e : Event). Found Clock e) (some_same comes) (by_step Clock events.Tick (came Clock events.Tick refl refl) (λ v stands. tt))
   comes_found (Noticed m new) event serves comes finds = noticed m new event comes
 
 pub comes_find : ComesFind

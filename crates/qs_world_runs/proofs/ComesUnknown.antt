@@ -1,55 +1,23 @@
 -- Of what the reference machine does not have yet no request waits and none is on its way, so nothing of it comes but a command.
-use Rattle.std.proofs.Common.{◌≡◌, inr, ℕ, ◌+◌, ◌<◌, ◌==◌, ◌&&◌, Bool, true, false, List, [], ◌∷◌, length, map, zero, suc, Option, Some, None, is_some, refl, sym, ap, subst, ◌∙◌, arith, if◌then◌else◌}
-use Rattle.std.specs.Prelude.{drop, slice_get}
-use Rattle.std.specs.List.{filter}
-use Rattle.qs_base.specs.Order.{same_tid}
-use Rattle.qs_base.specs.declared.identifiers.ServerNo.{ServerNo}
-use Rattle.qs_base.specs.declared.identifiers.Tid.{Tid}
+use Rattle.qs_world_runs.proofs.Words.{◌≡◌, inr, ℕ, ◌+◌, ◌<◌, ◌==◌, ◌&&◌, Bool, true, false, List, [], ◌∷◌, length, map, zero, suc, Option, Some, None, is_some, refl, sym, ap, subst, ◌∙◌, arith, if◌then◌else◌, drop, slice_get, filter, same_tid, ServerNo, Tid, IpcValue, queue_at, Delivery, Begun, BookValue, find_transaction, TransactionValue, Message, label_at, serve_next, serve_or_drop, Work, with_queues, work_on, Event, Clock, Commanded, Handed, Noticed, Queues, Source, event_of, Opening}
+use Rattle.qs_world_runs.proofs.Words.{Parcel, World, server_no, from_client, from_node, from_notice, steady, StepMay, step_may, same_is, begun_tidy, c, stage, tidy_reads, IsDoomed, AtEach, first_work, Every, IsParcel, is_asking_for, pending, Joined, book_in, PlacesAt, asked, message_of, ComesWell, ServesWell, some_same}
 use Rattle.qs_ipc.specs.Ipc as ipc
-use Rattle.qs_ipc.specs.Ipc.{IpcValue, queue_at}
 use Rattle.qs_ipc.specs.Queue.{count_of, is_of}
-use Rattle.qs_ipc.specs.declared.delivery.Delivery.{Delivery}
-use Rattle.qs_node_kept.specs.declared.kept.KeptLabel.{KeptLabel}
-use Rattle.qs_book_machine.specs.Book.{BookValue, find_transaction}
-use Rattle.qs_book_machine.specs.Transaction.{TransactionValue}
-use Rattle.qs_packet.specs.declared.message.Message.{Message}
 use Rattle.qs_packet.specs.declared.message.Message.TheVariants as messages
-use Rattle.qs_node_step.specs.Serving.{label_at, serve_next, serve_or_drop}
-use Rattle.qs_node_step.specs.State.{Work, with_queues, work_on}
-use Rattle.qs_node_step.specs.declared.event.Event.{Event}
 use Rattle.qs_node_step.specs.declared.event.Event.TheVariants as events
-use Rattle.qs_world.specs.Moves.{Clock, Commanded, Handed, Noticed, Queues, Source, event_of}
-use Rattle.qs_world.specs.World.{Opening, Parcel, World}
 use Rattle.qs_world_refine.specs.Begun.{has_begun}
 use Rattle.qs_world_refine.specs.NodeFaces.{waiting_at}
-use Rattle.qs_world_refine.specs.Sights.{server_no}
 use Rattle.qs_world_refine.proofs.BeginKeeps.{begin_keeps}
-use Rattle.qs_world_refine.proofs.EachMay.{from_client, from_node, from_notice}
 use Rattle.qs_world_refine.proofs.ServeFrames.{next_leaves}
 use Rattle.qs_world_refine.proofs.ServeRoom.{one_more, turn_is}
-use Rattle.qs_world_refine.proofs.ShownMoves.{steady}
-use Rattle.qs_world_refine.proofs.MoveGoes.{StepMay, step_may}
-use Rattle.qs_world_refine.proofs.SoundKnown.{same_is}
-use Rattle.qs_world_refine.proofs.SteadyBegins.{begun_tidy, c, stage}
-use Rattle.qs_world_refine.proofs.TidyReads.{tidy_reads}
-use Rattle.qs_world_agree.specs.Doomed.{IsDoomed}
-use Rattle.qs_world_lawful.specs.Given.{AtEach}
-use Rattle.qs_world_lawful.specs.GivenStep.{first_work}
-use Rattle.qs_world_lawful.specs.Logs.{Every}
-use Rattle.qs_world_lawful.specs.Parcels.{IsParcel, IsSaid, is_asking_for, pending}
+use Rattle.qs_world_lawful.specs.Parcels.{IsSaid}
 use Rattle.qs_world_runs.specs.ComesFind.{CommandFinds, CommandsUnbegun, ComesUnknown}
-use Rattle.qs_world_runs.specs.Joined.{Joined, book_in}
-use Rattle.qs_world_runs.specs.JoinedPlaces.{PlacesAt}
-use Rattle.qs_world_runs.specs.Placed.{asked, message_of}
-use Rattle.qs_world_runs.specs.PlacesWhole.{ComesWell, ServesWell, TakesIn}
+use Rattle.qs_world_runs.specs.PlacesWhole.{TakesIn}
 use Rattle.qs_world_runs.proofs.NoticeComes.{notice_comes}
-
-one : {A : Type 0} {a b : A} → Some a ≡ Some b → a ≡ b
-one e = cc e
 
 pub every_get : {A : Type 0} (P : A → Type 0) (k : ℕ) (xs : List A) (x : A) → Every P xs → slice_get xs k ≡ Some x → P x
 every_get P zero [] x all is = absurd (cc is)
-every_get P zero (y ∷ xs) x all is = subst P (one is) all.0
+every_get P zero (y ∷ xs) x all is = subst P (some_same is) all.0
 every_get P (suc k) [] x all is = absurd (cc is)
 every_get P (suc k) (y ∷ xs) x all is = every_get P k xs x all.1 is
 
@@ -159,8 +127,8 @@ module _ (D : Type 0) (t : Tid) (o : Opening) (world : World) (j : Joined Places
   came (Handed m) event comes finds = let from = from_node world n stamp m event comes in
       subst (λ (e : Event). Well (Handed m) e) (sym from.is) (takes_none book t none D first from.parcel.message
       (every_get (IsParcel book world.size m n) (length (world.channels.handed m n (world.channels.peer n m) (world.channels.inc n))) (world.channels.posted m n (world.channels.peer n m) (world.channels.inc n)) from.parcel (j.channels.posted m n (world.channels.peer n m) (world.channels.inc n)) from.found).says)
-  came Queues event comes finds = subst (λ (e : Event). Well Queues e) (one comes) (none_served D t (ipc.turns first.node.queues) first waits_none)
-  came Clock event comes finds = subst (λ (e : Event). Well Clock e) (one comes) tt
+  came Queues event comes finds = subst (λ (e : Event). Well Queues e) (some_same comes) (none_served D t (ipc.turns first.node.queues) first waits_none)
+  came Clock event comes finds = subst (λ (e : Event). Well Clock e) (some_same comes) tt
   came (Noticed m new) event comes finds = let from = from_notice world n stamp m new event comes in
       subst (λ (e : Event). Well (Noticed m new) e) (sym from.is) (inr (notice_comes t world n m new stamp free book from.known from.later from.begun
       (λ i server number less. none_asked book t none world.size m n server number (pending world.channels m n i (world.channels.inc n))
@@ -178,7 +146,7 @@ commands_unbegun w t world n stamp free before source event is makes unbegun = b
     its = step_may world n stamp source makes.may
 
     Named : List ℕ → Type 0
-    Named label = (begun : KeptLabel) → label_at label (first_work (world.hosts n).node free).node ≡ Some begun → begun.tid ≡ Some t → ⊥
+    Named label = (begun : Begun) → label_at label (first_work (world.hosts n).node free).node ≡ Some begun → begun.tid ≡ Some t → ⊥
 
     never : (label : List ℕ) → Named label
     never label begun named tid_is = let has : has_begun world t ≡ true = (tidy_reads (c world is.steady n free its.low its.runs) (stage world is.steady n free its.low its.runs)).label label begun t (first_work (world.hosts n).node free) (begun_tidy world is.steady n free its.low its.runs) named tid_is in

@@ -1,51 +1,27 @@
 -- A home that is ready commits in the agreement machine: then nothing is open anywhere, so the transaction is unanimous, as all places hold what they should.
-use Rattle.std.proofs.Common.{◌≡◌, ◌⊎◌, inl, inr, ℕ, ◌+◌, ◌-◌, ◌<◌, ◌==◌, ◌&&◌, not, Bool, true, false, List, [], ◌∷◌, ◌++◌, map, Option, Some, None, is_some, refl, sym, ap, subst, ◌∙◌, arith, if◌then◌else◌}
-use Rattle.std.proofs.lemmas.Bool.{eqb-true}
-use Rattle.std.proofs.lemmas.Bool.Decides.{nat_tests}
+use Rattle.qs_world_runs.proofs.Words.{◌≡◌, ◌⊎◌, inl, inr, ℕ, ◌+◌, ◌-◌, ◌<◌, ◌==◌, ◌&&◌, not, Bool, true, false, List, [], ◌∷◌, ◌++◌, map, Option, Some, None, is_some, refl, sym, ap, subst, ◌∙◌, arith, if◌then◌else◌, eqb-true, and_parts, nat_tests, ServerNo, Tid, is_passive, listed, BookValue, find_transaction, TransactionValue, agrees, is_unanimous, Life, Part, Record, is_busy, may_answer, Work, doings_of, all_agree, is_ready, needs_pass, Participant, Committed, IsDoomed, has_request}
+use Rattle.qs_world_runs.proofs.Words.{ShowsFace, all_said, face_at, place, Scene, sent_to, commit_clear, commit_unmet, HoldsAt, HoldsStill, HoldsTid, face_of, pending, Field, IsLife, IsPresent, asked, message_of, PlacedAmid, book_amid, field_amid, IsBeside, and_three}
 use Rattle.qs_base.specs.declared.identifiers.Outcome.TheVariants as outcomes
-use Rattle.qs_base.specs.declared.identifiers.ServerNo.{ServerNo}
-use Rattle.qs_base.specs.declared.identifiers.Tid.{Tid}
-use Rattle.qs_engage.specs.Engage.{is_passive}
-use Rattle.qs_engage.specs.Nodes.{listed}
-use Rattle.qs_book_machine.specs.Book.{BookValue, find_transaction}
-use Rattle.qs_book_machine.specs.Transaction.{TransactionValue, agrees, is_open, is_unanimous}
-use Rattle.qs_book_machine.specs.declared.transaction.Life.{Life}
-use Rattle.qs_book_machine.specs.declared.transaction.Part.{Part}
+use Rattle.qs_book_machine.specs.Transaction.{is_open}
 use Rattle.qs_packet.specs.declared.message.Message.TheVariants as messages
-use Rattle.qs_record.specs.declared.record.Record.{Record}
 use Rattle.qs_node_step.specs.Deciding.{decide}
-use Rattle.qs_node_step.specs.Settling.{is_busy, may_answer}
-use Rattle.qs_node_step.specs.State.{NodeValue, Work, doings_of, part_of}
+use Rattle.qs_node_step.specs.State.{NodeValue, part_of}
 use Rattle.qs_tm.specs.Outcomes as outcome_rules
-use Rattle.qs_tm.specs.Participant.{all_agree, is_ready, needs_pass}
-use Rattle.qs_tm.specs.declared.participant.Participant.{Participant}
 use Rattle.qs_world_agree.specs.World as machine
-use Rattle.qs_world_agree.specs.World.{Committed}
 use Rattle.qs_world_agree.specs.Carry.{IsLawful}
-use Rattle.qs_world_agree.specs.Doomed.{IsDoomed}
-use Rattle.qs_world_refine.specs.CommitLaws.{has_request}
 use Rattle.qs_world_refine.specs.DecisionLaws.{IsHome}
-use Rattle.qs_world_refine.specs.Faces.{ShowsFace}
 use Rattle.qs_world_refine.specs.Links.{Said, Requested, Closed, Outcome_told, Taken_in, Inquired, node_no}
-use Rattle.qs_world_refine.specs.Messages.{all_said}
-use Rattle.qs_world_refine.specs.NodeFaces.{face_at}
-use Rattle.qs_world_refine.specs.Places.{place}
-use Rattle.qs_world_refine.specs.Shows.{Scene, sent_to, sight_during}
+use Rattle.qs_world_refine.specs.Shows.{sight_during}
 use Rattle.qs_world_refine.specs.Stands.{Stands}
 use Rattle.qs_world_refine.specs.Steps.{Goes}
-use Rattle.qs_world_refine.proofs.CommitIdles.{commit_clear, commit_unmet}
 use Rattle.qs_world_refine.proofs.DecideCommit.{decide_commit}
 use Rattle.qs_world_refine.proofs.Deciding as deciding
 use Rattle.qs_world_refine.proofs.Facts.{lawful_on}
 use Rattle.qs_world_refine.proofs.SettleStands.{home_clear, is_at_home}
-use Rattle.qs_world_lawful.specs.Holds.{HoldsAt, HoldsHome, HoldsStill, HoldsTid}
-use Rattle.qs_world_lawful.specs.Face.{face_of}
-use Rattle.qs_world_lawful.specs.Parcels.{pending}
+use Rattle.qs_world_lawful.specs.Holds.{HoldsHome}
 use Rattle.qs_world_lawful.proofs.Asking.{sent_each_node}
-use Rattle.qs_world_runs.specs.Placed.{Field, IsLife, IsPresent, asked, message_of}
 use Rattle.qs_world_runs.specs.PlacedLaws.{IsFree, IsQuiet}
-use Rattle.qs_world_runs.specs.PlacesAmid.{PlacedAmid, book_amid, field_amid}
-use Rattle.qs_world_runs.specs.PlacesCommits.{HomeCommitsUnanimous, IsBeside, ShowsField, WorldShowsField}
+use Rattle.qs_world_runs.specs.PlacesCommits.{HomeCommitsUnanimous, ShowsField, WorldShowsField}
 use Rattle.qs_world_runs.proofs.CommitsPlaced.{NoneIn, committed_free, none_decided, none_from, none_in, none_said, ready_free}
 use Rattle.qs_world_runs.proofs.FreeLives.{free_agrees}
 use Rattle.qs_world_runs.proofs.LeftOutcomes.{decide_leaves}
@@ -94,12 +70,8 @@ module _ (t : Tid) (scene : Scene) (base : Field) (stamp : ℕ) (before : BookVa
   abbrev amid : Field
   amid = field_amid base (scene.knows n) n work
 
-  two : (a b : Bool) → (a && b) ≡ true → (a ≡ true) × (b ≡ true)
-  two true b so = (refl, so)
-  two false b so = absurd (cc so)
-
   ready : is_ready (is_busy t work.node part) part ≡ true
-  ready = (two (is_ready (is_busy t work.node part) part) (not (needs_pass part) && not (doings_of t work).prepared) may).0
+  ready = (and_parts (is_ready (is_busy t work.node part) part) (not (needs_pass part) && not (doings_of t work).prepared) may).0
 
   home : IsHome t scene work part
   home = is_at_home t scene work v is part known open_now
@@ -213,13 +185,10 @@ module _ (t : Tid) (scene : Scene) (base : Field) (stamp : ℕ) (before : BookVa
       posted true so = sym (sent_leaves q server number) ∙ none_said t server number (sent_to q new.out.messages) ((clear (scene.inc n)).1 (tests (p == n) (scene.knows n q) (base.inc q) (scene.inc q) (scene.inc n) (field.inc q) so))
         where
           tests : (a : Bool) (k b s j : ℕ) → b ≡ s → (a && ((k == b) && not (k == 0))) ≡ true → (a && ((j == j) && ((s == k) && not (s == 0)))) ≡ true
-          tests true k b s j e so = let same : k ≡ b = eqb-true k b (two (k == b) (not (k == 0)) so).0 in let some : not (k == 0) ≡ true = (two (k == b) (not (k == 0)) so).1 in close s k j (same ∙ e) some
+          tests true k b s j e so = let same : k ≡ b = eqb-true k b (and_parts (k == b) (not (k == 0)) so).0 in let some : not (k == 0) ≡ true = (and_parts (k == b) (not (k == 0)) so).1 in close s k j (same ∙ e) some
             where
               close : (s k j : ℕ) → k ≡ s → not (k == 0) ≡ true → ((j == j) && ((s == k) && not (s == 0))) ≡ true
-              close s k j e some = subst (λ (x : ℕ). ((j == j) && ((x == k) && not (x == 0))) ≡ true) e (shut (j == j) (k == k) (not (k == 0)) (grind (arith, nat_tests)) (grind (arith, nat_tests)) some)
-                where
-                  shut : (x y z : Bool) → x ≡ true → y ≡ true → z ≡ true → (x && (y && z)) ≡ true
-                  shut x y z p q r = rw (p, q, r) refl
+              close s k j e some = subst (λ (x : ℕ). ((j == j) && ((x == k) && not (x == 0))) ≡ true) e (and_three (j == j) (k == k) (not (k == 0)) (grind (arith, nat_tests)) (grind (arith, nat_tests)) some)
           tests false k b s j e so = absurd (cc so)
 
   keeps : (p q : ℕ) → p < scene.size → q < scene.size → (server : ServerNo) (number : ℕ) → asked t server number (amid.kept p q) ≡ 0
@@ -239,7 +208,7 @@ module _ (t : Tid) (scene : Scene) (base : Field) (stamp : ℕ) (before : BookVa
 
       posted : (b : Bool) → holds_back ≡ b → asked t server number (if b then sent_to q work.out.messages else []) ≡ 0
       posted false so = refl
-      posted true so = let both = two (p == n) (scene.knows n q == 0) so in let at_n : p ≡ n = eqb-true p n both.0 in
+      posted true so = let both = and_parts (p == n) (scene.knows n q == 0) so in let at_n : p ≡ n = eqb-true p n both.0 in
           sym (sent_leaves q server number) ∙ none_said t server number (sent_to q new.out.messages)
           ((clear (ap scene.up at_n ∙ home.at.up) (ap (λ (k : ℕ). scene.knows k q) at_n ∙ eqb-true (scene.knows n q) 0 both.1)).1 so)
 

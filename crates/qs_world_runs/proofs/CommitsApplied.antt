@@ -1,35 +1,15 @@
 -- Which Commits of a log a restart applies, and with which changes, goes by what is on record of them; where nothing is, none of them.
-use Rattle.std.proofs.Common.{◌≡◌, ℕ, ◌&&◌, ◌||◌, ◌==◌, ◌++◌, not, Bool, true, false, List, [], ◌∷◌, flat_map, Option, Some, None, fold, refl, sym, ap, subst, ◌∙◌, if◌then◌else◌, is_some}
-use Rattle.std.proofs.lemmas.Grind.{flat_map-append}
-use Rattle.std.specs.Prelude.{slice_get}
-use Rattle.qs_base.specs.Order.{same_tid}
-use Rattle.qs_base.proofs.Same.{same_tid-self}
-use Rattle.qs_base.specs.declared.identifiers.Tid.{Tid}
-use Rattle.qs_book_machine.specs.Book.{BookValue}
+use Rattle.qs_world_runs.proofs.Words.{◌≡◌, ℕ, ◌&&◌, ◌||◌, ◌==◌, ◌++◌, not, Bool, true, false, List, [], ◌∷◌, Option, Some, None, fold, refl, sym, ap, subst, ◌∙◌, if◌then◌else◌, is_some, flat_map-append, slice_get, same_tid, same_tid-self, Tid, BookValue, changes_of, record_of, commits_found, is_among, record_at, OnRecord, applied, Op, Recovery, Every, HoldsSaid, IsMadeBy, or_left, or_right}
+use Rattle.std.proofs.Common.{flat_map}
 use Rattle.qs_book_machine.specs.Nodes as machine
-use Rattle.qs_book_machine.specs.Nodes.{changes_of, record_of}
-use Rattle.qs_book_machine.specs.Restart.{add_commit, changes_at, commits_found, has_record, is_among, record_at}
-use Rattle.qs_book_machine.specs.declared.state.OnRecord.{OnRecord}
+use Rattle.qs_book_machine.specs.Restart.{add_commit, changes_at, has_record}
 use Rattle.qs_ops.specs.Servers.{audit_no, files_no}
-use Rattle.qs_ops.specs.Table.{applied}
-use Rattle.qs_ops.specs.declared.operation.Op.{Op}
-use Rattle.qs_restart.specs.Recovery.{Recovery}
-use Rattle.qs_world_lawful.specs.Logs.{Every}
-use Rattle.qs_world_lawful.specs.Said.{HoldsSaid, IsMadeBy}
 use Rattle.qs_world_runs.proofs.BatchContents.{Applies}
 
 -- what holds of all that are among some, holds of each of them
 pub every_self : (P : Tid → Type 0) (tids : List Tid) → ((tid : Tid) → is_among tids tid ≡ true → P tid) → Every P tids
 every_self P [] gives = tt
-every_self P (t ∷ tids) gives = (gives t (left (same_tid t t) (is_among tids t) (same_tid-self t)), every_self P tids (λ u is. gives u (right (same_tid u t) (is_among tids u) is)))
-  where
-    left : (a b : Bool) → a ≡ true → (a || b) ≡ true
-    left true b e = refl
-    left false b e = absurd (cc e)
-
-    right : (a b : Bool) → b ≡ true → (a || b) ≡ true
-    right true b e = refl
-    right false b e = e
+every_self P (t ∷ tids) gives = (gives t (or_left (same_tid t t) (is_among tids t) (same_tid-self t)), every_self P tids (λ u is. gives u (or_right (same_tid u t) (is_among tids u) is)))
 
 -- where nothing is on record
 none_found : (here : ℕ) (book : BookValue) (changes : Tid → List Op) (done : List Tid) → Every (λ (tid : Tid). changes tid ≡ []) done → flat_map changes (commits_found here book done) ≡ []

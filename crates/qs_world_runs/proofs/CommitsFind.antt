@@ -1,30 +1,12 @@
 -- At the turn of a transaction that its home is ready to commit, what came found what it needed, and so did all that was issued and voted: so the commit is unanimous.
-use Rattle.std.proofs.Common.{◌≡◌, ℕ, true, List, [], ◌∷◌}
-use Rattle.qs_base.specs.declared.identifiers.Tid.{Tid}
-use Rattle.qs_book_machine.specs.Book.{BookValue}
-use Rattle.qs_node_step.specs.Settling.{due_tids, settle_tid}
-use Rattle.qs_node_step.specs.State.{Work}
-use Rattle.qs_node_step.specs.Step.{with_command}
-use Rattle.qs_node_step.specs.declared.event.Event.{Event}
+use Rattle.qs_world_runs.proofs.Words.{◌≡◌, ℕ, true, List, [], ◌∷◌, Tid, BookValue, due_tids, settle_tid, Work, with_command, Event, Source, taken_by, Opening, World, IsDoomed, leads_on, ShowsAll, AtEach, done_work, first_work, MakesStep, ComesFound, Joined, book_in, PlacesAt, field_of, taken, ComesFinds, IsReadyAt, ShownAt}
 use Rattle.qs_node_step.specs.declared.event.Event.TheVariants as events
-use Rattle.qs_world.specs.Moves.{Source, taken_by}
-use Rattle.qs_world.specs.World.{Opening, World}
 use Rattle.qs_world_agree.specs.World as machine
-use Rattle.qs_world_agree.specs.Doomed.{IsDoomed}
-use Rattle.qs_world_agree.proofs.Carries.{leads_on}
 use Rattle.qs_world_refine.specs.Begun.{has_begun}
-use Rattle.qs_world_refine.specs.EachMove.{ShowsAll}
-use Rattle.qs_world_lawful.specs.Given.{AtEach}
-use Rattle.qs_world_lawful.specs.GivenStep.{done_work, first_work}
-use Rattle.qs_world_runs.specs.Agrees.{MakesStep}
-use Rattle.qs_world_runs.specs.ComesFind.{CommandFinds, ComesFound}
-use Rattle.qs_world_runs.specs.Joined.{Joined, book_in}
+use Rattle.qs_world_runs.specs.ComesFind.{CommandFinds}
 use Rattle.qs_world_runs.specs.JoinedLaws.{EachCommitsSettled}
-use Rattle.qs_world_runs.specs.JoinedPlaces.{PlacesAt}
-use Rattle.qs_world_runs.specs.Placed.{field_of}
-use Rattle.qs_world_runs.specs.PlacesEnds.{taken}
-use Rattle.qs_world_runs.specs.PlacesFound.{ComesFinds, FoundAtTurn}
-use Rattle.qs_world_runs.specs.PlacesTurns.{FindsAtTurn, FollowsAtTurn, IsFoundThere, IsReadyAt, ShownAt, passed}
+use Rattle.qs_world_runs.specs.PlacesFound.{FoundAtTurn}
+use Rattle.qs_world_runs.specs.PlacesTurns.{FindsAtTurn, FollowsAtTurn, IsFoundThere, passed}
 use Rattle.qs_world_runs.proofs.ComesFind.{comes_find, comes_later}
 use Rattle.qs_world_runs.proofs.FoundTurns.{turns_find}
 use Rattle.qs_world_runs.proofs.FoundWell.{commands_well, pass_well}

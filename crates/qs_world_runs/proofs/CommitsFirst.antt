@@ -1,22 +1,11 @@
 -- A home commits only where the step noted nothing that forbids it: so what the step notes of the transaction comes after.
-use Rattle.std.proofs.Common.{◌≡◌, inl, inr, ℕ, Bool, true, false, List, [], ◌∷◌, ◌++◌, Option, refl, sym, ap, subst, ◌∙◌, append_assoc}
-use Rattle.std.specs.BTreeMap.{insert_entry}
-use Rattle.std.specs.List.{list_any}
-use Rattle.qs_base.proofs.Same.{same_tid-true}
-use Rattle.qs_base.specs.Order.{same_tid, tid_cmp}
+use Rattle.qs_world_runs.proofs.Words.{◌≡◌, inl, inr, ℕ, Bool, true, false, List, [], ◌∷◌, ◌++◌, Option, refl, sym, ap, subst, ◌∙◌, append_assoc, insert_entry, list_any, same_tid-true, same_tid, tid_cmp, Tid, Act, Cause, is_quiet, step_work, Event, Doings, Deeds, IsKeptSo, deeds_of, is_noted}
 use Rattle.qs_base.specs.declared.identifiers.Outcome.{Outcome}
 use Rattle.qs_base.specs.declared.identifiers.Outcome.TheVariants as outcomes
-use Rattle.qs_base.specs.declared.identifiers.Tid.{Tid}
-use Rattle.qs_book_journal.specs.declared.entry.Act.{Act}
 use Rattle.qs_book_journal.specs.declared.entry.Act.TheVariants as acts
-use Rattle.qs_ops.specs.declared.answer.Cause.{Cause}
-use Rattle.qs_node_step.specs.Settling.{is_quiet}
 use Rattle.qs_node_step.specs.State.{NodeValue}
-use Rattle.qs_node_step.specs.Step.{step_work}
-use Rattle.qs_node_step.specs.declared.event.Event.{Event}
-use Rattle.qs_node_step.specs.declared.state.Doings.{Doings}
-use Rattle.qs_world_runs.specs.Deeds.{Deeds, IsKeptSo, deeds_of, doings_in}
-use Rattle.qs_world_runs.specs.Firsts.{CommitsFirst, CommitsSo, is_commit_of, is_noted}
+use Rattle.qs_world_runs.specs.Deeds.{doings_in}
+use Rattle.qs_world_runs.specs.Firsts.{CommitsFirst, CommitsSo, is_commit_of}
 use Rattle.qs_world_runs.proofs.TraceStages.{step_done}
 use Rattle.qs_world_runs.proofs.Unnoted.{asked_forbids, lends_unnoted, noted_unnoted, one_more, plain, prepared_unnoted, same_unnoted, served_forbids, still_unnoted, voted_forbids, yielded_forbids}
 

@@ -1,68 +1,31 @@
 -- A step commits of what began elsewhere only what the log of its home has committed: it had the vote in doubt before, and the home's Commit names it for as long.
-use Rattle.std.proofs.Common.{◌≡◌, ◌≢◌, ◌⊎◌, inl, inr, ℕ, ◌<◌, ◌==◌, ◌||◌, ◌&&◌, ◌++◌, not, nat_lt, Bool, true, false, List, [], ◌∷◌, Option, Some, None, is_some, refl, sym, ap, subst, ◌∙◌, arith, if◌then◌else◌}
-use Rattle.std.proofs.lemmas.Bool.Decides.{nat_tests}
-use Rattle.std.proofs.lemmas.List.Folds.{list_any-append}
-use Rattle.std.proofs.lemmas.List.Sums.{fold-append}
-use Rattle.std.specs.List.{list_all, list_any}
-use Rattle.qs_base.proofs.Same.{same_tid-true}
-use Rattle.qs_base.specs.Order.{same_tid}
-use Rattle.qs_base.specs.declared.identifiers.NodeNo.{NodeNo}
+use Rattle.qs_world_runs.proofs.Words.{◌≡◌, ◌≢◌, ◌⊎◌, inl, inr, ℕ, ◌<◌, ◌==◌, ◌||◌, ◌&&◌, ◌++◌, not, nat_lt, Bool, true, false, List, [], ◌∷◌, Option, Some, None, is_some, refl, sym, ap, subst, ◌∙◌, arith, if◌then◌else◌, nat_tests, list_any-append, fold-append, list_all, list_any, same_tid-true, same_tid, NodeNo, ServerNo, Tid, same_node, Act, find_transaction, inc_at, is_among, is_committed, TransactionValue, is_commit, is_unanimous, Record, Recovery, found_record, names_transaction}
+use Rattle.qs_world_runs.proofs.Words.{nothing_said, recovery, effects_of, end_record, Effects, Event, book_of, opened_from, Source, log_after, Host, Opening, World, Committed, may_be_known, IsShown, stage_of, StepMay, step_may, Every, IsCommitLogged, opens_soundly, every_among, lasts_first, lasts_ran, LastsWell, opened_numbered, opening_named, of_some, MakesStep, IsSource, EntersVote, IsVoteDue, Joined, book_in, PlacesAt, eqb-self}
 use Rattle.qs_base.specs.declared.identifiers.Outcome.{Outcome}
 use Rattle.qs_base.specs.declared.identifiers.Outcome.TheVariants as outcomes
-use Rattle.qs_base.specs.declared.identifiers.ServerNo.{ServerNo}
-use Rattle.qs_base.specs.declared.identifiers.Tid.{Tid}
-use Rattle.qs_engage.specs.Nodes.{same_node}
-use Rattle.qs_book_journal.specs.declared.entry.Act.{Act}
-use Rattle.qs_book_machine.specs.Book.{find_transaction, inc_at}
 use Rattle.qs_book_machine.specs.Nodes as machine
-use Rattle.qs_book_machine.specs.Restart.{is_among, is_committed}
-use Rattle.qs_book_machine.specs.Transaction.{TransactionValue, is_commit, is_open, is_unanimous}
+use Rattle.qs_book_machine.specs.Transaction.{is_open}
 use Rattle.qs_ops.specs.declared.vote.Vote.TheVariants as votes
-use Rattle.qs_record.specs.declared.record.Record.{Record}
 use Rattle.qs_record.specs.declared.record.Record.TheVariants as records
-use Rattle.qs_restart.specs.Recovery.{Recovery, found_record, names_transaction, nothing_said, recovery}
 use Rattle.qs_node_step.specs.Answering.{was_committed}
 use Rattle.qs_node_step.specs.Bringing.{is_forced}
 use Rattle.qs_node_step.specs.State.{NodeValue}
-use Rattle.qs_node_step.specs.Step.{effects_of}
-use Rattle.qs_node_step.specs.Telling.{end_record}
-use Rattle.qs_node_step.specs.declared.event.Effects.{Effects}
-use Rattle.qs_node_step.specs.declared.event.Event.{Event}
-use Rattle.qs_world.specs.Histories.{book_of, opened_from}
-use Rattle.qs_world.specs.Moves.{Source, log_after}
 use Rattle.qs_world.specs.Openings.{is_commit_of}
-use Rattle.qs_world.specs.World.{Host, Opening, World}
 use Rattle.qs_world_agree.specs.World as agreement
-use Rattle.qs_world_agree.specs.World.{Committed}
-use Rattle.qs_world_refine.specs.Begun.{may_be_known}
 use Rattle.qs_world_refine.specs.MoveLaws.{AllClose}
 use Rattle.qs_world_refine.specs.SaidLaws.{is_prepare_of}
-use Rattle.qs_world_refine.specs.ShownWorlds.{IsShown}
 use Rattle.qs_world_refine.specs.Sound.{has_doubt}
-use Rattle.qs_world_refine.specs.Steadies.{stage_of}
 use Rattle.qs_world_refine.specs.Tidy.{is_tidy_record}
 use Rattle.qs_world_refine.proofs.Doubts.{some_of}
 use Rattle.qs_world_refine.proofs.DoubtsBefore.{doubt_before}
 use Rattle.qs_world_refine.proofs.LeftLogs.{commits_are_records}
-use Rattle.qs_world_refine.proofs.MoveGoes.{StepMay, step_may}
 use Rattle.qs_world_refine.proofs.NodesAgree.{begun_of}
 use Rattle.qs_world_refine.proofs.SaidSteps.{step_forces, step_owns}
 use Rattle.qs_world_refine.proofs.SoundParts.{and_both}
 use Rattle.qs_world_refine.proofs.SteadyGives.{unbegun_unknown}
-use Rattle.qs_world_lawful.specs.Logs.{Every, IsCommitLogged}
-use Rattle.qs_world_lawful.proofs.CoherentOpenings.{opens_soundly}
-use Rattle.qs_world_lawful.proofs.FoundMembers.{every_among}
-use Rattle.qs_world_lawful.proofs.LastsOpening.{lasts_first, lasts_ran}
-use Rattle.qs_world_lawful.proofs.LastsWell.{LastsWell}
-use Rattle.qs_world_lawful.proofs.NumberedLogs.{opened_numbered, opening_named}
 use Rattle.qs_world_lawful.proofs.OpenedCommits.{commit_among}
-use Rattle.qs_world_lawful.proofs.Truths.{of_some}
-use Rattle.qs_world_runs.specs.Agrees.{MakesStep}
 use Rattle.qs_world_runs.specs.CoherentAgain.{HomeLogged, StepCommitsHome}
-use Rattle.qs_world_runs.specs.CutRecords.{IsSource}
-use Rattle.qs_world_runs.specs.CutVotes.{EntersVote, IsVoteDue, is_due_vote}
-use Rattle.qs_world_runs.specs.Joined.{Joined, book_in}
-use Rattle.qs_world_runs.specs.JoinedPlaces.{PlacesAt}
+use Rattle.qs_world_runs.specs.CutVotes.{is_due_vote}
 use Rattle.qs_world_runs.proofs.AgreesEach as agrees
 use Rattle.qs_world_runs.proofs.CutCommits.{keeps_commits}
 use Rattle.qs_world_runs.proofs.WholeSteps.{whole_steps}
@@ -70,16 +33,7 @@ use Rattle.qs_world_runs.proofs.DueVotes.{steps_vote_due}
 use Rattle.qs_world_runs.proofs.JoinedSteps.{step_lawful}
 use Rattle.qs_world_runs.proofs.RecordSteps.{steps_make_records}
 use Rattle.qs_world_runs.proofs.RisesRunning.{known_committed}
-
-equal : (a : ℕ) → (a == a) ≡ true
-equal a = grind (arith, nat_tests)
-
-clash : (b : Bool) → b ≡ true → b ≡ false → ⊥
-clash b on off = cc (on, off)
-
-not_both : (b : Bool) → not b ≡ true → b ≡ true → ⊥
-not_both true shut is = cc shut
-not_both false shut is = cc is
+use Rattle.qs_base_lemmas.proofs.Tests.{never_both, not_never}
 
 -- ---- what the home has committed and another node's log has in doubt, the home's log has committed
 
@@ -138,8 +92,8 @@ module _ (node : NodeValue) (event : Event) (done : List Act) (tid : Tid) where
       never : (outcome : Outcome) → is_prepare_of tid (end_record told.tid outcome) ≡ true → ⊥
       never outcomes.Commit e = cc e
       never outcomes.Abort e = cc e
-  entered_one (records.Prepare u server covers changes) (inr (inr (inl last))) is = absurd (clash (same_tid tid u) is (ap (is_prepare_of tid) last.is))
-  entered_one (records.Prepare u server covers changes) (inr (inr (inr resumed))) is = absurd (clash (same_tid tid u) is (ap (is_prepare_of tid) resumed.is))
+  entered_one (records.Prepare u server covers changes) (inr (inr (inl last))) is = absurd (never_both (same_tid tid u) is (ap (is_prepare_of tid) last.is))
+  entered_one (records.Prepare u server covers changes) (inr (inr (inr resumed))) is = absurd (never_both (same_tid tid u) is (ap (is_prepare_of tid) resumed.is))
   entered_one (records.Commit u told) source is = absurd (cc is)
   entered_one (records.Aborted u) source is = absurd (cc is)
   entered_one (records.End u) source is = absurd (cc is)
@@ -169,7 +123,7 @@ module _ (o : Opening) (world : World) (n stamp free : ℕ) (source : Source) (e
   low = grind (arith, nat_tests, home_in)
 
   apart : n ≢ tid.home.0
-  apart same = clash (tid.home.0 == tid.home.0) (equal tid.home.0) (subst (λ (k : ℕ). (tid.home.0 == k) ≡ false) same far)
+  apart same = never_both (tid.home.0 == tid.home.0) (eqb-self tid.home.0) (subst (λ (k : ℕ). (tid.home.0 == k) ≡ false) same far)
 
   forces : list_any (is_commit_of tid) out.records ≡ true → out.force ≡ true
   forces some = step_forces host.node event free (agrees.may world j.shown n stamp free source event makes) (agrees.begins_new world j.shown n stamp free source event makes) (j.shown.steady.sound n its.low).node ∙ wider out.records some
@@ -227,7 +181,7 @@ module _ (o : Opening) (world : World) (n stamp free : ℕ) (source : Source) (e
     where
       waits : (b : Bool) → may_be_known world tid ≡ b → list_any (is_prepare_of tid) host.waiting ≡ true → ⊥
       waits true past some = let shown = j.shown.shown tid (begun_of tid world low past) in none_waits tid n _ shown.machine host.waiting (shown.shows.seen.closes n its.low its.runs) some
-      waits false off some = one_of (is_tidy_record (stage_of world n)) (is_prepare_of tid) ⊥ (λ rec tidy is. clash (may_be_known world tid) (past_one rec tidy is) off) host.waiting (j.shown.steady.nodes n its.low).waiting some
+      waits false off some = one_of (is_tidy_record (stage_of world n)) (is_prepare_of tid) ⊥ (λ rec tidy is. never_both (may_be_known world tid) (past_one rec tidy is) off) host.waiting (j.shown.steady.nodes n its.low).waiting some
         where
           past_one : (r : Record) → is_tidy_record (stage_of world n) r ≡ true → is_prepare_of tid r ≡ true → may_be_known world tid ≡ true
           past_one (records.Prepare u server covers changes) tidy is = subst (λ (t : Tid). may_be_known world t ≡ true) (sym (same_tid-true tid u is)) (and_both (may_be_known world u) _ tidy).0
@@ -257,7 +211,7 @@ module _ (o : Opening) (world : World) (n stamp free : ℕ) (source : Source) (e
       late tx other found there committed is =
           let same : tx ≡ other = of_some (sym found ∙ there) in
           let shut : is_commit tx.cell ≡ true = subst (λ (t : TransactionValue). is_commit t.cell ≡ true) (sym same) committed in
-          not_both (is_commit tx.cell) (and_both (is_some tx.asked) (not (is_commit tx.cell)) (and_both (is_some tx.asked && not (is_commit tx.cell)) _ is).0).1 shut
+          not_never (is_commit tx.cell) (and_both (is_some tx.asked) (not (is_commit tx.cell)) (and_both (is_some tx.asked && not (is_commit tx.cell)) _ is).0).1 shut
 
   off : same_node tid.home host.node.setting.node ≡ false
   off = subst (λ (k : NodeNo). (tid.home.0 == k.0) ≡ false) (sym (j.shown.steady.seated.node n its.low)) far

@@ -1,33 +1,14 @@
 -- Over a run the log of another node has a Commit only where the log of the home has one: an old log has it so, each step commits so, and logs only grow.
-use Rattle.std.proofs.Common.{◌≡◌, ◌⊎◌, inl, inr, ℕ, ◌<◌, ◌==◌, ◌||◌, ◌++◌, not, nat_lt, Bool, true, false, List, [], ◌∷◌, Option, Some, None, refl, sym, ap, subst, ◌∙◌, arith, if◌then◌else◌}
-use Rattle.std.proofs.lemmas.Bool.{eqb-true}
-use Rattle.std.proofs.lemmas.Bool.Decides.{nat_tests}
-use Rattle.std.proofs.lemmas.List.Folds.{list_any-append}
-use Rattle.std.specs.List.{list_all, list_any}
-use Rattle.qs_base.proofs.Same.{same_tid-true}
-use Rattle.qs_base.specs.declared.identifiers.Tid.{Tid}
+use Rattle.qs_world_runs.proofs.Words.{◌≡◌, ◌⊎◌, inl, inr, ℕ, ◌<◌, ◌==◌, ◌||◌, ◌++◌, not, nat_lt, Bool, true, false, List, [], ◌∷◌, Option, Some, None, refl, sym, ap, subst, ◌∙◌, arith, if◌then◌else◌, eqb-true, or_right, or_cases, nat_tests, list_any-append, list_all, list_any, same_tid-true, Tid, is_crash, Record, names_transaction, recovered_of, after_step, effects_of, Effects, Event, Move, Source, Step, Cut, Stop, Rise, Meet, event_of, cut_log, cut_with, may_move, may_step, moved}
+use Rattle.qs_world_runs.proofs.Words.{risen_host, step_with, stepped_host, stopped, stopped_host, IsOpening, is_earlier, is_record, Run, Host, Opening, World, start, MakesStep, Joined, AlongRun, PlacesAt}
 use Rattle.qs_session_channels.specs.Network.{with_at}
-use Rattle.qs_book_machine.specs.Clauses.{is_crash}
-use Rattle.qs_record.specs.declared.record.Record.{Record}
 use Rattle.qs_record.specs.declared.record.Record.TheVariants as records
-use Rattle.qs_restart.specs.Recovery.{names_transaction}
-use Rattle.qs_node_step.specs.Opening.{recovered_of}
-use Rattle.qs_node_step.specs.Step.{after_step, effects_of}
-use Rattle.qs_node_step.specs.declared.event.Effects.{Effects}
-use Rattle.qs_node_step.specs.declared.event.Event.{Event}
-use Rattle.qs_world.specs.Moves.{Move, Source, Step, Cut, Stop, Rise, Meet, event_of, cut_log, cut_with, may_move, may_step, moved, risen_host, step_with, stepped_host, stopped, stopped_host}
-use Rattle.qs_world.specs.Openings.{IsOpening, is_commit_of, is_committed_at_home, is_earlier, is_list, is_record}
-use Rattle.qs_world.specs.Runs.{Run}
-use Rattle.qs_world.specs.World.{Host, Opening, World, start}
+use Rattle.qs_world.specs.Openings.{is_commit_of, is_committed_at_home, is_list}
 use Rattle.qs_world_refine.specs.EveryRun.{GrewFrom, is_named_record}
 use Rattle.qs_world_refine.proofs.LogsGrow.{every_log_grows}
 use Rattle.qs_world_refine.proofs.SoundParts.{and_both}
 use Rattle.qs_world_lawful.proofs.CoherentOpenings.{each_is}
-use Rattle.qs_world_runs.specs.Agrees.{MakesStep}
 use Rattle.qs_world_runs.specs.CoherentAgain.{CommitsHome, EachCommitsHome}
-use Rattle.qs_world_runs.specs.Joined.{Joined}
-use Rattle.qs_world_runs.specs.AlongRun.{AlongRun}
-use Rattle.qs_world_runs.specs.JoinedPlaces.{PlacesAt}
 use Rattle.qs_world_runs.proofs.CommitsHome.{one_of, steps_commit_home}
 use Rattle.qs_world_runs.proofs.JoinedMoves.{each_move_joined}
 use Rattle.qs_world_runs.proofs.JoinedOver.{each_opens_joined, each_run_joined}
@@ -44,18 +25,10 @@ module _ (tid : Tid) where
   has_first xs ys is = list_any-append (is_commit_of tid) xs ys ∙ rw is refl
 
   has_last : (xs ys : List Record) → Has tid ys → Has tid (xs ++ ys)
-  has_last xs ys is = list_any-append (is_commit_of tid) xs ys ∙ last (list_any (is_commit_of tid) xs) (list_any (is_commit_of tid) ys) is
-    where
-      last : (a b : Bool) → b ≡ true → (a || b) ≡ true
-      last true b is = refl
-      last false b is = is
+  has_last xs ys is = list_any-append (is_commit_of tid) xs ys ∙ or_right (list_any (is_commit_of tid) xs) (list_any (is_commit_of tid) ys) is
 
   has_split : (xs ys : List Record) → Has tid (xs ++ ys) → Has tid xs ⊎ Has tid ys
-  has_split xs ys is = either (list_any (is_commit_of tid) xs) (list_any (is_commit_of tid) ys) (sym (list_any-append (is_commit_of tid) xs ys) ∙ is)
-    where
-      either : (a b : Bool) → (a || b) ≡ true → (a ≡ true) ⊎ (b ≡ true)
-      either true b is = inl refl
-      either false b is = inr is
+  has_split xs ys is = or_cases (list_any (is_commit_of tid) xs) (list_any (is_commit_of tid) ys) (sym (list_any-append (is_commit_of tid) xs ys) ∙ is)
 
   has_front : (xs : List Record) → Has tid (xs ++ []) → Has tid xs
   has_front xs is = by (has_split xs [] is)

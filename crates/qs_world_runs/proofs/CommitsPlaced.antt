@@ -1,52 +1,28 @@
 -- A commit that the agreement machine has decided is unanimous in the reference machine, where the transaction is so placed.
-use Rattle.std.proofs.Common.{◌≡◌, ◌⊎◌, inl, inr, ℕ, ◌+◌, ◌-◌, ◌<◌, ◌==◌, ◌&&◌, ◌||◌, not, nat_lt, Bool, true, false, List, [], ◌∷◌, ◌++◌, length, map, Option, Some, None, zero, suc, refl, sym, ap, subst, ◌∙◌, arith, if◌then◌else◌}
-use Rattle.std.proofs.lemmas.Bool.{eqb-true}
-use Rattle.std.proofs.lemmas.Bool.Decides.{nat_tests}
-use Rattle.std.specs.List.{flat_map, list_any}
-use Rattle.qs_base.specs.Order.{same_tid}
+use Rattle.qs_world_runs.proofs.Words.{◌≡◌, ◌⊎◌, inl, inr, ℕ, ◌+◌, ◌-◌, ◌<◌, ◌==◌, ◌&&◌, ◌||◌, not, nat_lt, Bool, true, false, List, [], ◌∷◌, ◌++◌, length, map, Option, Some, None, zero, suc, refl, sym, ap, subst, ◌∙◌, arith, if◌then◌else◌, eqb-true, or_parts, and_parts, not-true, nat_tests, list_any, same_tid, ServerNo, Tid, BookValue, find_transaction, TransactionValue, agrees, is_outcome, Cell, Op, Message, is_passive, is_busy, is_lent, doings_of, all_agree, is_ready, needs_pass, member_of}
+use Rattle.qs_world_runs.proofs.Words.{new_participant, Participant, Parcel, IsDoomed, has_request, all_said, scene_of, sight, commit_clear, commit_unmet, steady, face_of, part_or_new, HoldsAt, HoldsStill, HoldsTid, is_asking_for, pending, pending_from, message_of, field_of, asked, Placed, suc_not_zero}
+use Rattle.std.specs.List.{flat_map}
 use Rattle.qs_base.specs.declared.identifiers.Outcome.{Outcome}
 use Rattle.qs_base.specs.declared.identifiers.Outcome.TheVariants as outcomes
-use Rattle.qs_base.specs.declared.identifiers.ServerNo.{ServerNo}
-use Rattle.qs_base.specs.declared.identifiers.Tid.{Tid}
-use Rattle.qs_book_machine.specs.Book.{BookValue, find_transaction}
-use Rattle.qs_book_machine.specs.Transaction.{TransactionValue, agrees, is_open, is_outcome}
-use Rattle.qs_book_machine.specs.declared.transaction.Cell.{Cell}
+use Rattle.qs_book_machine.specs.Transaction.{is_open}
 use Rattle.qs_book_machine.specs.declared.transaction.Cell.TheVariants as cells
-use Rattle.qs_ops.specs.declared.operation.Op.{Op}
-use Rattle.qs_packet.specs.declared.message.Message.{Message}
 use Rattle.qs_packet.specs.declared.message.Message.TheVariants as messages
 use Rattle.qs_ipc.specs.Ipc as ipc
-use Rattle.qs_engage.specs.Engage.{is_passive}
-use Rattle.qs_node_step.specs.Settling.{is_busy, is_lent}
-use Rattle.qs_node_step.specs.State.{NodeValue, doings_of}
+use Rattle.qs_node_step.specs.State.{NodeValue}
 use Rattle.qs_tm.specs.Manager as tm
 use Rattle.qs_tm.specs.Members as rules
 use Rattle.qs_tm.specs.Members.{all_servers}
-use Rattle.qs_tm.specs.Participant.{all_agree, is_due_at, is_ready, needs_pass, member_of, needs_pass, new_participant}
+use Rattle.qs_tm.specs.Participant.{is_due_at}
 use Rattle.qs_tm.specs.declared.participant.Due.TheVariants as dues
-use Rattle.qs_tm.specs.declared.participant.Participant.{Participant}
-use Rattle.qs_world.specs.World.{Parcel}
-use Rattle.qs_world_agree.specs.Doomed.{IsDoomed}
-use Rattle.qs_world_refine.specs.CommitLaws.{has_request, IsIdle}
+use Rattle.qs_world_refine.specs.CommitLaws.{IsIdle}
 use Rattle.qs_world_refine.specs.Links.{node_no}
-use Rattle.qs_world_refine.specs.Messages.{all_said}
-use Rattle.qs_world_refine.specs.Shows.{scene_of, sight}
-use Rattle.qs_world_refine.proofs.CommitIdles.{commit_idle, commit_clear, commit_unmet}
-use Rattle.qs_world_refine.proofs.ShownMoves.{steady}
-use Rattle.qs_world_lawful.specs.Face.{face_of, part_or_new}
-use Rattle.qs_world_lawful.specs.Holds.{HoldsAt, HoldsStill, HoldsTid}
-use Rattle.qs_world_lawful.specs.Parcels.{is_asking_for, pending, pending_from}
+use Rattle.qs_world_refine.proofs.CommitIdles.{commit_idle}
 use Rattle.qs_world_lawful.proofs.Begins.{new_member}
-use Rattle.qs_world_runs.specs.Placed.{message_of, field_of, asked, Placed}
 use Rattle.qs_world_runs.specs.PlacedLaws.{IsFree, IsQuiet, ReadyFree, CommittedFree, CommittedWays, CommittedKeeps, CommittedUnanimous}
 use Rattle.qs_world_runs.proofs.FreeLives.{free_agrees}
 use Rattle.qs_world_runs.proofs.Quiets.{quiet_unanimous}
 
 -- ---- a node that is idle is free
-
-none_of : (a b : Bool) → (a || b) ≡ false → (a ≡ false) × (b ≡ false)
-none_of true b is = absurd (cc is)
-none_of false b is = (refl, is)
 
 -- each server of a node is among them
 server_in : (k : ℕ) → nat_lt k 7 ≡ true → list_any (λ (server : ServerNo). k == server.0) all_servers ≡ true
@@ -58,7 +34,7 @@ none_at p s [] none has = absurd (cc has)
 none_at p s (x ∷ xs) none has = by (s.0 == x.0) refl has (none_at p s xs both.1)
   where
     both : (p x ≡ false) × (list_any p xs ≡ false)
-    both = none_of (p x) (list_any p xs) none
+    both = or_parts (p x) (list_any p xs) none
 
     server_as : ℕ → ServerNo
     server_as k = record { 0 = k }
@@ -78,26 +54,14 @@ idle_free tid node idle = record { idle = idle.waits; unlent = idle.lent; covers
     by : (o : Option Participant) → tm.part_of tid node.manager ≡ o → (server : ServerNo) → nat_lt server.0 7 ≡ true → rules.votes_here server ≡ true → rules.is_covering (member_of (part_or_new (tm.part_of tid node.manager)) server) ≡ true
     by None none server low two = ap (λ (o : Option Participant). rules.is_covering (member_of (part_or_new o) server)) none ∙ ap rules.is_covering (new_member false server)
     by (Some part) known server low two = ap (λ (o : Option Participant). rules.is_covering (member_of (part_or_new o) server)) known
-        ∙ voted_for (rules.votes_here server) (rules.is_covering (member_of part server)) (none_at (is_due_at dues.Vote part) server all_servers (none_of (Rattle.qs_tm.specs.Participant.has_due dues.Vote part) _ (idle.due part known)).0 (server_in server.0 low)) two
+        ∙ voted_for (rules.votes_here server) (rules.is_covering (member_of part server)) (none_at (is_due_at dues.Vote part) server all_servers (or_parts (Rattle.qs_tm.specs.Participant.has_due dues.Vote part) _ (idle.due part known)).0 (server_in server.0 low)) two
 
 -- a node that is ready is idle
 pub ready_free : ReadyFree
-ready_free tid work part known may = idle_free tid work.node (record { waits = (neither (ipc.waits tid work.node.queues) _ busy).0; lent = (neither (is_lent tid work.node) _ (neither (ipc.waits tid work.node.queues) _ busy).1).0; due = λ other its. due other its })
+ready_free tid work part known may = idle_free tid work.node (record { waits = (or_parts (ipc.waits tid work.node.queues) _ busy).0; lent = (or_parts (is_lent tid work.node) _ (or_parts (ipc.waits tid work.node.queues) _ busy).1).0; due = λ other its. due other its })
   where
-    neither : (a b : Bool) → (a || b) ≡ false → (a ≡ false) × (b ≡ false)
-    neither true b is = absurd (cc is)
-    neither false b is = (refl, is)
-
-    two : (a b : Bool) → (a && b) ≡ true → (a ≡ true) × (b ≡ true)
-    two true b is = (refl, is)
-    two false b is = absurd (cc is)
-
-    off : (a : Bool) → not a ≡ true → a ≡ false
-    off true is = absurd (cc is)
-    off false is = refl
-
     parts : (is_ready (is_busy tid work.node part) part ≡ true) × ((not (needs_pass part) && not (doings_of tid work).prepared) ≡ true)
-    parts = two (is_ready (is_busy tid work.node part) part) _ may
+    parts = and_parts (is_ready (is_busy tid work.node part) part) _ may
 
     ready : (a b c d e : Bool) → ((a && b) && ((not c && d) && e)) ≡ true → c ≡ false
     ready true true false d e is = refl
@@ -109,7 +73,7 @@ ready_free tid work part known may = idle_free tid work.node (record { waits = (
     busy = ready part.asked (not part.blocked) (is_busy tid work.node part) (is_passive part.engage) (all_agree part) parts.0
 
     due : (other : Participant) → tm.part_of tid work.node.manager ≡ Some other → needs_pass other ≡ false
-    due other its = let one : part ≡ other = (let both : Some part ≡ Some other = sym known ∙ its in cc (both)) in subst (λ (p : Participant). needs_pass p ≡ false) one (off (needs_pass part) (two (not (needs_pass part)) _ parts.1).0)
+    due other its = let one : part ≡ other = (let both : Some part ≡ Some other = sym known ∙ its in cc (both)) in subst (λ (p : Participant). needs_pass p ≡ false) one (not-true (needs_pass part) (and_parts (not (needs_pass part)) _ parts.1).0)
 
 pub committed_free : CommittedFree
 committed_free tid node q w lawful committed face sound undecided = idle_free tid node (commit_idle tid node q w lawful committed face sound undecided)
@@ -173,12 +137,9 @@ module _ (tid : Tid) (server : ServerNo) (number : ℕ) where
   none_then [] qs p q = q
   none_then (x ∷ xs) qs p q = by (ask x) refl p (λ less. none_then xs qs less q)
     where
-      some : (k : ℕ) → suc k ≡ 0 → ⊥
-      some k is = omega (arith, is)
-
       by : (ops : List Op) → ask x ≡ ops → length (ops ++ flat_map (is_asking_for tid server number) (map message_of xs)) ≡ 0 → (NoneIn xs → NoneIn (xs ++ qs)) → NoneIn (x ∷ xs ++ qs)
       by [] is zero_is more = rw is (more zero_is)
-      by (op ∷ ops) is zero_is more = absurd (some (length (ops ++ flat_map (is_asking_for tid server number) (map message_of xs))) zero_is)
+      by (op ∷ ops) is zero_is more = absurd (suc_not_zero (length (ops ++ flat_map (is_asking_for tid server number) (map message_of xs))) zero_is)
 
   pub none_from : (at : ℕ → List Parcel) → ((i : ℕ) → NoneIn (at i)) → (i more : ℕ) → NoneIn (pending_from at i more)
   none_from at each i zero = refl

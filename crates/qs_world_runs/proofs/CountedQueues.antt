@@ -1,28 +1,15 @@
 -- How many of a number wait at a server once a request came to wait there, and once the first one left.
-use Rattle.std.proofs.Common.{◌≡◌, ℕ, ◌+◌, ◌==◌, ◌&&◌, Bool, true, false, List, [], ◌∷◌, length, Some, suc, refl, sym, ap, subst, ◌∙◌, arith}
-use Rattle.std.proofs.lemmas.Bool.Decides.{nat_tests}
-use Rattle.std.specs.BTreeMap.{is_at}
-use Rattle.std.specs.List.{filter}
-use Rattle.std.specs.Prelude.{drop}
-use Rattle.qs_base.specs.declared.identifiers.ServerNo.{ServerNo}
-use Rattle.qs_base.specs.declared.identifiers.Tid.{Tid}
+use Rattle.qs_world_runs.proofs.Words.{◌≡◌, ℕ, ◌+◌, ◌==◌, ◌&&◌, Bool, true, false, List, [], ◌∷◌, length, Some, suc, refl, sym, ap, subst, ◌∙◌, arith, nat_tests, is_at, filter, drop, ServerNo, Tid, IpcValue, queue_at, server_cmp, QueueValue, first_of, Delivery, RequestNo, filter_last, left_elsewhere, left_here, queued_elsewhere, queued_here, same_server_or, same_Some, eq-eqb}
 use Rattle.qs_ipc.specs.Ipc as ipc
-use Rattle.qs_ipc.specs.Ipc.{IpcValue, queue_at, server_cmp}
-use Rattle.qs_ipc.specs.Queue.{QueueValue, first_of, is_of}
-use Rattle.qs_ipc.specs.declared.delivery.Delivery.{Delivery}
-use Rattle.qs_book_machine.specs.declared.transaction.RequestNo.{RequestNo}
+use Rattle.qs_ipc.specs.Queue.{is_of}
 use Rattle.qs_world_lawful.specs.Face.{is_numbered}
-use Rattle.qs_world_lawful.proofs.Faces.{filter_last, left_elsewhere, left_here, queued_elsewhere, queued_here, same_server_or}
 use Rattle.qs_world_runs.proofs.PlacedServes.{count_more, one_if}
 
 abbrev pub count_in : Tid → RequestNo → ServerNo → IpcValue → ℕ
 count_in t at server queues = length (filter (is_numbered at) (filter (is_of t) (queue_at queues server).waiting))
 
 equal_no : (a b : ServerNo) → a ≡ b → (a.0 == b.0) ≡ true
-equal_no a b is = same a.0 b.0 (ap (λ (s : ServerNo). s.0) is)
-  where
-    same : (a b : ℕ) → a ≡ b → (a == b) ≡ true
-    same a b is = grind (arith, nat_tests, is)
+equal_no a b is = eq-eqb a.0 b.0 (ap (λ (s : ServerNo). s.0) is)
 
 apart_no : (a b : ServerNo) → is_at (server_cmp b) a ≡ false → (b.0 == a.0) ≡ false
 apart_no a b far = grind (arith, nat_tests, far)
@@ -55,11 +42,8 @@ module _ (t : Tid) (at : RequestNo) (queues : IpcValue) (s : ServerNo) (d : Deli
     where
       behind : (ds : List Delivery) → first_of ds ≡ Some d → length (filter (is_numbered at) (filter (is_of t) ds)) ≡ length (filter (is_numbered at) (filter (is_of t) (drop 1 ds))) + one_if (is_of t d && is_numbered at d)
       behind [] is = absurd (cc is)
-      behind (x ∷ ds) is = subst (λ (y : Delivery). length (filter (is_numbered at) (filter (is_of t) (y ∷ ds))) ≡ length (filter (is_numbered at) (filter (is_of t) ds)) + one_if (is_of t d && is_numbered at d)) (one d x (sym is)) (by (is_of t d) (is_numbered at d) refl refl)
+      behind (x ∷ ds) is = subst (λ (y : Delivery). length (filter (is_numbered at) (filter (is_of t) (y ∷ ds))) ≡ length (filter (is_numbered at) (filter (is_of t) ds)) + one_if (is_of t d && is_numbered at d)) (same_Some d x (sym is)) (by (is_of t d) (is_numbered at d) refl refl)
         where
-          one : (a b : Delivery) → Some a ≡ Some b → a ≡ b
-          one a b e = cc e
-
           more : (a : ℕ) → suc a ≡ a + 1
           more a = omega arith
 

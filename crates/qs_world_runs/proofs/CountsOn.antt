@@ -1,39 +1,18 @@
 -- What a server served of a transaction, and what its last vote covers, only grows while its node is involved: so a vote of a step covers at least all that was served as the step began,
 -- and the last vote covers at least as much as each Prepare.
-use Rattle.std.proofs.Common.{◌≡◌, ◌≢◌, ℕ, ◌<◌, ◌≤◌, ◌==◌, ◌+◌, ◌||◌, ◌++◌, append-nil, append_assoc, arith, Bool, true, false, List, [], Option, Some, None, length, nat_lt, refl, sym, ap, subst, ◌∙◌, if◌then◌else◌}
-use Rattle.std.proofs.lemmas.Bool.{eqb-true}
-use Rattle.std.proofs.lemmas.Bool.Decides.{nat_tests}
-use Rattle.std.specs.Prelude.{⊤}
-use Rattle.std.specs.Map.{lookup}
-use Rattle.std.specs.BTreeMap.{is_at}
-use Rattle.qs_base.proofs.Same.{same_tid-true}
-use Rattle.qs_base.specs.Order.{same_tid, tid_cmp}
-use Rattle.qs_base.specs.declared.identifiers.ServerNo.{ServerNo}
-use Rattle.qs_base.specs.declared.identifiers.Tid.{Tid}
-use Rattle.qs_engage.specs.Engage.{last_number}
+use Rattle.qs_world_runs.proofs.Words.{◌≡◌, ◌≢◌, ℕ, ◌<◌, ◌≤◌, ◌==◌, ◌+◌, ◌||◌, ◌++◌, append-nil, append_assoc, arith, Bool, true, false, List, [], Option, Some, None, length, nat_lt, refl, sym, ap, subst, ◌∙◌, if◌then◌else◌, eqb-true, or_left, nat_tests, ⊤, lookup, is_at, same_tid-true, same_tid, tid_cmp, ServerNo, Tid, last_number, Record, Work, with_manager, class_here, is_told_class, no_member, member_of, with_member, MemberPart, Participant, Every, is_kept, every_on, every_append}
 use Rattle.qs_book_laws.proofs.Maps.{lookup_changed}
-use Rattle.qs_record.specs.declared.record.Record.{Record}
 use Rattle.qs_record.specs.declared.record.Record.TheVariants as made
-use Rattle.qs_node_step.specs.State.{Work, part_of, with_manager}
+use Rattle.qs_node_step.specs.State.{part_of}
 use Rattle.qs_tm.specs.Manager as tm
-use Rattle.qs_tm.specs.Members.{class_here, is_told_class, no_member}
 use Rattle.qs_tm.specs.Outcomes as outcome_rules
 use Rattle.qs_tm.specs.Participant as participant
-use Rattle.qs_tm.specs.Participant.{member_of, with_member}
 use Rattle.qs_tm.specs.declared.members.Cast.{Cast}
-use Rattle.qs_tm.specs.declared.members.MemberPart.{MemberPart}
-use Rattle.qs_tm.specs.declared.participant.Participant.{Participant}
 use Rattle.qs_world_refine.proofs.Frames.{part_apart}
-use Rattle.qs_world_lawful.specs.Logs.{Every}
-use Rattle.qs_world_lawful.specs.Holds.{is_kept}
-use Rattle.qs_world_lawful.proofs.LogFrames.{every_on}
-use Rattle.qs_world_lawful.proofs.LogRecords.{every_append}
 use Rattle.qs_world_lawful.proofs.Parts.{set_size, with_other, with_own}
 use Rattle.qs_world_runs.proofs.FewShares.{each_set}
 use Rattle.qs_world_runs.proofs.Goes.{Steady}
-
-pub or_first : (a b : Bool) → a ≡ true → (a || b) ≡ true
-or_first a b is = rw is refl
+use Rattle.qs_base_lemmas.proofs.Tests.{le_one_more}
 
 module _ (t : Tid) (s : ServerNo) (low : s.0 < 7) where
   -- its last vote covers at least c, and it served at least z
@@ -191,9 +170,6 @@ module _ (t : Tid) (s : ServerNo) (low : s.0 < 7) where
       by true is = let e : server ≡ s = one_server server is in of m (member_q ∙ subst (λ (x : ServerNo). member_of (with_member x m p) s ≡ m) (sym e) (with_own s m p a.sized kept_is)) (own e)
       by false is = of (member_of p s) (member_q ∙ with_other server s m p (differ server is)) (record { cast = a.cast; vote = a.vote; least = a.least; most = a.most; more = a.more })
 
-  up_one : (a b : ℕ) → a ≤ b → a ≤ b + 1
-  up_one a b e = omega (arith, e)
-
   pub served_count_on : (tid : Tid) (server : ServerNo) (work : Work) → Counts work (with_manager (tm.served tid server) work)
   served_count_on tid server work = changed_count tid (participant.served server) work (λ p known same c z a. own p c z a) size
     where
@@ -213,12 +189,12 @@ module _ (t : Tid) (s : ServerNo) (low : s.0 < 7) where
 
           later : server ≡ s → IsLater c z m
           later e = subst (λ (x : ServerNo). IsLater c z (record (member_of p x) { served = (member_of p x).served + 1; fresh = true })) (sym e)
-              (record { cast = a.cast; vote = a.vote; least = a.least; most = up_one a.cast.covers (member_of p s).served a.most; more = up_one z (member_of p s).served a.more })
+              (record { cast = a.cast; vote = a.vote; least = a.least; most = le_one_more a.cast.covers (member_of p s).served a.most; more = le_one_more z (member_of p s).served a.more })
 
           by : (b : Bool) → Ahead c z (if b then p
               else record (with_member server (record (member_of p server) { served = (member_of p server).served + 1; fresh = true }) p) { involved = p.involved || is_told_class (class_here server) })
           by true = a
-          by false = ahead_with server m p (record (with_member server m p) { involved = p.involved || is_told_class (class_here server) }) refl (or_first p.involved (is_told_class (class_here server))) c z a later
+          by false = ahead_with server m p (record (with_member server m p) { involved = p.involved || is_told_class (class_here server) }) refl (or_left p.involved (is_told_class (class_here server))) c z a later
 
   pub settled_count : (tid : Tid) (server : ServerNo) (work : Work) → Counts work (with_manager (tm.settled tid server) work)
   settled_count tid server work = changed_count tid (outcome_rules.settled server) work own (λ p. set_size server.0 _ p.members)

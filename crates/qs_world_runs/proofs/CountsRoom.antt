@@ -1,47 +1,13 @@
 -- Where a vote pass is due, commit was asked for; so the transaction began in the run, and files of its node have few changes of it.
-use Rattle.std.proofs.Common.{◌≡◌, ℕ, ◌≤◌, ◌<◌, ◌^◌, ◌&&◌, arith, true, List, [], ◌∷◌, ◌++◌, Option, Some, None, refl, sym, subst, ◌∙◌, not}
-use Rattle.std.specs.BTreeMap.{is_at}
-use Rattle.std.specs.Map.{lookup}
-use Rattle.std.specs.Prelude.{⊤, Bool, false, length, unwrap_or}
-use Rattle.qs_base.specs.Order.{tid_cmp}
-use Rattle.qs_base.specs.declared.identifiers.ClientNo.{ClientNo}
-use Rattle.qs_base.specs.declared.identifiers.Tid.{Tid}
-use Rattle.qs_book_journal.specs.declared.entry.Entry.{Entry}
-use Rattle.qs_node_kept.specs.declared.kept.KeptLabel.{KeptLabel}
-use Rattle.qs_book_laws.proofs.Alikes.{at_exact, tid_itself}
-use Rattle.qs_book_laws.proofs.Rising.{IsBelow, IsRising}
-use Rattle.qs_book_laws.proofs.Steps.{after_both}
-use Rattle.qs_book_machine.specs.Book.{BookValue, find_transaction}
-use Rattle.qs_book_machine.specs.Lawful.{IsLawful, book_after}
-use Rattle.qs_book_machine.specs.Transaction.{TransactionValue}
-use Rattle.qs_ops.specs.Server.{changes_in}
-use Rattle.qs_ops.specs.Table.{share_of}
-use Rattle.qs_packet.specs.declared.message.Message.{Message}
+use Rattle.qs_world_runs.proofs.Words.{◌≡◌, ℕ, ◌≤◌, ◌<◌, ◌^◌, ◌&&◌, arith, true, List, [], ◌∷◌, ◌++◌, Option, Some, None, refl, sym, subst, ◌∙◌, not, is_at, lookup, ⊤, Bool, false, length, unwrap_or, tid_cmp, ClientNo, Tid, Entry, Begun, at_exact, tid_itself, IsBelow, IsRising, after_both, BookValue, find_transaction, book_after, TransactionValue, changes_in, share_of, Message, label_at, due_tids, is_busy, is_put_off, settle_tid, Work, doings_of, work_on, is_owner, Event, needs_pass}
+use Rattle.qs_world_runs.proofs.Words.{new_participant, Participant, book_of, IsOpening, Opening, ComesTo, HoldsWork, book_at, entries_so_far, face_of, AtEach, done_work, first_work, HoldsAt, Every, HasNodeFacts, AreFew, HasRoom, IsOfRun, MayAsk, store_of, and_parts}
+use Rattle.qs_book_machine.specs.Lawful.{IsLawful}
 use Rattle.qs_packet.specs.declared.message.Message.TheVariants as messages
-use Rattle.qs_node_step.specs.Serving.{label_at}
-use Rattle.qs_node_step.specs.Settling.{due_tids, is_busy, is_put_off, settle_tid}
-use Rattle.qs_node_step.specs.State.{NodeValue, Work, doings_of, work_on}
-use Rattle.qs_node_step.specs.Step.{is_owner}
-use Rattle.qs_node_step.specs.declared.event.Event.{Event}
+use Rattle.qs_node_step.specs.State.{NodeValue}
 use Rattle.qs_node_step.specs.declared.event.Event.TheVariants as events
 use Rattle.qs_tm.specs.Manager as tm
-use Rattle.qs_tm.specs.Participant.{needs_pass, new_participant}
-use Rattle.qs_tm.specs.declared.participant.Participant.{Participant}
-use Rattle.qs_world.specs.Histories.{book_of}
-use Rattle.qs_world.specs.Openings.{IsOpening}
-use Rattle.qs_world.specs.World.{Opening}
 use Rattle.qs_world_lawful.specs.BesideStep.{HasCountRoom}
-use Rattle.qs_world_lawful.specs.Coming.{ComesTo}
-use Rattle.qs_world_lawful.specs.Entering.{HoldsWork, book_at, entries_so_far}
-use Rattle.qs_world_lawful.specs.Face.{face_of}
-use Rattle.qs_world_lawful.specs.Given.{AtEach}
-use Rattle.qs_world_lawful.specs.GivenStep.{done_work, first_work}
-use Rattle.qs_world_lawful.specs.Holds.{HoldsAt}
-use Rattle.qs_world_lawful.specs.Logs.{Every}
-use Rattle.qs_world_lawful.specs.NodeFacts.{HasNodeFacts}
-use Rattle.qs_world_runs.specs.Rooms.{AreAsked, AreFew, HasRoom, IsAskedOf, IsFew, IsOfRun}
-use Rattle.qs_world_runs.specs.Stores.{MayAsk, store_of}
-use Rattle.qs_world_runs.proofs.DueParts.{both_and}
+use Rattle.qs_world_runs.specs.Rooms.{AreAsked, IsAskedOf, IsFew}
 use Rattle.qs_world_runs.proofs.FewShares.{each_found, few_share}
 use Rattle.qs_world_runs.proofs.JoinedParts.{lawful_both}
 use Rattle.qs_world_runs.proofs.LaterOwned.{asked_of_run, owned_of_run}
@@ -114,7 +80,7 @@ module _ (o : Opening) (opens : IsOpening o) (history : List Entry) (lawful : Is
     may_ask : (e : Event) → ComesTo before e (work_on node free) → MayAsk T e first
     may_ask (events.Command client line label command) is = λ begun tid found of own. by begun tid found of begun.owner refl own
       where
-        by : (begun : KeptLabel) (tid : Tid) → label_at label first.node ≡ Some begun → begun.tid ≡ Some tid → (c : Option ClientNo) → begun.owner ≡ c → is_owner client c ≡ true → T tid
+        by : (begun : Begun) (tid : Tid) → label_at label first.node ≡ Some begun → begun.tid ≡ Some tid → (c : Option ClientNo) → begun.owner ≡ c → is_owner client c ≡ true → T tid
         by begun tid found of None none own = absurd (cc own)
         by begun tid found of (Some owner) owned own = let at = held.holds.clients.labels label begun tid owner found of owned in
             owned_of_run o opens (history ++ entries_so_far stamp first) lawful_then tid at.tx (found_then tid at.tx at.found) (rw at.owns refl)
@@ -143,7 +109,7 @@ module _ (o : Opening) (opens : IsOpening o) (history : List Entry) (lawful : Is
         less a b p q = omega arith
 
         is_asked : part.asked ≡ true
-        is_asked = (both_and part.asked (not (is_busy tid work.node part)) (both_and (part.asked && not (is_busy tid work.node part)) (needs_pass part && not (is_put_off (doings_of tid work))) due).0).0
+        is_asked = (and_parts part.asked (not (is_busy tid work.node part)) (and_parts (part.asked && not (is_busy tid work.node part)) (needs_pass part && not (is_put_off (doings_of tid work))) due).0).0
 
         of_run : T tid
         of_run = let found : (k : Tid) × (is_at (tid_cmp tid) k ≡ true) × IsAskedOf T (k, part) = each_found (IsAskedOf T) (is_at (tid_cmp tid)) work.node.manager.known part asked known in

@@ -1,32 +1,16 @@
 -- Where all that waits at a node can be counted, each request can be counted at its turn.
-use Rattle.std.proofs.Common.{◌≡◌, ℕ, ◌<◌, ◌≤◌, ◌==◌, ◌&&◌, Bool, true, false, List, [], ◌∷◌, length, fold, nat_lt, refl, sym, ap, subst, ◌∙◌, arith, if◌then◌else◌}
-use Rattle.std.proofs.lemmas.Bool.{eqb-true}
-use Rattle.std.proofs.lemmas.Bool.Decides.{nat_tests}
-use Rattle.qs_base.specs.declared.identifiers.ServerNo.{ServerNo}
-use Rattle.qs_base.specs.declared.identifiers.Tid.{Tid}
+use Rattle.qs_world_runs.proofs.Words.{◌≡◌, ℕ, ◌<◌, ◌==◌, ◌&&◌, Bool, true, false, List, [], ◌∷◌, length, fold, nat_lt, refl, sym, ap, subst, ◌∙◌, arith, if◌then◌else◌, eqb-true, nat_tests, ServerNo, Tid, IpcValue, queue_at, BookValue, known_tids, resume_tid, serve_next, Work, with_node, work_on, Queues, World, server_no, IsShownWorld, is_sound, known_sound, AtEach, first_work, coming_first, some_not_zero}
 use Rattle.qs_ipc.specs.Ipc as ipc
-use Rattle.qs_ipc.specs.Ipc.{IpcValue, queue_at}
 use Rattle.qs_ipc.specs.Queue.{count_of}
-use Rattle.qs_book_machine.specs.Book.{BookValue}
-use Rattle.qs_node_step.specs.Restarts.{known_tids, resume_tid}
-use Rattle.qs_node_step.specs.Serving.{serve_next}
-use Rattle.qs_node_step.specs.State.{NodeValue, Work, with_node, work_on}
-use Rattle.qs_world.specs.Moves.{Queues, may_serve}
-use Rattle.qs_world.specs.World.{World}
+use Rattle.qs_node_step.specs.State.{NodeValue}
+use Rattle.qs_world.specs.Moves.{may_serve}
 use Rattle.qs_world_refine.specs.NodeFaces.{waiting_at}
 use Rattle.qs_world_refine.specs.ServeWhole as machine
-use Rattle.qs_world_refine.specs.Sights.{server_no}
-use Rattle.qs_world_refine.specs.ShownWorlds.{IsShownWorld}
-use Rattle.qs_world_refine.specs.Sound.{is_sound}
 use Rattle.qs_world_refine.proofs.MayCount.{can_count}
 use Rattle.qs_world_refine.proofs.ServeRoom.{IsSized, next_counts, unfull}
-use Rattle.qs_world_refine.proofs.SoundHolds.{known_sound}
 use Rattle.qs_world_refine.proofs.SoundParts.{and_both}
 use Rattle.qs_world_refine.proofs.SoundServe.{serve_next_sound}
-use Rattle.qs_world_lawful.specs.Given.{AtEach}
-use Rattle.qs_world_lawful.specs.GivenStep.{first_work}
 use Rattle.qs_world_lawful.specs.Standing.{CanCount}
-use Rattle.qs_world_lawful.proofs.FirstComes.{coming_first}
 
 -- at a sound node
 record Counts (work : Work) : Type 0 where
@@ -61,11 +45,8 @@ module _ (world : World) (is : IsShownWorld world) (n free : ℕ) (low : n < wor
   room_first stamp before sound = at_turns (ipc.turns (first_work node free).node.queues) (first_work node free) (record { counts = λ tid. by tid node.is_first refl; sound = sound })
     where
       by : (tid : Tid) (b : Bool) → node.is_first ≡ b → machine.CanCount tid (first_work node free)
-      by tid true early = λ part s known below waits. absurd (never (waiting_at (first_work node free).node tid s) waits
+      by tid true early = λ part s known below waits. absurd (some_not_zero (waiting_at (first_work node free).node tid s) waits
           (ap (λ (queues : IpcValue). count_of tid (queue_at queues (server_no s)).waiting) ((coming_first stamp before (work_on node free)).queues ∙ ((is.steady.nodes n low).first early).queues)))
-        where
-          never : (k : ℕ) → 1 ≤ k → k ≡ 0 → ⊥
-          never k some none = omega (arith, some, none)
       by tid false further = subst (λ (work : Work). machine.CanCount tid work) (sym (same further)) (can_count tid node free serves)
         where
           same : node.is_first ≡ false → first_work node free ≡ work_on node free

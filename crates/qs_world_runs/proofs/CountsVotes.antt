@@ -1,47 +1,24 @@
 -- A vote goes with how much its server served, and its Prepare covers as much; and what a rule makes known or forgets leaves the rest: so counts only grow through all that a step does.
-use Rattle.std.proofs.Common.{◌≡◌, ℕ, ◌<◌, ◌≤◌, ◌||◌, arith, Bool, true, false, [], ◌∷◌, Option, Some, None, length, refl, sym, ap, subst, ◌∙◌}
-use Rattle.std.specs.BTreeMap.{is_at}
-use Rattle.qs_base.proofs.TidOrder.{tid_exact}
-use Rattle.qs_base.proofs.Same.{same_tid-true}
-use Rattle.qs_base.specs.Order.{same_tid, tid_cmp}
-use Rattle.qs_base.specs.declared.identifiers.ServerNo.{ServerNo}
-use Rattle.qs_base.specs.declared.identifiers.Tid.{Tid}
+use Rattle.qs_world_runs.proofs.Words.{◌≡◌, ℕ, ◌<◌, ◌≤◌, Bool, true, false, [], ◌∷◌, Option, Some, None, length, refl, sym, ap, subst, ◌∙◌, le_refl, is_at, tid_exact, or-true, same_tid-true, same_tid, tid_cmp, ServerNo, Tid, after_vote, changes_in, Vote, Record, server_at, member_here, tid_of, Work, change_server, with_doings, with_manager, enter_vote, served_count, vote_with, ballot_of, member_of, with_member, MemberPart, Participant, forget_apart, is_kept, or_left, same_Some, some_same}
+use Rattle.qs_world_runs.proofs.Words.{le_le, zero_le}
 use Rattle.qs_book_laws.proofs.Maps.{lookup_changed}
-use Rattle.qs_ops.specs.Server.{after_vote, changes_in}
-use Rattle.qs_ops.specs.declared.vote.Vote.{Vote}
 use Rattle.qs_ops.specs.declared.vote.Vote.TheVariants as votes
-use Rattle.qs_record.specs.declared.record.Record.{Record}
 use Rattle.qs_record.specs.declared.record.Record.TheVariants as made
-use Rattle.qs_node_servers.specs.Servers.{server_at}
-use Rattle.qs_node_step.specs.Bringing.{log, member_here, tid_of}
-use Rattle.qs_node_step.specs.State.{Work, change_server, part_of, with_doings, with_manager}
-use Rattle.qs_node_step.specs.Voting.{enter_vote, served_count, vote_with}
+use Rattle.qs_node_step.specs.Bringing.{log}
+use Rattle.qs_node_step.specs.State.{part_of}
 use Rattle.qs_tm.specs.Manager as tm
-use Rattle.qs_tm.specs.Members.{ballot_of, is_binding}
+use Rattle.qs_tm.specs.Members.{is_binding}
 use Rattle.qs_tm.specs.Outcomes as outcome_rules
 use Rattle.qs_tm.specs.Participant as participant
-use Rattle.qs_tm.specs.Participant.{member_of, with_member}
-use Rattle.qs_tm.specs.declared.members.MemberPart.{MemberPart}
-use Rattle.qs_tm.specs.declared.participant.Participant.{Participant}
-use Rattle.qs_world_refine.proofs.Others.{forget_apart, put_apart}
-use Rattle.qs_world_lawful.specs.Holds.{is_kept}
+use Rattle.qs_world_refine.proofs.Others.{put_apart}
 use Rattle.qs_world_lawful.proofs.Parts.{set_size, with_own}
 use Rattle.qs_world_runs.proofs.FewShares.{each_found, each_left, each_put}
 use Rattle.qs_world_runs.proofs.Goes.{Goes, is_prepare}
 use Rattle.qs_world_runs.proofs.RecordRules.{covers_same}
-use Rattle.qs_world_runs.proofs.CountsOn.{Ahead, AreSized, Counts, IsAheadAt, IsCastIn, IsLater, ahead_steady, ahead_with, both_count, changed_count, keeps_changed, kept_is, one_server, part_count, quiet_count, served_count_on, settled_count, sized_changed, still_count, or_first}
+use Rattle.qs_world_runs.proofs.CountsOn.{Ahead, AreSized, Counts, IsAheadAt, IsCastIn, IsLater, ahead_steady, ahead_with, both_count, changed_count, keeps_changed, kept_is, one_server, part_count, quiet_count, served_count_on, settled_count, sized_changed, still_count}
 
 module _ (t : Tid) (s : ServerNo) (low : s.0 < 7) where
   -- ---- a vote
-
-  least_of : (n : ℕ) → n ≤ n
-  least_of n = omega arith
-
-  through : (a b c : ℕ) → a ≤ b → b ≤ c → a ≤ c
-  through a b c p q = omega (arith, p, q)
-
-  none_less : (n : ℕ) → 0 ≤ n
-  none_less n = omega arith
 
   module _ (tid : Tid) (server : ServerNo) (ballot : Vote) (work : Work) where
     abbrev covers : ℕ
@@ -63,14 +40,14 @@ module _ (t : Tid) (s : ServerNo) (low : s.0 < 7) where
     voting_size p = set_size server.0 (cast_now p) p.members
 
     own_vote : (p : Participant) → part_of tid changed ≡ Some p → same_tid t tid ≡ true → (c z : ℕ) → Ahead t s low c z p → Ahead t s low c z (voting p)
-    own_vote p known same c z a = ahead_with t s low server (cast_now p) p (voting p) refl (or_first p.involved (is_binding (ballot_of ballot))) c z a later
+    own_vote p known same c z a = ahead_with t s low server (cast_now p) p (voting p) refl (or_left p.involved (is_binding (ballot_of ballot))) c z a later
       where
         later : server ≡ s → IsLater t s low c z (cast_now p)
         later e = let is : covers ≡ (member_of p s).served = covers_are p known ∙ ap (λ (x : ServerNo). (member_of p x).served) e in record {
           cast = record { ballot = ballot_of ballot; covers = covers };
           vote = refl;
-          least = subst (λ (n : ℕ). c ≤ n) (sym is) (through c a.cast.covers (member_of p s).served a.least a.most);
-          most = subst (λ (n : ℕ). covers ≤ n) (covers_are p known) (least_of covers);
+          least = subst (λ (n : ℕ). c ≤ n) (sym is) (le_le c a.cast.covers (member_of p s).served a.least a.most);
+          most = subst (λ (n : ℕ). covers ≤ n) (covers_are p known) (le_refl covers);
           more = subst (λ (x : ServerNo). z ≤ (member_of p x).served) (sym e) a.more;
         }
 
@@ -98,10 +75,6 @@ module _ (t : Tid) (s : ServerNo) (low : s.0 < 7) where
       of (made.End tid) e = tt
 
   -- ---- a vote with its Prepare
-
-  or_last : (a : Bool) → (a || true) ≡ true
-  or_last true = refl
-  or_last false = refl
 
   module _ (tid : Tid) (server : ServerNo) (work : Work) (part : Participant) (known : part_of tid work ≡ Some part) where
     abbrev voted : Work
@@ -132,15 +105,15 @@ module _ (t : Tid) (s : ServerNo) (low : s.0 < 7) where
         known = subst (λ (x : Tid). part_of x new ≡ Some (outcome_rules.logged rec (voting tid server votes.Recoverable work part))) tid_is now;
         ahead = record {
           sized = voting_size tid server votes.Recoverable work part ∙ sized_part;
-          involved = or_last part.involved;
+          involved = or-true part.involved;
           cast = record { ballot = ballot_of votes.Recoverable; covers = served_count tid server work };
           vote = ap (λ (m : MemberPart). m.vote) member_now;
-          least = subst (λ (n : ℕ). n ≤ served_count tid server work) (sym (covers_same tid server votes.Recoverable work)) (least_of (served_count tid server work));
-          most = subst (λ (m : MemberPart). served_count tid server work ≤ m.served) (sym member_now) (subst (λ (n : ℕ). served_count tid server work ≤ n) (covers_are tid server votes.Recoverable work part known) (least_of (served_count tid server work)));
-          more = none_less _;
+          least = subst (λ (n : ℕ). n ≤ served_count tid server work) (sym (covers_same tid server votes.Recoverable work)) (le_refl (served_count tid server work));
+          most = subst (λ (m : MemberPart). served_count tid server work ≤ m.served) (sym member_now) (subst (λ (n : ℕ). served_count tid server work ≤ n) (covers_are tid server votes.Recoverable work part known) (le_refl (served_count tid server work)));
+          more = zero_le _;
         };
       },
-      λ c z ahead. let same : ahead.part ≡ part = one_part ahead.part part (sym ahead.known ∙ subst (λ (x : Tid). part_of x work ≡ Some part) tid_is known) in
+      λ c z ahead. let same : ahead.part ≡ part = same_Some ahead.part part (sym ahead.known ∙ subst (λ (x : Tid). part_of x work ≡ Some part) tid_is known) in
           subst (λ (n : ℕ). z ≤ n) (sym (same_covers ∙ ap (λ (x : ServerNo). (member_of part x).served) server_is)) (subst (λ (p : Participant). z ≤ (member_of p s).served) same ahead.ahead.more),
     )
       where
@@ -149,9 +122,6 @@ module _ (t : Tid) (s : ServerNo) (low : s.0 < 7) where
 
         server_is : server ≡ s
         server_is = one_server t s low server at
-
-        one_part : (p q : Participant) → Some p ≡ Some q → p ≡ q
-        one_part p q e = cc e
 
         sized_part : length part.members ≡ 7
         sized_part = (each_found (λ (e : Tid × Participant). length e.1.members ≡ 7) (is_at (tid_cmp tid)) work.node.manager.known part all known).2
@@ -196,10 +166,7 @@ module _ (t : Tid) (s : ServerNo) (low : s.0 < 7) where
           by true same = absurd (never same c z ahead)
 
   forget_count : (tid : Tid) (part : Participant) (work : Work) → part_of tid work ≡ Some part → part.involved ≡ false → Counts t s low work (with_manager (tm.forget tid) work)
-  forget_count tid part work known off = forgotten tid work (λ same c z ahead. cc (off, ap (λ (p : Participant). p.involved) (one (sym known ∙ subst (λ (x : Tid). part_of x work ≡ Some ahead.part) (same_tid-true t tid same) ahead.known)) ∙ ahead.ahead.involved))
-    where
-      one : {x y : Participant} → Some x ≡ Some y → x ≡ y
-      one e = cc e
+  forget_count tid part work known off = forgotten tid work (λ same c z ahead. cc (off, ap (λ (p : Participant). p.involved) (some_same (sym known ∙ subst (λ (x : Tid). part_of x work ≡ Some ahead.part) (same_tid-true t tid same) ahead.known)) ∙ ahead.ahead.involved))
 
   pub counts_go : Goes (Counts t s low)
   counts_go = record {

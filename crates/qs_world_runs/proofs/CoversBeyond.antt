@@ -1,50 +1,19 @@
 -- A vote of a step covers more than what is on record of its member and found in the log: it was due, so the last vote did not cover all that was served as the step began.
-use Rattle.std.proofs.Common.{◌≡◌, ℕ, ◌≤◌, ◌==◌, ◌&&◌, ◌||◌, ◌++◌, arith, not, Bool, true, false, List, [], ◌∷◌, Option, Some, None, is_some, nat_lt, refl, sym, ap, subst, ◌∙◌, nat_le}
-use Rattle.std.proofs.lemmas.Bool.{eqb-true}
-use Rattle.std.proofs.lemmas.Bool.Decides.{nat_tests}
-use Rattle.std.specs.List.{list_any}
-use Rattle.std.specs.Prelude.{slice_get}
-use Rattle.qs_base.specs.Order.{same_tid}
-use Rattle.qs_base.specs.declared.identifiers.Member.{Member}
-use Rattle.qs_base.specs.declared.identifiers.ServerNo.{ServerNo}
-use Rattle.qs_base.specs.declared.identifiers.Tid.{Tid}
-use Rattle.qs_book_journal.specs.declared.entry.Act.{Act}
-use Rattle.qs_book_machine.specs.Book.{BookValue, inc_at}
+use Rattle.qs_world_runs.proofs.Words.{◌≡◌, ℕ, ◌≤◌, ◌==◌, ◌&&◌, ◌||◌, ◌++◌, arith, not, Bool, true, false, List, [], ◌∷◌, Option, Some, None, is_some, nat_lt, refl, sym, ap, subst, ◌∙◌, nat_le, eqb-true, not-true, and_parts, nat_tests, list_any, slice_get, same_tid, Member, ServerNo, Tid, Act, BookValue, inc_at, is_recoverable, is_among, is_found_as, TransactionValue, is_commit, OnRecord, class_of, is_two_phase, Record, Prepared, Recovery, names_transaction, recovery, effects_of, Event}
+use Rattle.qs_world_runs.proofs.Words.{member_of, Participant, Source, Host, Opening, World, StepMay, step_may, IsMarked, Every, found_votes, face_of, part_or_new, HoldsAt, HoldsTid, is_kept, HoldsNodeAt, HoldsUp, every_two, to_votes, MakesStep, HasCast, IsSource, Joined, book_in, entries_in, CoversAt}
 use Rattle.qs_book_machine.specs.Lawful.{IsLawful}
 use Rattle.qs_book_machine.specs.Nodes as machine
-use Rattle.qs_book_machine.specs.Nodes.{is_recoverable}
-use Rattle.qs_book_machine.specs.Restart.{is_among, is_found_as}
-use Rattle.qs_book_machine.specs.Transaction.{TransactionValue, is_commit, part_of}
-use Rattle.qs_book_machine.specs.declared.state.OnRecord.{OnRecord}
-use Rattle.qs_ops.specs.Members.{class_of, is_two_phase}
-use Rattle.qs_record.specs.declared.record.Record.{Record}
+use Rattle.qs_book_machine.specs.Transaction.{part_of}
 use Rattle.qs_record.specs.declared.record.Record.TheVariants as made
-use Rattle.qs_restart.specs.Recovery.{Prepared, Recovery, is_in_doubt, names_transaction, recovery}
+use Rattle.qs_restart.specs.Recovery.{is_in_doubt}
 use Rattle.qs_node_step.specs.State.{NodeValue}
-use Rattle.qs_node_step.specs.Step.{effects_of}
-use Rattle.qs_node_step.specs.declared.event.Event.{Event}
 use Rattle.qs_tm.specs.Manager as tm
 use Rattle.qs_tm.specs.Members as rules
-use Rattle.qs_tm.specs.Participant.{member_of}
 use Rattle.qs_tm.specs.declared.members.Cast.{Cast}
-use Rattle.qs_tm.specs.declared.participant.Participant.{Participant}
-use Rattle.qs_world.specs.Moves.{Source}
-use Rattle.qs_world.specs.World.{Host, Opening, World}
-use Rattle.qs_world_refine.proofs.MoveGoes.{StepMay, step_may}
-use Rattle.qs_world_lawful.specs.Logged.{IsMarked}
-use Rattle.qs_world_lawful.specs.Logs.{Every, found_votes}
-use Rattle.qs_world_lawful.specs.Face.{face_of, part_or_new}
-use Rattle.qs_world_lawful.specs.Holds.{HoldsAt, HoldsTid, HoldsVoter, is_kept}
-use Rattle.qs_world_lawful.specs.Worlds.{HoldsNodeAt, HoldsUp}
-use Rattle.qs_world_lawful.proofs.FoundMembers.{every_two}
+use Rattle.qs_world_lawful.specs.Holds.{HoldsVoter}
 use Rattle.qs_world_lawful.proofs.LogLearning.{any_of}
-use Rattle.qs_world_lawful.proofs.LogRecords.{found_is, is_found, to_votes}
-use Rattle.qs_world_runs.specs.Agrees.{MakesStep}
-use Rattle.qs_world_runs.specs.CoversAhead.{HasCast, IsBeyondVote}
-use Rattle.qs_world_runs.specs.CutRecords.{IsSource}
-use Rattle.qs_world_runs.specs.Joined.{Joined, book_in}
-use Rattle.qs_world_runs.specs.JoinedLaws.{entries_in}
-use Rattle.qs_world_runs.specs.RecordLaws.{CoversAt}
+use Rattle.qs_world_lawful.proofs.LogRecords.{found_is, is_found}
+use Rattle.qs_world_runs.specs.CoversAhead.{IsBeyondVote}
 use Rattle.qs_world_runs.proofs.CoversCounts.{ahead_first}
 use Rattle.qs_world_runs.proofs.CoversRecords.{every_place, small}
 use Rattle.qs_world_runs.proofs.CoversSteps.{OwnVote, StartsAhead, VoteNow, own_vote, source_at, starts_ahead, votes_now}
@@ -78,10 +47,6 @@ module _ (P : Opening → World → Type 0) (o : Opening) (world : World) (j : J
   up : HoldsUp n book at.state host
   up = at.runs its.runs
 
-  and_both : (a b : Bool) → (a && b) ≡ true → (a ≡ true) × (b ≡ true)
-  and_both true b e = (refl, e)
-  and_both false b e = absurd (cc e)
-
   -- ---- its votes cover more
 
   two_phase : (k : ℕ) → ((k == 0) || (k == 1)) ≡ true → is_two_phase (class_of k) ≡ true
@@ -97,12 +62,8 @@ module _ (P : Opening → World → Type 0) (o : Opening) (world : World) (j : J
 
   -- where a vote is due the last one does not cover all that was served
   uncovered : (tid : Tid) (server : ServerNo) (covers : ℕ) (v : OwnVote P o world j h n stamp free source event makes lawful tid server covers) (part : Participant) → tm.part_of tid node.manager ≡ Some part → rules.is_covering (member_of part server) ≡ false
-  uncovered tid server covers v part known = off (rules.is_covering (member_of part server)) (sym voter.is_due ∙ waits)
+  uncovered tid server covers v part known = not-true (rules.is_covering (member_of part server)) (sym voter.is_due ∙ waits)
     where
-      off : (b : Bool) → not b ≡ true → b ≡ false
-      off false e = refl
-      off true e = absurd (cc e)
-
       member : Member
       member = record { node = node.setting.node; server = server }
 
@@ -119,15 +80,12 @@ module _ (P : Opening → World → Type 0) (o : Opening) (world : World) (j : J
       voter = subst (λ (x : Option Participant). HoldsVoter (part_of v.due.tx member node.setting.inc) (member_of (part_or_new x) server)) known ((held.members is_held_now server kept_is).votes (two_phase server.0 v.keeps))
 
       waits : nat_lt (part_of v.due.tx member node.setting.inc).voted (part_of v.due.tx member node.setting.inc).served ≡ true
-      waits = subst (λ (i : ℕ). nat_lt (part_of v.due.tx member i).voted (part_of v.due.tx member i).served ≡ true) inc_is (and_both (nat_lt (part_of v.due.tx member (inc_at book (record { 0 = n }))).voted (part_of v.due.tx member (inc_at book (record { 0 = n }))).served) _ (and_both (is_some v.due.tx.asked && not (is_commit v.due.tx.cell)) _ v.due.due).1).0
+      waits = subst (λ (i : ℕ). nat_lt (part_of v.due.tx member i).voted (part_of v.due.tx member i).served ≡ true) inc_is (and_parts (nat_lt (part_of v.due.tx member (inc_at book (record { 0 = n }))).voted (part_of v.due.tx member (inc_at book (record { 0 = n }))).served) _ (and_parts (is_some v.due.tx.asked && not (is_commit v.due.tx.cell)) _ v.due.due).1).0
 
   beyond_one : (tid : Tid) (server : ServerNo) (covers : ℕ) → OwnVote P o world j h n stamp free source event makes lawful tid server covers → (rec : OnRecord) → list_any (is_found_as (machine.voter tid server.0) rec.covers) (found_votes log) ≡ true → nat_lt rec.covers covers ≡ true
   beyond_one tid server covers v rec found = beyond (any_of (λ (x : Prepared). VoteNow P o world j h n stamp free source event makes lawful x × IsMarked log x) (is_found (machine.voter tid server.0) rec.covers) log.prepared (to_votes (machine.voter tid server.0) rec.covers log found)
       (every_two (VoteNow P o world j h n stamp free source event makes lawful) (IsMarked log) (λ (x : Prepared). VoteNow P o world j h n stamp free source event makes lawful x × IsMarked log x) (λ x a b. (a, b)) log.prepared (votes_now P o world j h n stamp free source event makes lawful) up.log.all.marked))
     where
-      number_is : (a b : ℕ) → (a == b) ≡ true → a ≡ b
-      number_is a b e = grind (arith, nat_tests, e)
-
       below : (r c w z k : ℕ) → nat_le r c ≡ true → c ≤ w → w ≤ z → (w == z) ≡ false → z ≤ k → nat_lt r k ≡ true
       below r c w z k p q a b e = grind (arith, nat_tests, p, q, a, b, e)
 
@@ -135,16 +93,16 @@ module _ (P : Opening → World → Type 0) (o : Opening) (world : World) (j : J
       beyond x = below rec.covers x.0.covers cast.cast.covers (member_of a.part server).served covers less cast.least cast.most uncast (v.cast.1 x.0.covers (member_of a.part server).served (ahead_first P o world j n stamp free source event makes tid server v.low v.apart a.part known a.involved x.0.covers cast))
         where
           parts : (names_transaction x.0.tid ≡ true) × ((same_tid x.0.tid tid && ((x.0.server.0 == server.0) && nat_le rec.covers x.0.covers)) ≡ true)
-          parts = and_both (names_transaction x.0.tid) _ x.1
+          parts = and_parts (names_transaction x.0.tid) _ x.1
 
           same : x.0.tid ≡ tid
           same = (found_is (machine.voter tid server.0) rec.covers x.0 x.1).0
 
           server_is : x.0.server ≡ server
-          server_is = ap (λ (k : ℕ). record { 0 = k }) (number_is x.0.server.0 server.0 (found_is (machine.voter tid server.0) rec.covers x.0 x.1).1)
+          server_is = ap (λ (k : ℕ). record { 0 = k }) (eqb-true x.0.server.0 server.0 (found_is (machine.voter tid server.0) rec.covers x.0 x.1).1)
 
           less : nat_le rec.covers x.0.covers ≡ true
-          less = (and_both (x.0.server.0 == server.0) _ (and_both (same_tid x.0.tid tid) _ parts.1).1).1
+          less = (and_parts (x.0.server.0 == server.0) _ (and_parts (same_tid x.0.tid tid) _ parts.1).1).1
 
           open_vote : x.0.committed ≡ false
           open_vote = by x.0.committed refl

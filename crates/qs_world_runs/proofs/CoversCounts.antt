@@ -1,41 +1,14 @@
 -- Through a whole step the counts of each server only grow, of a transaction whose Commit its node's log does not have.
-use Rattle.std.proofs.Common.{◌≡◌, ℕ, ◌<◌, ◌≤◌, ◌==◌, ◌&&◌, ◌||◌, ◌++◌, arith, Bool, true, false, List, Option, Some, None, length, refl, sym, subst, ◌∙◌}
-use Rattle.std.proofs.lemmas.Bool.{eqb-true}
-use Rattle.std.specs.List.{list_all}
-use Rattle.std.specs.BTreeMap.{is_at}
-use Rattle.qs_base.proofs.Same.{same_tid-true}
-use Rattle.qs_base.specs.Order.{same_tid, tid_cmp}
-use Rattle.qs_base.specs.declared.identifiers.NodeNo.{NodeNo}
-use Rattle.qs_base.specs.declared.identifiers.ServerNo.{ServerNo}
-use Rattle.qs_base.specs.declared.identifiers.Tid.{Tid}
-use Rattle.qs_book_machine.specs.Book.{BookValue}
-use Rattle.qs_book_machine.specs.Restart.{is_among}
+use Rattle.qs_world_runs.proofs.Words.{◌≡◌, ℕ, ◌<◌, ◌==◌, ◌&&◌, ◌++◌, Bool, true, false, List, Option, Some, None, length, refl, sym, subst, ◌∙◌, le_refl, eqb-true, or_right, and_parts, list_all, is_at, same_tid-true, same_tid, tid_cmp, NodeNo, ServerNo, Tid, BookValue, is_among, Record, Recovery, recovery, begin_incarnation, Work, with_manager, work_on, after_step, effects_of, step_work, end_record, Event, member_of, Participant, Source, Host, Opening, World, same_node, is_sound}
+use Rattle.qs_world_runs.proofs.Words.{is_sound_peer, same_flag, StepMay, step_may, Every, HoldsNodeAt, HoldsUp, every_of, every_on, MakesStep, HasCast, Joined, book_in, some_same}
 use Rattle.qs_packet.specs.declared.message.Message.TheVariants as messages
-use Rattle.qs_record.specs.declared.record.Record.{Record}
-use Rattle.qs_restart.specs.Recovery.{Recovery, recovery}
-use Rattle.qs_node_step.specs.Restarts.{begin_incarnation}
-use Rattle.qs_node_step.specs.State.{NodeValue, Work, with_manager, work_on}
-use Rattle.qs_node_step.specs.Step.{after_step, effects_of, step_work}
-use Rattle.qs_node_step.specs.Telling.{end_record}
-use Rattle.qs_node_step.specs.declared.event.Event.{Event}
+use Rattle.qs_node_step.specs.State.{NodeValue}
 use Rattle.qs_node_step.specs.declared.event.Event.TheVariants as events
 use Rattle.qs_tm.specs.Manager as tm
 use Rattle.qs_tm.specs.Members as rules
 use Rattle.qs_tm.specs.Outcomes as outcome_rules
-use Rattle.qs_tm.specs.Participant.{member_of}
-use Rattle.qs_tm.specs.declared.participant.Participant.{Participant}
-use Rattle.qs_world.specs.Moves.{Source}
-use Rattle.qs_world.specs.World.{Host, Opening, World}
-use Rattle.qs_engage.specs.Nodes.{all_nodes, same_node}
-use Rattle.qs_world_refine.specs.Sound.{fits_setting, in_order, is_sound, is_sound_member, is_sound_part, is_sound_peer, is_sound_superior, is_whole, same_flag}
-use Rattle.qs_world_refine.proofs.MoveGoes.{StepMay, step_may}
-use Rattle.qs_world_lawful.specs.Logs.{Every}
-use Rattle.qs_world_lawful.specs.Worlds.{HoldsNodeAt, HoldsUp}
-use Rattle.qs_world_lawful.proofs.CoherentOpenings.{every_of}
-use Rattle.qs_world_lawful.proofs.LogFrames.{every_on}
-use Rattle.qs_world_runs.specs.Agrees.{MakesStep}
-use Rattle.qs_world_runs.specs.CoversAhead.{HasCast}
-use Rattle.qs_world_runs.specs.Joined.{Joined, book_in}
+use Rattle.qs_engage.specs.Nodes.{all_nodes}
+use Rattle.qs_world_refine.specs.Sound.{fits_setting, in_order, is_sound_member, is_sound_part, is_sound_superior, is_whole}
 use Rattle.qs_world_runs.proofs.AgreesEach.{begins_new, steady}
 use Rattle.qs_world_runs.proofs.CountsOn.{AreSized, Counts, IsAheadAt, IsCastIn}
 use Rattle.qs_world_runs.proofs.CountsVotes.{counts_go, ends_count}
@@ -75,13 +48,6 @@ module _ (P : Opening → World → Type 0) (o : Opening) (world : World) (j : J
   sound : is_sound node ≡ true
   sound = ((steady world j.shown n stamp free source event makes).sound n its.low).node
 
-  and_both : (a b : Bool) → (a && b) ≡ true → (a ≡ true) × (b ≡ true)
-  and_both true b e = (refl, e)
-  and_both false b e = absurd (cc e)
-
-  one : {x y : Participant} → Some x ≡ Some y → x ≡ y
-  one e = cc e
-
   -- what is ended is a commit that stands in the log
   listed_then : (tid : Tid) (peer : NodeNo) → tm.all_acknowledged tid peer begun.node.manager ≡ true → is_among log.committed tid ≡ true
   listed_then tid peer all = by (tm.part_of tid begun.node.manager) refl all
@@ -89,13 +55,9 @@ module _ (P : Opening → World → Type 0) (o : Opening) (world : World) (j : J
       r : Resumes node event (work_on node free) begun
       r = begin_incarnation_makes node event (work_on node free) (back_self node.manager)
 
-      or_right : (a b : Bool) → b ≡ true → (a || b) ≡ true
-      or_right true b e = refl
-      or_right false b e = e
-
       by : (x : Option Participant) → tm.part_of tid begun.node.manager ≡ x → ◌≡◌ {A = Bool} (elim x [ None ↦ false | Some part ↦ outcome_rules.is_all_told (outcome_rules.acknowledged peer part) ]) true → is_among log.committed tid ≡ true
       by None none is = absurd (cc is)
-      by (Some part) known is = let listed : part.log.listed ≡ true = (and_both part.log.listed _ is).0 in let w : WasSo node.manager tid part = r.back tid part known (or_right part.log.prepared part.log.listed listed) in
+      by (Some part) known is = let listed : part.log.listed ≡ true = (and_parts part.log.listed _ is).0 in let w : WasSo node.manager tid part = r.back tid part known (or_right part.log.prepared part.log.listed listed) in
           (up.log.knows.parts tid w.was w.known).has_commit (w.listed listed)
 
   module _ (t : Tid) (s : ServerNo) (low : s.0 < 7) (uncommitted : is_among log.committed t ≡ false) where
@@ -127,15 +89,15 @@ module _ (P : Opening → World → Type 0) (o : Opening) (world : World) (j : J
 
     all_sized : AreSized t s low (work_on node free)
     all_sized = every_on (λ (e : Tid × Participant). is_sound_part node e ≡ true) (λ (e : Tid × Participant). length e.1.members ≡ 7) sized node.manager.known
-        (every_of (is_sound_part node) node.manager.known (and_both (in_order node.manager.known) _ (and_both (fits_setting node) _ (and_both (fits_setting node && (in_order node.manager.known && list_all (is_sound_part node) node.manager.known)) _ sound).0).1).1)
+        (every_of (is_sound_part node) node.manager.known (and_parts (in_order node.manager.known) _ (and_parts (fits_setting node) _ (and_parts (fits_setting node && (in_order node.manager.known && list_all (is_sound_part node) node.manager.known)) _ sound).0).1).1)
       where
         sized : (e : Tid × Participant) → is_sound_part node e ≡ true → length e.1.members ≡ 7
         sized e is =
-            let first = (and_both ((is_whole e.1 && same_flag e.1.engage.home (same_node e.0.home node.setting.node)) && (list_all (is_sound_peer node e.1) all_nodes && (list_all (is_sound_member e.1) rules.all_servers && is_sound_superior node e.1))) _ is).0 in
-            let homed = (and_both (is_whole e.1 && same_flag e.1.engage.home (same_node e.0.home node.setting.node)) _ first).0 in
-            let whole = (and_both (is_whole e.1) _ homed).0 in
-            let places = (and_both ((length e.1.engage.peers == 16) && (length e.1.members == 7)) _ whole).0 in
-            eqb-true (length e.1.members) 7 (and_both (length e.1.engage.peers == 16) (length e.1.members == 7) places).1
+            let first = (and_parts ((is_whole e.1 && same_flag e.1.engage.home (same_node e.0.home node.setting.node)) && (list_all (is_sound_peer node e.1) all_nodes && (list_all (is_sound_member e.1) rules.all_servers && is_sound_superior node e.1))) _ is).0 in
+            let homed = (and_parts (is_whole e.1 && same_flag e.1.engage.home (same_node e.0.home node.setting.node)) _ first).0 in
+            let whole = (and_parts (is_whole e.1) _ homed).0 in
+            let places = (and_parts ((length e.1.engage.peers == 16) && (length e.1.members == 7)) _ whole).0 in
+            eqb-true (length e.1.members) 7 (and_parts (length e.1.engage.peers == 16) (length e.1.members == 7) places).1
 
     -- its own batch
     pub casts : Every (IsCastIn t s low (work_on node free) (step_work node event free)) batch
@@ -143,10 +105,7 @@ module _ (P : Opening → World → Type 0) (o : Opening) (world : World) (j : J
 
     -- what the last vote covers as the step begins
     pub ahead_first : (part : Participant) → tm.part_of t node.manager ≡ Some part → part.involved ≡ true → (c : ℕ) → HasCast c (member_of part s) → IsAheadAt t s low c (member_of part s).served (work_on node free)
-    ahead_first part known involved c cast = record { part = part; known = known; ahead = record { sized = (each_found (λ (e : Tid × Participant). length e.1.members ≡ 7) (is_at (tid_cmp t)) node.manager.known part all_sized known).2; involved = involved; cast = cast.cast; vote = cast.vote; least = cast.least; most = cast.most; more = itself (member_of part s).served } }
-      where
-        itself : (k : ℕ) → k ≤ k
-        itself k = omega arith
+    ahead_first part known involved c cast = record { part = part; known = known; ahead = record { sized = (each_found (λ (e : Tid × Participant). length e.1.members ≡ 7) (is_at (tid_cmp t)) node.manager.known part all_sized known).2; involved = involved; cast = cast.cast; vote = cast.vote; least = cast.least; most = cast.most; more = le_refl (member_of part s).served } }
 
     pub cast_last : (c z : ℕ) → IsAheadAt t s low c z (step_work node event free) → (part : Participant) → tm.part_of t (after_step node event free).manager ≡ Some part → HasCast c (member_of part s)
-    cast_last c z a part known = subst (λ (p : Participant). HasCast c (member_of p s)) (one (sym a.known ∙ known)) (record { cast = a.ahead.cast; vote = a.ahead.vote; least = a.ahead.least; most = a.ahead.most })
+    cast_last c z a part known = subst (λ (p : Participant). HasCast c (member_of p s)) (some_same (sym a.known ∙ known)) (record { cast = a.ahead.cast; vote = a.ahead.vote; least = a.ahead.least; most = a.ahead.most })

@@ -1,50 +1,20 @@
 -- The last votes of members cover what the log of their node says of them in doubt as a run begins, and after each move.
-use Rattle.std.proofs.Common.{◌≡◌, ℕ, ◌<◌, ◌≤◌, ◌==◌, ◌++◌, append-nil, arith, not, Bool, true, false, List, [], ◌∷◌, Option, Some, None, refl, sym, ap, subst, ◌∙◌, if◌then◌else◌}
-use Rattle.std.proofs.lemmas.Bool.{eqb-true}
-use Rattle.std.specs.Global.{Global}
-use Rattle.std.specs.List.{list_all}
-use Rattle.std.specs.Prelude.{⊤}
-use Rattle.qs_base.specs.declared.identifiers.Tid.{Tid}
-use Rattle.qs_engage.specs.Nodes.{same_node}
-use Rattle.qs_book_journal.specs.declared.entry.CrashCause.{CrashCause}
+use Rattle.qs_world_runs.proofs.Words.{◌≡◌, ℕ, ◌<◌, ◌≤◌, ◌==◌, ◌++◌, append-nil, not, Bool, true, false, List, [], ◌∷◌, Option, Some, None, refl, sym, ap, subst, ◌∙◌, if◌then◌else◌, le_refl, eqb-true, not-true, Global, list_all, ⊤, Tid, same_node, CrashCause, is_recoverable, is_among, Record, Prepared, Recovery, recovery, recovered_of, after_step, effects_of, Effects, Event, Setting, member_of, MemberPart, Participant, book_of, Cut, Meet, Move, Rise, Source, Step, Stop, cut_log, cut_with}
+use Rattle.qs_world_runs.proofs.Words.{event_of, may_move, moved, risen_host, step_with, stepped_host, stopped, stopped_host, entries_of, Opening, World, start, doubt_at, part_or_new, IsMarked, Every, IsApart, HoldsDown, HoldsNodeAt, HoldsUp, every_two, every_on, world_held, MakesStep, Joined, book_in, CoversAt}
 use Rattle.qs_book_machine.specs.Lawful.{IsLawful}
-use Rattle.qs_book_machine.specs.Nodes.{is_recoverable}
-use Rattle.qs_book_machine.specs.Restart.{is_among}
-use Rattle.qs_record.specs.declared.record.Record.{Record}
-use Rattle.qs_restart.specs.Recovery.{Prepared, Recovery, is_in_doubt, recovery}
-use Rattle.qs_node_step.specs.Opening.{opened_manager, recovered_of}
-use Rattle.qs_node_step.specs.Step.{after_step, effects_of}
-use Rattle.qs_node_step.specs.declared.event.Effects.{Effects}
-use Rattle.qs_node_step.specs.declared.event.Event.{Event}
-use Rattle.qs_node_step.specs.declared.setting.Setting.{Setting}
+use Rattle.qs_restart.specs.Recovery.{is_in_doubt}
+use Rattle.qs_node_step.specs.Opening.{opened_manager}
 use Rattle.qs_tm.specs.Manager as tm
-use Rattle.qs_tm.specs.Participant.{member_of}
 use Rattle.qs_tm.specs.declared.members.Ballot.TheVariants as ballots
-use Rattle.qs_tm.specs.declared.members.MemberPart.{MemberPart}
-use Rattle.qs_tm.specs.declared.participant.Participant.{Participant}
-use Rattle.qs_world.specs.Histories.{book_of}
-use Rattle.qs_world.specs.Moves.{Cut, Meet, Move, Rise, Source, Step, Stop, cut_log, cut_with, event_of, may_move, moved, risen_host, step_with, stepped_host, stopped, stopped_host}
-use Rattle.qs_world.specs.Posting.{entries_of}
-use Rattle.qs_world.specs.World.{Opening, World, start}
 use Rattle.qs_world_refine.proofs.SoundParts.{and_both}
-use Rattle.qs_world_lawful.specs.Doubtful.{doubt_at, member_as}
-use Rattle.qs_world_lawful.specs.Face.{part_or_new}
-use Rattle.qs_world_lawful.specs.Logged.{IsMarked}
-use Rattle.qs_world_lawful.specs.Logs.{Every}
-use Rattle.qs_world_lawful.specs.Said.{IsApart}
-use Rattle.qs_world_lawful.specs.Worlds.{HoldsDown, HoldsNodeAt, HoldsUp}
-use Rattle.qs_world_lawful.proofs.FoundMembers.{every_two}
+use Rattle.qs_world_lawful.specs.Doubtful.{member_as}
 use Rattle.qs_world_lawful.proofs.FoundOnce.{found_once}
-use Rattle.qs_world_lawful.proofs.LogFrames.{every_on}
 use Rattle.qs_world_lawful.proofs.OpenedRecords.{doubts_once}
-use Rattle.qs_world_lawful.proofs.OpenedWorld.{world_held}
 use Rattle.qs_world_lawful.proofs.Reopened.{IsReopened, manager_reopened}
 use Rattle.qs_world_lawful.proofs.RestartVotes.{IsSorted}
 use Rattle.qs_world_lawful.proofs.UntoldListed.{untold_listed}
-use Rattle.qs_world_runs.specs.Agrees.{MakesStep}
 use Rattle.qs_world_runs.specs.CoversAhead.{HostCovers, IsCovered}
-use Rattle.qs_world_runs.specs.Joined.{Joined, book_in}
-use Rattle.qs_world_runs.specs.RecordLaws.{CoversAt, MovesKeepCovers, OpensCovers, VotesAreBeyond}
+use Rattle.qs_world_runs.specs.RecordLaws.{MovesKeepCovers, OpensCovers, VotesAreBeyond}
 use Rattle.qs_world_runs.proofs.CoversBeyond.{votes_beyond}
 use Rattle.qs_world_runs.proofs.CoversRecords.{low_of}
 use Rattle.qs_world_runs.proofs.CoversSteps.{covers_then}
@@ -74,11 +44,8 @@ module _ (alloc : Global) (setting : Setting) (records : List Record) (kinds : E
       (every_on (IsMarked log) (λ (v : Prepared). is_in_doubt v ≡ true → ⊤) (λ v m is. tt) log.prepared marked)
 
   covered : (v : Prepared) → is_recoverable v.server.0 ≡ true → (is_in_doubt v ≡ true → doubt_at log.prepared v.tid v.server.0 ≡ Some v) → IsCovered (opened_manager alloc setting (recovered_of records)) v
-  covered v kept last doubt part known = record { cast = record { ballot = ballots.Recoverable; covers = v.covers }; vote = ap (λ (m : MemberPart). m.vote) member_is; least = itself v.covers; most = subst (λ (m : MemberPart). v.covers ≤ m.served) (sym member_is) (itself v.covers) }
+  covered v kept last doubt part known = record { cast = record { ballot = ballots.Recoverable; covers = v.covers }; vote = ap (λ (m : MemberPart). m.vote) member_is; least = le_refl v.covers; most = subst (λ (m : MemberPart). v.covers ≤ m.served) (sym member_is) (le_refl v.covers) }
     where
-      itself : (k : ℕ) → k ≤ k
-      itself k = omega arith
-
       member_is : member_of part v.server ≡ member_as (Some v)
       member_is = ap (λ (o : Option Participant). member_of (part_or_new o) v.server) (sym known) ∙ ((reopened v.tid).members v.server.0 (low_of v.server kept) ∙ ap member_as (last doubt))
 
@@ -121,10 +88,6 @@ module _ (P : Opening → World → Type 0) (o : Opening) (world : World) (j : J
   rise_covers : (n stamp inc : ℕ) → may_move world (Rise n stamp inc) ≡ true → CoversAt o (moved (Rise n stamp inc) world)
   rise_covers n stamp inc may k low = by (k == n) refl
     where
-      off : (b : Bool) → not b ≡ true → b ≡ false
-      off false e = refl
-      off true e = absurd (cc e)
-
       own : n < world.size → HostCovers (risen_host stamp inc (recovered_of (world.hosts n).log) (world.hosts n))
       own below = subst (λ (records : List Record). Every (IsCovered (risen_host stamp inc (recovered_of (world.hosts n).log) (world.hosts n)).node.manager) (recovery records).prepared) (sym nothing)
           (opened_covers (world.hosts n).node.manager.alloc (record (world.hosts n).node.setting { inc = inc }) (world.hosts n).log down.log.kinds down.marked down.left.apart)
@@ -133,7 +96,7 @@ module _ (P : Opening → World → Type 0) (o : Opening) (world : World) (j : J
           at = j.held.nodes n below
 
           down : HoldsDown n (book_in o world) at.state (world.hosts n)
-          down = at.stopped (off (world.channels.up n) (and_both (not (world.channels.up n)) _ may).0)
+          down = at.stopped (not-true (world.channels.up n) (and_both (not (world.channels.up n)) _ may).0)
 
           nothing : (world.hosts n).log ++ (world.hosts n).waiting ≡ (world.hosts n).log
           nothing = ap (λ (w : List Record). (world.hosts n).log ++ w) down.nothing_waits ∙ append-nil (world.hosts n).log

@@ -1,16 +1,7 @@
 -- What holds of each vote that a log says holds of those that it says with more records, where it holds of each Prepare among these.
-use Rattle.std.proofs.Common.{◌≡◌, ℕ, ◌<◌, ◌==◌, ◌||◌, ◌++◌, append_assoc, arith, not, Bool, true, false, List, [], ◌∷◌, nat_lt, refl, sym, ◌∙◌, fold, if◌then◌else◌}
-use Rattle.std.proofs.lemmas.Bool.Decides.{nat_tests}
-use Rattle.std.specs.List.{filter}
-use Rattle.qs_base.specs.declared.identifiers.ServerNo.{ServerNo}
-use Rattle.qs_base.specs.declared.identifiers.Tid.{Tid}
-use Rattle.qs_book_machine.specs.Nodes.{is_recoverable}
-use Rattle.qs_record.specs.declared.record.Record.{Record}
+use Rattle.qs_world_runs.proofs.Words.{◌≡◌, ℕ, ◌<◌, ◌==◌, ◌||◌, ◌++◌, append_assoc, arith, not, Bool, true, false, List, [], ◌∷◌, nat_lt, refl, sym, ◌∙◌, fold, if◌then◌else◌, nat_tests, filter, ServerNo, Tid, is_recoverable, Record, Prepared, Recovery, found_record, mark_committed, Every, every_append, every_filter, every_map, IsOfPrepare}
 use Rattle.qs_record.specs.declared.record.Record.TheVariants as made
-use Rattle.qs_restart.specs.Recovery.{Prepared, Recovery, found_record, is_of, is_vote_of, mark_committed}
-use Rattle.qs_world_lawful.specs.Logs.{Every}
-use Rattle.qs_world_lawful.proofs.LogRecords.{every_append, every_filter, every_map}
-use Rattle.qs_world_runs.specs.CutVotes.{IsOfPrepare}
+use Rattle.qs_restart.specs.Recovery.{is_of, is_vote_of}
 
 -- ---- a server that keeps its votes in a log is one of a node's
 

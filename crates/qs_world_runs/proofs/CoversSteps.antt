@@ -1,51 +1,17 @@
 -- In a whole step the last votes of members go on to cover what the log says of them in doubt, and its votes cover more.
-use Rattle.std.proofs.Common.{◌≡◌, inl, inr, ℕ, ◌<◌, ◌≤◌, ◌==◌, ◌&&◌, ◌||◌, ◌++◌, arith, not, Bool, true, false, List, [], ◌∷◌, Option, Some, None, refl, sym, ap, subst, ◌∙◌, fold}
-use Rattle.std.proofs.lemmas.Bool.Decides.{nat_tests}
-use Rattle.qs_base.proofs.Same.{same_tid-self}
-use Rattle.qs_base.specs.declared.identifiers.Member.{Member}
+use Rattle.qs_world_runs.proofs.Words.{◌≡◌, inl, inr, ℕ, ◌<◌, ◌≤◌, ◌==◌, ◌&&◌, ◌||◌, ◌++◌, not, Bool, true, false, List, [], ◌∷◌, Option, Some, None, refl, sym, ap, subst, ◌∙◌, fold, same_tid-self, Member, ServerNo, Tid, Act, BookValue, cell_of_transaction, inc_at, has_vote, is_recoverable, is_among, is_commit, Cell, Op, Record, Prepared, Recovery, found_record, names_transaction, recovery, work_on, after_step, effects_of, step_work, end_record, Event, member_of, Participant, Source, Host}
+use Rattle.qs_world_runs.proofs.Words.{Opening, World, StepMay, step_may, HasCommitted, Every, IsApart, HoldsNodeAt, HoldsUp, every_two, in_runs, LastsWell, every_on, MakesStep, HasCast, IsSource, IsOfPrepare, IsVoteDue, Joined, book_in, entries_in, CoversAt, not-true, and_parts, some_same, eqb-self}
 use Rattle.qs_base.specs.declared.identifiers.Outcome.{Outcome}
 use Rattle.qs_base.specs.declared.identifiers.Outcome.TheVariants as outcomes
-use Rattle.qs_base.specs.declared.identifiers.ServerNo.{ServerNo}
-use Rattle.qs_base.specs.declared.identifiers.Tid.{Tid}
-use Rattle.qs_book_journal.specs.declared.entry.Act.{Act}
-use Rattle.qs_book_machine.specs.Book.{BookValue, cell_of_transaction, inc_at}
-use Rattle.qs_book_machine.specs.Clauses.{has_vote}
 use Rattle.qs_book_machine.specs.Lawful.{IsLawful}
-use Rattle.qs_book_machine.specs.Nodes.{is_recoverable}
-use Rattle.qs_book_machine.specs.Restart.{is_among}
-use Rattle.qs_book_machine.specs.Transaction.{is_commit}
-use Rattle.qs_book_machine.specs.declared.transaction.Cell.{Cell}
 use Rattle.qs_book_machine.specs.declared.transaction.Cell.TheVariants as cells
-use Rattle.qs_ops.specs.declared.operation.Op.{Op}
 use Rattle.qs_ops.specs.declared.vote.Vote.TheVariants as votes
-use Rattle.qs_record.specs.declared.record.Record.{Record}
 use Rattle.qs_record.specs.declared.record.Record.TheVariants as made
-use Rattle.qs_restart.specs.Recovery.{Prepared, Recovery, found_record, is_in_doubt, names_transaction, recovery}
-use Rattle.qs_node_step.specs.State.{NodeValue, work_on}
-use Rattle.qs_node_step.specs.Step.{after_step, effects_of, step_work}
-use Rattle.qs_node_step.specs.Telling.{end_record}
-use Rattle.qs_node_step.specs.declared.event.Event.{Event}
+use Rattle.qs_restart.specs.Recovery.{is_in_doubt}
+use Rattle.qs_node_step.specs.State.{NodeValue}
 use Rattle.qs_tm.specs.Manager as tm
-use Rattle.qs_tm.specs.Participant.{member_of}
-use Rattle.qs_tm.specs.declared.participant.Participant.{Participant}
-use Rattle.qs_world.specs.Moves.{Source}
-use Rattle.qs_world.specs.World.{Host, Opening, World}
-use Rattle.qs_world_refine.proofs.MoveGoes.{StepMay, step_may}
-use Rattle.qs_world_lawful.specs.Logged.{HasCommitted, IsKnown, IsPrepared}
-use Rattle.qs_world_lawful.specs.Logs.{Every}
-use Rattle.qs_world_lawful.specs.Said.{IsApart}
-use Rattle.qs_world_lawful.specs.Worlds.{HoldsNodeAt, HoldsUp}
-use Rattle.qs_world_lawful.proofs.FoundMembers.{every_two}
-use Rattle.qs_world_lawful.proofs.LastsAlways.{in_runs}
-use Rattle.qs_world_lawful.proofs.LastsWell.{LastsWell}
-use Rattle.qs_world_lawful.proofs.LogFrames.{every_on}
-use Rattle.qs_world_runs.specs.Agrees.{MakesStep}
-use Rattle.qs_world_runs.specs.CoversAhead.{HasCast, IsCovered}
-use Rattle.qs_world_runs.specs.CutRecords.{IsSource}
-use Rattle.qs_world_runs.specs.CutVotes.{IsOfPrepare, IsVoteDue}
-use Rattle.qs_world_runs.specs.Joined.{Joined, book_in}
-use Rattle.qs_world_runs.specs.JoinedLaws.{entries_in}
-use Rattle.qs_world_runs.specs.RecordLaws.{CoversAt}
+use Rattle.qs_world_lawful.specs.Logged.{IsKnown, IsPrepared}
+use Rattle.qs_world_runs.specs.CoversAhead.{IsCovered}
 use Rattle.qs_world_runs.proofs.CountsOn.{IsAheadAt, IsCastIn}
 use Rattle.qs_world_runs.proofs.DueVotes.{steps_vote_due}
 use Rattle.qs_world_runs.proofs.JoinedLogged.{every_made}
@@ -92,10 +58,6 @@ module _ (P : Opening → World → Type 0) (o : Opening) (world : World) (j : J
 
   -- ---- through the step
 
-  and_both : (a b : Bool) → (a && b) ≡ true → (a ≡ true) × (b ≡ true)
-  and_both true b e = (refl, e)
-  and_both false b e = absurd (cc e)
-
   -- ---- what the log says in doubt
 
   -- what is known of each vote of the log
@@ -106,11 +68,7 @@ module _ (P : Opening → World → Type 0) (o : Opening) (world : World) (j : J
     pub apart : is_in_doubt v ≡ true → is_among log.committed v.tid ≡ false
 
   doubt_is : (v : Prepared) → is_in_doubt v ≡ true → (names_transaction v.tid ≡ true) × (v.committed ≡ false)
-  doubt_is v is = let p = and_both (names_transaction v.tid) (not v.committed) is in (p.0, off v.committed p.1)
-    where
-      off : (b : Bool) → not b ≡ true → b ≡ false
-      off false e = refl
-      off true e = absurd (cc e)
+  doubt_is v is = let p = and_parts (names_transaction v.tid) (not v.committed) is in (p.0, not-true v.committed p.1)
 
   pub votes_now : Every VoteNow log.prepared
   votes_now = every_two (λ (v : Prepared). (is_recoverable v.server.0 ≡ true) × IsCovered node.manager v) (λ (v : Prepared). IsKnown node.manager v × IsApart log v) VoteNow
@@ -164,12 +122,9 @@ module _ (P : Opening → World → Type 0) (o : Opening) (world : World) (j : J
       off true true c e = absurd (cc e)
       off false true c e = absurd (cc e)
 
-      same_cell : {x y : Cell} → Some x ≡ Some y → x ≡ y
-      same_cell e = cc e
-
       by : (b : Bool) → is_among log.committed tid ≡ b → is_among log.committed tid ≡ false
       by false is = is
-      by true among = absurd (let is : due.tx.cell ≡ cells.Commit = same_cell (sym (ap cell_of_transaction due.found) ∙ committed tid among) in cc (off _ (is_commit due.tx.cell) _ due.due, ap is_commit is))
+      by true among = absurd (let is : due.tx.cell ≡ cells.Commit = some_same (sym (ap cell_of_transaction due.found) ∙ committed tid among) in cc (off _ (is_commit due.tx.cell) _ due.due, ap is_commit is))
 
   pub record OwnVote (tid : Tid) (server : ServerNo) (covers : ℕ) : Type 0 where
     pub low : server.0 < 7
@@ -192,7 +147,7 @@ module _ (P : Opening → World → Type 0) (o : Opening) (world : World) (j : J
     due = due;
     apart = uncommitted;
     cast = at_place (IsCastIn tid server below (work_on node free) (step_work node event free)) before (made.Prepare tid server covers changes) after
-        (subst (λ (rs : List Record). Every (IsCastIn tid server below (work_on node free) (step_work node event free)) rs) is (casts P o world j n stamp free source event makes tid server below uncommitted)) (same_tid-self tid) (itself server.0);
+        (subst (λ (rs : List Record). Every (IsCastIn tid server below (work_on node free) (step_work node event free)) rs) is (casts P o world j n stamp free source event makes tid server below uncommitted)) (same_tid-self tid) (eqb-self server.0);
   }
     where
       member : Member
@@ -214,9 +169,6 @@ module _ (P : Opening → World → Type 0) (o : Opening) (world : World) (j : J
           wider true b c e = refl
           wider false true c e = refl
           wider false false c e = absurd (cc e)
-
-      itself : (k : ℕ) → (k == k) ≡ true
-      itself k = grind (arith, nat_tests)
 
   own_then : (rec : Record) (before after : List Record) → batch ≡ before ++ rec ∷ after → IsSource node event done rec → IsOfPrepare Then rec
   own_then (made.Prepare tid server covers changes) before after is from = let v : OwnVote tid server covers = own_vote tid server covers changes before after is from in λ doubt part known. cast_last P o world j n stamp free source event makes tid server v.low v.apart covers 0 v.cast.0 part known

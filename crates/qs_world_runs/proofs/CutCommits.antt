@@ -1,46 +1,13 @@
 -- What a step leaves in its node's log, of what the machine had before it. Each Commit is of what the step committed, which stood and was unanimous before, or was committed before.
-use Rattle.std.proofs.Common.{◌≡◌, inr, ℕ, ◌+◌, ◌==◌, ◌||◌, ◌++◌, Bool, true, false, List, [], ◌∷◌, Option, Some, None, refl, sym, ap, subst, ◌∙◌, arith, if◌then◌else◌}
-use Rattle.std.proofs.lemmas.Bool.Decides.{nat_tests}
-use Rattle.std.specs.List.{list_any}
-use Rattle.qs_base.proofs.Same.{same_tid-self}
-use Rattle.qs_base.specs.Order.{same_tid}
-use Rattle.qs_base.specs.declared.identifiers.Tid.{Tid}
-use Rattle.qs_book_journal.specs.declared.entry.Act.{Act}
-use Rattle.qs_book_journal.specs.declared.entry.Entry.{Entry}
-use Rattle.qs_book_laws.proofs.Steps.{after_both}
-use Rattle.qs_book_machine.specs.Book.{BookValue, cell_of_transaction, find_transaction}
+use Rattle.qs_world_runs.proofs.Words.{◌≡◌, inr, ℕ, ◌+◌, ◌==◌, ◌++◌, Bool, true, false, List, [], ◌∷◌, Option, Some, None, refl, sym, ap, subst, ◌∙◌, arith, if◌then◌else◌, nat_tests, list_any, same_tid-self, same_tid, Tid, Act, Entry, after_both, BookValue, cell_of_transaction, find_transaction, is_committed, TransactionValue, Cell, Record, Prepared, recovery, after_step, effects_of, Event, book_of, opened_from, Source, log_after, step_with, stepped_host, taken_by, entries_of, Opening, World}
+use Rattle.qs_world_runs.proofs.Words.{up_taken, up_all, Lasts, HasCommitted, IsMarked, Every, IsCommitLogged, IsApart, HoldsNodeAt, HoldsUp, goes_aside, opens_soundly, in_runs, lasts_first, lasts_ran, LastsWell, opened_numbered, opening_named, MakesStep, KeptVotes, Joined, book_in, AfterStep, WholeSteps, StaysUnanimousThen, book_then, PlacesAt, or-true, eqb-self, apart_turned}
 use Rattle.qs_book_machine.specs.Lawful.{IsLawful}
 use Rattle.qs_book_machine.specs.Nodes as machine
-use Rattle.qs_book_machine.specs.Restart.{is_committed}
-use Rattle.qs_book_machine.specs.Transaction.{TransactionValue, is_open}
-use Rattle.qs_book_machine.specs.declared.transaction.Cell.{Cell}
+use Rattle.qs_book_machine.specs.Transaction.{is_open}
 use Rattle.qs_book_machine.specs.declared.transaction.Cell.TheVariants as cells
-use Rattle.qs_record.specs.declared.record.Record.{Record}
-use Rattle.qs_restart.specs.Recovery.{Prepared, recovery}
-use Rattle.qs_node_step.specs.Step.{after_step, effects_of}
-use Rattle.qs_node_step.specs.declared.event.Event.{Event}
-use Rattle.qs_world.specs.Histories.{book_of, opened_from}
-use Rattle.qs_world.specs.Moves.{Source, log_after, step_with, stepped_host, taken_by}
-use Rattle.qs_world.specs.Posting.{entries_of}
-use Rattle.qs_world.specs.World.{Opening, World}
-use Rattle.qs_world_refine.proofs.Moving.{up_taken}
-use Rattle.qs_world_refine.proofs.Posted.{up_all}
-use Rattle.qs_world_lawful.specs.Lasting.{Lasts}
-use Rattle.qs_world_lawful.specs.Logged.{HasCommitted, IsMarked}
-use Rattle.qs_world_lawful.specs.Logs.{Every, IsCommitLogged}
-use Rattle.qs_world_lawful.specs.Said.{IsApart, IsUndone}
-use Rattle.qs_world_lawful.specs.Worlds.{HoldsNodeAt, HoldsUp}
-use Rattle.qs_world_lawful.proofs.AsideGoes.{GoesAside, goes_aside}
-use Rattle.qs_world_lawful.proofs.CoherentOpenings.{opens_soundly}
-use Rattle.qs_world_lawful.proofs.LastsAlways.{in_runs}
-use Rattle.qs_world_lawful.proofs.LastsOpening.{lasts_first, lasts_ran}
-use Rattle.qs_world_lawful.proofs.LastsWell.{LastsWell}
-use Rattle.qs_world_lawful.proofs.NumberedLogs.{opened_numbered, opening_named}
-use Rattle.qs_world_runs.specs.Agrees.{MakesStep}
-use Rattle.qs_world_runs.specs.CutCommits.{EachKeepsCommits, EachKeepsVotes, KeptVotes}
-use Rattle.qs_world_runs.specs.Joined.{Joined, book_in}
-use Rattle.qs_world_runs.specs.JoinedLaws.{AfterStep, WholeSteps, StaysUnanimousThen, book_then}
-use Rattle.qs_world_runs.specs.JoinedPlaces.{PlacesAt}
+use Rattle.qs_world_lawful.specs.Said.{IsUndone}
+use Rattle.qs_world_lawful.proofs.AsideGoes.{GoesAside}
+use Rattle.qs_world_runs.specs.CutCommits.{EachKeepsCommits, EachKeepsVotes}
 use Rattle.qs_world_runs.proofs.JoinedHeld.{held_then}
 use Rattle.qs_world_runs.proofs.JoinedLogged.{every_made}
 use Rattle.qs_world_runs.proofs.JoinedParts.{lawful_both}
@@ -49,14 +16,8 @@ use Rattle.qs_world_runs.proofs.StepUnanimous.{steps_stay_unanimous}
 use Rattle.qs_world_runs.proofs.WholeSteps.{whole_steps}
 use Rattle.qs_world_runs.proofs.UnanimousEarlier.{stood_earlier, unanimous_earlier}
 
-equal : (a : ℕ) → (a == a) ≡ true
-equal a = grind (arith, nat_tests)
-
 next_apart : (a : ℕ) → (a == a + 1) ≡ false
 next_apart a = grind (arith, nat_tests)
-
-turned : (a b : ℕ) → (a == b) ≡ false → (b == a) ≡ false
-turned a b e = grind (arith, nat_tests, e)
 
 module _ (P : Opening → World → Type 0) (steps : WholeSteps P) (unanimous : AfterStep P StaysUnanimousThen) (o : Opening) (world : World) (n stamp free : ℕ) (source : Source) (event : Event) (j : Joined P o world) (makes : MakesStep world n stamp source event) where
   abbrev book : BookValue
@@ -88,7 +49,7 @@ module _ (P : Opening → World → Type 0) (steps : WholeSteps P) (unanimous : 
   ups = ap (λ (f : ℕ → Bool). f n) (up_all n stamp (effects_of (world.hosts n).node event free).messages (taken_by world n source) ∙ up_taken world n source) ∙ step_up P steps o world j n stamp free source event makes
 
   logs : (after.hosts n).log ≡ log
-  logs = picked (n == n) (equal n)
+  logs = picked (n == n) (eqb-self n)
     where
       picked : (b : Bool) → b ≡ true → (if b then stepped_host stamp (after_step (world.hosts n).node event free) (effects_of (world.hosts n).node event free) (world.hosts n) else world.hosts n).log ≡ log_after (world.hosts n) (effects_of (world.hosts n).node event free)
       picked b is = rw is refl
@@ -105,7 +66,7 @@ module _ (P : Opening → World → Type 0) (steps : WholeSteps P) (unanimous : 
     where
       all : (acts : List Act) → Every (λ (entry : Entry). (entry.node.0 == k) ≡ false) (entries_of n stamp acts)
       all [] = tt
-      all (act ∷ acts) = (turned k n far, all acts)
+      all (act ∷ acts) = (apart_turned k n far, all acts)
 
   -- what was committed is
   committed_on : (tid : Tid) → HasCommitted book tid → HasCommitted now tid
@@ -113,7 +74,7 @@ module _ (P : Opening → World → Type 0) (steps : WholeSteps P) (unanimous : 
     where
       by : (x : Option TransactionValue) → find_transaction book tid ≡ x → HasCommitted now tid
       by None none = absurd (cc (was, ap cell_of_transaction none))
-      by (Some tx) found = let p = aside (n + 1) (turned n (n + 1) (next_apart n)) tid tx found in ap cell_of_transaction p.1 ∙ (ap (λ (c : Cell). Some c) (p.2.shut (shut tx.cell cell)) ∙ ap (λ (c : Cell). Some c) cell)
+      by (Some tx) found = let p = aside (n + 1) (apart_turned n (n + 1) (next_apart n)) tid tx found in ap cell_of_transaction p.1 ∙ (ap (λ (c : Cell). Some c) (p.2.shut (shut tx.cell cell)) ∙ ap (λ (c : Cell). Some c) cell)
         where
           some : Some tx.cell ≡ Some cells.Commit → tx.cell ≡ cells.Commit
           some e = cc e
@@ -145,7 +106,7 @@ module _ (P : Opening → World → Type 0) (steps : WholeSteps P) (unanimous : 
 
     of_cell : (tx : TransactionValue) → find_transaction book tid ≡ Some tx → (c : Cell) → tx.cell ≡ c → is_committed n tid (Some tx) ≡ true
     of_cell tx found cells.Commit is = rw is refl
-    of_cell tx found cells.Abort is = absurd (let p = aside (n + 1) (turned n (n + 1) (next_apart n)) tid tx found in let stays : p.0.cell ≡ tx.cell = p.2.shut (rw is refl) in let then_is : p.0.cell ≡ cells.Commit = cell_then p.0 p.1 in cc (is, stays, then_is))
+    of_cell tx found cells.Abort is = absurd (let p = aside (n + 1) (apart_turned n (n + 1) (next_apart n)) tid tx found in let stays : p.0.cell ≡ tx.cell = p.2.shut (rw is refl) in let then_is : p.0.cell ≡ cells.Commit = cell_then p.0 p.1 in cc (is, stays, then_is))
     of_cell tx found cells.Open is = by (tid.home.0 == n) refl
       where
         by : (b : Bool) → (tid.home.0 == n) ≡ b → is_committed n tid (Some tx) ≡ true
@@ -163,11 +124,7 @@ module _ (P : Opening → World → Type 0) (steps : WholeSteps P) (unanimous : 
       first t ts = rw (same_tid-self t) refl
 
       behind : (tid t : Tid) (ts : List Tid) → list_any (same_tid tid) ts ≡ true → list_any (same_tid tid) (t ∷ ts) ≡ true
-      behind tid t ts is = rw is (or_true (same_tid tid t))
-        where
-          or_true : (b : Bool) → (b || true) ≡ true
-          or_true true = refl
-          or_true false = refl
+      behind tid t ts is = rw is (or-true (same_tid tid t))
 
       each : (tids : List Tid) → ((tid : Tid) → list_any (same_tid tid) tids ≡ true → list_any (same_tid tid) (recovery log).committed ≡ true) → Every (IsCommitLogged n book state) tids
       each [] sub = tt

@@ -1,13 +1,9 @@
 -- A vote that was due as its node stopped could be made then: what was asked for and where it was crossed stands before the crash.
-use Rattle.std.proofs.Common.{◌≡◌, ◌&&◌, ◌||◌, not, Bool, true, false, refl}
-use Rattle.std.specs.Prelude.{is_some, nat_lt}
-use Rattle.qs_book_machine.specs.Clauses.{has_vote}
-use Rattle.qs_book_machine.specs.Nodes.{pending_at}
+use Rattle.qs_world_runs.proofs.Words.{◌≡◌, ◌&&◌, ◌||◌, not, Bool, true, false, refl, is_some, nat_lt, has_vote, pending_at, is_commit, is_covering, is_crossed, is_empty, and_parts}
 use Rattle.qs_book_machine.specs.Restart.{member_at}
-use Rattle.qs_book_machine.specs.Transaction.{is_before, is_commit, is_covering, is_crossed, is_empty, part_of, was_crossed}
+use Rattle.qs_book_machine.specs.Transaction.{is_before, part_of, was_crossed}
 use Rattle.qs_ops.specs.declared.vote.Vote.TheVariants as votes
 use Rattle.qs_world_runs.specs.CutVotes.{DueVotesCut}
-use Rattle.qs_world_runs.proofs.DueParts.{both_and}
 
 all : (vote before committed late less covers crossed pending : Bool) → vote ≡ true → before ≡ true → not committed ≡ true → less ≡ true → covers ≡ true → (crossed || pending) ≡ true
     → (vote && ((before && not (committed && late)) && ((less && covers) && (crossed || pending)))) ≡ true
@@ -20,9 +16,9 @@ all false before committed late less covers crossed pending a b c d e f = absurd
 
 pub due_votes_cut : DueVotesCut
 due_votes_cut n stamp cause book state vote tx found marked due has held =
-    let p = both_and (is_some tx.asked && not (is_commit tx.cell)) (nat_lt (part_of tx (member_at n vote.server.0) state.inc).voted (part_of tx (member_at n vote.server.0) state.inc).served && is_covering tx (member_at n vote.server.0) state.inc vote.covers) due in
-    let asked = both_and (is_some tx.asked) (not (is_commit tx.cell)) p.0 in
-    let counts = both_and (nat_lt (part_of tx (member_at n vote.server.0) state.inc).voted (part_of tx (member_at n vote.server.0) state.inc).served) (is_covering tx (member_at n vote.server.0) state.inc vote.covers) p.1 in
+    let p = and_parts (is_some tx.asked && not (is_commit tx.cell)) (nat_lt (part_of tx (member_at n vote.server.0) state.inc).voted (part_of tx (member_at n vote.server.0) state.inc).served && is_covering tx (member_at n vote.server.0) state.inc vote.covers) due in
+    let asked = and_parts (is_some tx.asked) (not (is_commit tx.cell)) p.0 in
+    let counts = and_parts (nat_lt (part_of tx (member_at n vote.server.0) state.inc).voted (part_of tx (member_at n vote.server.0) state.inc).served) (is_covering tx (member_at n vote.server.0) state.inc vote.covers) p.1 in
     record {
       tx = tx;
       found = found;

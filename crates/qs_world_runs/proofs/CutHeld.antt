@@ -1,36 +1,12 @@
 -- A step is cut off with its batch kept: the crash is lawful, and the machine after it has the world after it, where each record of the batch fits what the machine had before.
-use Rattle.std.proofs.Common.{◌≡◌, inl, ℕ, Bool, true, false, List, ◌++◌, Option, Some, None, refl, sym, ap, subst, ◌∙◌, is_some, append_assoc}
-use Rattle.std.specs.Prelude.{slice_get}
+use Rattle.qs_world_runs.proofs.Words.{◌≡◌, inl, ℕ, Bool, true, false, List, ◌++◌, Option, Some, None, refl, sym, ap, subst, ◌∙◌, is_some, append_assoc, slice_get, CrashCause, BookValue, is_crash, effect, Record, recovery, effects_of, Effects, Event, opened_from, Cut, Source, cut_log, event_of, is_later, may_move, may_step, moved, stopped_host, entry_of, Host, Opening, World, Lasts, HoldsLogged, Every, IsCommitLogged, HoldsSaid, HoldsDown, HoldsNodeAt, HoldsUp, opens_soundly, in_runs}
+use Rattle.qs_world_runs.proofs.Words.{opened_numbered, opening_named, MakesStep, KeptVotes, Joined, book_in, AfterStep, StaysUnanimousThen, WholeSteps, some_same}
 use Rattle.qs_book_journal.specs.declared.entry.Act.TheVariants as acts
-use Rattle.qs_book_journal.specs.declared.entry.CrashCause.{CrashCause}
-use Rattle.qs_book_machine.specs.Book.{BookValue, crash_node}
-use Rattle.qs_book_machine.specs.Clauses.{is_crash}
-use Rattle.qs_book_machine.specs.Lawful.{effect}
+use Rattle.qs_book_machine.specs.Book.{crash_node}
 use Rattle.qs_book_machine.specs.Nodes as machine
-use Rattle.qs_record.specs.declared.record.Record.{Record}
-use Rattle.qs_restart.specs.Recovery.{recovery}
-use Rattle.qs_node_step.specs.Step.{effects_of}
-use Rattle.qs_node_step.specs.declared.event.Effects.{Effects}
-use Rattle.qs_node_step.specs.declared.event.Event.{Event}
-use Rattle.qs_world.specs.Histories.{opened_from}
-use Rattle.qs_world.specs.Moves.{Cut, Source, cut_log, event_of, is_later, may_move, may_step, moved, stopped_host}
-use Rattle.qs_world.specs.Posting.{entry_of}
-use Rattle.qs_world.specs.World.{Host, Opening, World}
 use Rattle.qs_world_refine.proofs.SoundParts.{and_both}
-use Rattle.qs_world_lawful.specs.Lasting.{Lasts}
-use Rattle.qs_world_lawful.specs.Logged.{HoldsLogged}
-use Rattle.qs_world_lawful.specs.Logs.{Every, IsCommitLogged}
-use Rattle.qs_world_lawful.specs.Said.{HoldsSaid}
 use Rattle.qs_world_lawful.specs.WorldLaws.{StopsWell}
-use Rattle.qs_world_lawful.specs.Worlds.{HoldsDown, HoldsNodeAt, HoldsUp}
-use Rattle.qs_world_lawful.proofs.CoherentOpenings.{opens_soundly}
-use Rattle.qs_world_lawful.proofs.LastsAlways.{in_runs}
-use Rattle.qs_world_lawful.proofs.NumberedLogs.{opened_numbered, opening_named}
 use Rattle.qs_world_lawful.proofs.StopsWhole.{by_quiet, by_said}
-use Rattle.qs_world_runs.specs.Agrees.{MakesStep}
-use Rattle.qs_world_runs.specs.CutCommits.{KeptVotes}
-use Rattle.qs_world_runs.specs.Joined.{Joined, book_in}
-use Rattle.qs_world_runs.specs.JoinedLaws.{AfterStep, StaysUnanimousThen, WholeSteps}
 use Rattle.qs_world_runs.specs.CutBatches.{EachVoteOfStart}
 use Rattle.qs_world_runs.proofs.BatchFits.{batch_fits}
 use Rattle.qs_world_runs.proofs.BatchHeld.{down_then}
@@ -77,10 +53,7 @@ module _ (P : Opening → World → Type 0) (steps : WholeSteps P) (votes : Each
     up = at.runs (step_up P steps o world j n stamp free source event makes)
 
     same : (other : machine.NodeValue) → slice_get book.nodes n ≡ Some other → other ≡ state
-    same other is = one (sym is ∙ there)
-      where
-        one : {x y : machine.NodeValue} → Some x ≡ Some y → x ≡ y
-        one p = cc p
+    same other is = some_same (sym is ∙ there)
 
     logged : HoldsLogged n book state (recovery base)
     logged = subst (λ (s : machine.NodeValue). HoldsLogged n book s (recovery base)) (same up.log.state up.log.there) up.log.all
@@ -104,10 +77,7 @@ module _ (P : Opening → World → Type 0) (steps : WholeSteps P) (votes : Each
   held (Some event) comes is = by (effects_of host.node event free).force refl
     where
       same : (other : Event) → event_of world n stamp source ≡ Some other → other ≡ event
-      same other so = one (sym so ∙ comes)
-        where
-          one : {x y : Event} → Some x ≡ Some y → x ≡ y
-          one p = cc p
+      same other so = some_same (sym so ∙ comes)
 
       by : (b : Bool) → (effects_of host.node event free).force ≡ b → StopsWell book (moved (Cut n stamp free source true cause) world) n stamp cause
       by false unforced = by_quiet book world n stamp free source cause lasts j.held may (λ other so. inl (ap (λ (e : Event). (effects_of host.node e free).force) (same other so) ∙ unforced))

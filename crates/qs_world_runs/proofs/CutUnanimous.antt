@@ -1,79 +1,28 @@
 -- What a home decided in a step that is cut off with a record of it on the disk was unanimous before: the whole step would have committed it.
-use Rattle.std.proofs.Common.{◌≡◌, ℕ, ◌+◌, ◌<◌, ◌==◌, ◌&&◌, ◌||◌, Bool, true, false, List, [], ◌∷◌, Option, Some, None, refl, sym, ap, subst, ◌∙◌, arith, if◌then◌else◌}
-use Rattle.std.proofs.lemmas.Bool.{eqb-true}
-use Rattle.std.proofs.lemmas.Bool.Decides.{nat_tests}
-use Rattle.std.specs.List.{list_any}
-use Rattle.std.specs.Prelude.{unwrap_or}
-use Rattle.qs_base.specs.Order.{same_tid}
-use Rattle.qs_base.specs.declared.identifiers.NodeNo.{NodeNo}
+use Rattle.qs_world_runs.proofs.Words.{◌≡◌, ℕ, ◌+◌, ◌<◌, ◌==◌, ◌||◌, Bool, true, false, List, [], ◌∷◌, Option, Some, None, refl, sym, ap, subst, ◌∙◌, arith, if◌then◌else◌, eqb-true, eq-eqb, and_from, nat_tests, list_any, unwrap_or, same_tid, NodeNo, Tid, same_node, Act, CrashCause, Entry, Decided, BookValue, cell_of_transaction, find_transaction, is_crash, TransactionValue, is_commit, is_outcome, is_unanimous, Cell, is_kept_commit, kept_outcome, after_step, effects_of, Event, new_participant}
+use Rattle.qs_world_runs.proofs.Words.{Participant, book_of, opened_from, Source, Step, cut_log, may_step, moved, step_with, stepped_host, stopped, taken_by, entries_of, Opening, World, Open, Committed, ShowsAll, ShowsFace, began_here, face_at, outcome_of, outcome_seen, place, IsShownWorld, invariant, inc_taken, inc_all, each_begun_shown, home_in_run, move_shown, steady, node_stopped, face_of, part_or_new, HoldsAt, HoldsTid, Lasts, HasCommitted, Every, HoldsNodeAt, goes_aside, opens_soundly}
+use Rattle.qs_world_runs.proofs.Words.{in_runs, lasts_first, lasts_ran, LastsWell, opened_numbered, opening_named, MakesStep, Joined, book_in, WholeSteps, book_then}
 use Rattle.qs_base.specs.declared.identifiers.Outcome.{Outcome}
 use Rattle.qs_base.specs.declared.identifiers.Outcome.TheVariants as outcomes
-use Rattle.qs_base.specs.declared.identifiers.Tid.{Tid}
-use Rattle.qs_engage.specs.Nodes.{same_node}
-use Rattle.qs_book_journal.specs.declared.entry.Act.{Act}
-use Rattle.qs_book_journal.specs.declared.entry.CrashCause.{CrashCause}
-use Rattle.qs_book_journal.specs.declared.entry.Entry.{Entry}
-use Rattle.qs_node_kept.specs.declared.kept.Decided.{Decided}
-use Rattle.qs_book_machine.specs.Book.{BookValue, cell_of_transaction, find_transaction}
-use Rattle.qs_book_machine.specs.Clauses.{is_crash}
 use Rattle.qs_book_machine.specs.Lawful.{IsLawful}
-use Rattle.qs_book_machine.specs.Transaction.{TransactionValue, is_commit, is_open, is_outcome, is_unanimous}
-use Rattle.qs_book_machine.specs.declared.transaction.Cell.{Cell}
+use Rattle.qs_book_machine.specs.Transaction.{is_open}
 use Rattle.qs_book_machine.specs.declared.transaction.Cell.TheVariants as cells
-use Rattle.qs_node_step.specs.Answering.{is_kept_commit, kept_outcome, was_committed}
+use Rattle.qs_node_step.specs.Answering.{was_committed}
 use Rattle.qs_node_step.specs.State.{NodeValue}
-use Rattle.qs_node_step.specs.Step.{after_step, effects_of}
-use Rattle.qs_node_step.specs.declared.event.Event.{Event}
 use Rattle.qs_tm.specs.Manager as tm
-use Rattle.qs_tm.specs.Participant.{new_participant}
-use Rattle.qs_tm.specs.declared.participant.Participant.{Participant}
-use Rattle.qs_world.specs.Histories.{book_of, opened_from}
-use Rattle.qs_world.specs.Moves.{Source, Step, cut_log, may_step, moved, step_with, stepped_host, stopped, taken_by}
-use Rattle.qs_world.specs.Posting.{entries_of}
-use Rattle.qs_world.specs.World.{Opening, World}
 use Rattle.qs_world_agree.specs.World as machine
-use Rattle.qs_world_agree.specs.World.{Open, Committed}
 use Rattle.qs_world_agree.proofs.Doomed.{past_home_dooms}
 use Rattle.qs_world_refine.specs.Begun.{has_begun}
 use Rattle.qs_world_refine.specs.CutLaws.{CutsOff}
-use Rattle.qs_world_refine.specs.EachMove.{ShowsAll}
-use Rattle.qs_world_refine.specs.Faces.{ShowsFace}
-use Rattle.qs_world_refine.specs.NodeFaces.{began_here, face_at, is_past_commit, outcome_of, outcome_seen, unknown, unknown_at_home}
-use Rattle.qs_world_refine.specs.Places.{place}
-use Rattle.qs_world_refine.specs.ShownWorlds.{IsShownWorld}
-use Rattle.qs_world_refine.proofs.Facts.{invariant}
-use Rattle.qs_world_refine.proofs.Moving.{inc_taken}
-use Rattle.qs_world_refine.proofs.Posted.{inc_all}
-use Rattle.qs_world_refine.proofs.ShownBegins.{each_begun_shown}
-use Rattle.qs_world_refine.proofs.ShownMoves.{home_in_run, move_shown, steady}
+use Rattle.qs_world_refine.specs.NodeFaces.{is_past_commit, unknown, unknown_at_home}
 use Rattle.qs_world_refine.proofs.SoundParts.{and_both}
-use Rattle.qs_world_refine.proofs.StepAll.{node_stopped}
-use Rattle.qs_world_lawful.specs.Face.{face_of, part_or_new}
-use Rattle.qs_world_lawful.specs.Holds.{HasEnded, Holds, HoldsAt, HoldsTid}
-use Rattle.qs_world_lawful.specs.Lasting.{Lasts}
-use Rattle.qs_world_lawful.specs.Logged.{HasCommitted}
-use Rattle.qs_world_lawful.specs.Logs.{Every}
-use Rattle.qs_world_lawful.specs.Worlds.{HoldsNodeAt}
-use Rattle.qs_world_lawful.proofs.AsideGoes.{goes_aside}
-use Rattle.qs_world_lawful.proofs.CoherentOpenings.{opens_soundly}
-use Rattle.qs_world_lawful.proofs.LastsAlways.{in_runs}
-use Rattle.qs_world_lawful.proofs.LastsOpening.{lasts_first, lasts_ran}
-use Rattle.qs_world_lawful.proofs.LastsWell.{LastsWell}
-use Rattle.qs_world_lawful.proofs.NumberedLogs.{opened_numbered, opening_named}
-use Rattle.qs_world_runs.specs.Agrees.{MakesStep}
-use Rattle.qs_world_runs.specs.Joined.{Joined, book_in}
-use Rattle.qs_world_runs.specs.JoinedLaws.{EachCutUnanimous, WholeSteps, book_then}
+use Rattle.qs_world_lawful.specs.Holds.{HasEnded, Holds}
+use Rattle.qs_world_runs.specs.JoinedLaws.{EachCutUnanimous}
 use Rattle.qs_world_runs.proofs.JoinedLogged.{logged_by_log}
 use Rattle.qs_world_runs.proofs.JoinedSteps.{step_entries, step_holds, step_lawful, step_low, step_up}
 use Rattle.qs_world_runs.proofs.PlacesBegin.{begun_inc}
 use Rattle.qs_world_runs.proofs.StaysWorlds.{steps_keep_logged}
 use Rattle.qs_world_runs.proofs.UnanimousEarlier.{unanimous_earlier}
-
-equal : (a b : ℕ) → a ≡ b → (a == b) ≡ true
-equal a b e = grind (arith, nat_tests, e)
-
-both : (a b : Bool) → a ≡ true → b ≡ true → (a && b) ≡ true
-both a b p q = rw (p, q) refl
 
 -- where the home of a transaction runs, in the incarnation in which it began, it knows its outcome
 home_knows : (tid : Tid) (world : World) (w : machine.World) → ShowsAll tid world w → tid.home.0 < world.size → world.channels.up tid.home.0 ≡ true → tid.inc ≡ world.channels.inc tid.home.0 → (face_at (world.hosts tid.home.0).node tid).outcome ≡ w.cell
@@ -280,7 +229,7 @@ module _ (P : Opening → World → Type 0) (steps : WholeSteps P) (o : Opening)
           inc_is = ap (λ (node : NodeValue). node.setting.inc) (sym own_node) ∙ ((steady new shown).seated.inc n low_new ∙ incs)
 
           began : began_here leaves tid ≡ true
-          began = both (same_node tid.home leaves.setting.node) (tid.inc == leaves.setting.inc) (equal k leaves.setting.node.0 (at_n ∙ sym node_is)) (equal tid.inc leaves.setting.inc (now_inc ∙ (ap world.channels.inc at_n ∙ sym inc_is)))
+          began = and_from (same_node tid.home leaves.setting.node) (tid.inc == leaves.setting.inc) (eq-eqb k leaves.setting.node.0 (at_n ∙ sym node_is)) (eq-eqb tid.inc leaves.setting.inc (now_inc ∙ (ap world.channels.inc at_n ∙ sym inc_is)))
 
       decided_unanimous : is_unanimous tx ≡ true
       decided_unanimous = by (k == n) refl (world.channels.up k) refl

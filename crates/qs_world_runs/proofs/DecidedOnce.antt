@@ -1,38 +1,15 @@
 -- What a step decides was open as it began, and is so for the rest of it: so it is decided once, and no server votes on it once it is committed.
-use Rattle.std.proofs.Common.{◌≡◌, ℕ, ◌≤◌, ◌+◌, ◌==◌, ◌&&◌, ◌++◌, arith, Bool, true, false, List, [], ◌∷◌, Option, Some, None, refl, sym, ap, subst, ◌∙◌}
-use Rattle.std.proofs.lemmas.Bool.Decides.{nat_tests}
-use Rattle.std.specs.Prelude.{slice_get}
-use Rattle.qs_base.specs.Order.{same_tid}
-use Rattle.qs_base.proofs.Same.{same_tid-true}
+use Rattle.qs_world_runs.proofs.Words.{◌≡◌, ℕ, ◌≤◌, ◌+◌, ◌==◌, ◌++◌, arith, Bool, true, false, List, [], ◌∷◌, Option, Some, None, refl, sym, ap, subst, ◌∙◌, nat_tests, slice_get, same_tid, same_tid-true, Tid, Act, Entry, held, BookValue, cell_of_transaction, find_transaction, book_after, broken, broken_act, broken_at, effect, TransactionValue, cell_of, Cell, Cause, entries_of, entry_of, HasOutcome, Every, goes_aside, lasts_ran, LastsWell, EntersDecide, decides_of, one_if, some_same, and_parts}
+use Rattle.qs_world_runs.proofs.Words.{eqb-true}
 use Rattle.qs_base.specs.declared.identifiers.Outcome.{Outcome}
 use Rattle.qs_base.specs.declared.identifiers.Outcome.TheVariants as outcomes
-use Rattle.qs_base.specs.declared.identifiers.Tid.{Tid}
-use Rattle.qs_book_journal.specs.declared.entry.Act.{Act}
 use Rattle.qs_book_journal.specs.declared.entry.Act.TheVariants as acts
-use Rattle.qs_book_journal.specs.declared.entry.Entry.{Entry}
-use Rattle.qs_book_laws.proofs.Steps.{held}
-use Rattle.qs_book_machine.specs.Book.{BookValue, cell_of_transaction, find_transaction}
 use Rattle.qs_book_machine.specs.Clauses.{broken_decide, may_decide}
-use Rattle.qs_book_machine.specs.Lawful.{IsLawful, book_after, broken, broken_act, broken_at, effect, is_in_order}
+use Rattle.qs_book_machine.specs.Lawful.{IsLawful, is_in_order}
 use Rattle.qs_book_machine.specs.Nodes as machine
-use Rattle.qs_book_machine.specs.Transaction.{TransactionValue, cell_of, is_open}
-use Rattle.qs_book_machine.specs.declared.transaction.Cell.{Cell}
-use Rattle.qs_ops.specs.declared.answer.Cause.{Cause}
-use Rattle.qs_world.specs.Posting.{entries_of, entry_of}
-use Rattle.qs_world_lawful.specs.Logged.{HasOutcome}
-use Rattle.qs_world_lawful.specs.Logs.{Every}
-use Rattle.qs_world_lawful.proofs.AsideGoes.{goes_aside}
-use Rattle.qs_world_lawful.proofs.LastsOpening.{lasts_ran}
-use Rattle.qs_world_lawful.proofs.LastsWell.{LastsWell}
+use Rattle.qs_book_machine.specs.Transaction.{is_open}
 use Rattle.qs_world_lawful.proofs.LogDeciding.{decided_now}
-use Rattle.qs_world_runs.specs.CutRecords.{EntersDecide, decides_commit, decides_of, one_if}
-
-and_both : (a b : Bool) → (a && b) ≡ true → (a ≡ true) × (b ≡ true)
-and_both true b e = (refl, e)
-and_both false b e = absurd (cc e)
-
-no_is : (a b : ℕ) → (a == b) ≡ true → a ≡ b
-no_is a b e = grind (arith, nat_tests, e)
+use Rattle.qs_world_runs.specs.CutRecords.{decides_commit}
 
 next_apart : (a : ℕ) → (a == a + 1) ≡ false
 next_apart a = grind (arith, nat_tests)
@@ -76,7 +53,7 @@ module _ (n stamp : ℕ) where
     where
       of : (node : machine.NodeValue) (x : Option TransactionValue) → find_transaction book tid ≡ x → broken_decide n node book.nodes tid x stamp outcome cause ≡ None → MayDecide book tid
       of node None none is = absurd (cc is)
-      of node (Some tx) found is = let p = and_both (tid.home.0 == n) (is_open tx.cell) (held (may_decide n tid tx) 70 _ is).0 in record { tx = tx; found = found; undecided = p.1; home = no_is tid.home.0 n p.0 }
+      of node (Some tx) found is = let p = and_parts (tid.home.0 == n) (is_open tx.cell) (held (may_decide n tid tx) 70 _ is).0 in record { tx = tx; found = found; undecided = p.1; home = eqb-true tid.home.0 n p.0 }
 
       at : (o : Option machine.NodeValue) → broken_at book stamp n o (acts.Decide tid outcome cause) ≡ None → MayDecide book tid
       at None is = absurd (cc is)
@@ -84,10 +61,7 @@ module _ (n stamp : ℕ) where
 
   -- what is over is decided no more
   unmay : (book : BookValue) (tid : Tid) (cell : Cell) → IsShut book tid cell → MayDecide book tid → ⊥
-  unmay book tid cell s m = let same : s.tx ≡ m.tx = one (sym s.found ∙ m.found) in let open_now : is_open cell ≡ true = sym (ap is_open s.cell_is) ∙ (ap (λ (tx : TransactionValue). is_open tx.cell) same ∙ m.undecided) in let off : is_open cell ≡ false = s.shut in cc (open_now, off)
-    where
-      one : {x y : TransactionValue} → Some x ≡ Some y → x ≡ y
-      one e = cc e
+  unmay book tid cell s m = let same : s.tx ≡ m.tx = some_same (sym s.found ∙ m.found) in let open_now : is_open cell ≡ true = sym (ap is_open s.cell_is) ∙ (ap (λ (tx : TransactionValue). is_open tx.cell) same ∙ m.undecided) in let off : is_open cell ≡ false = s.shut in cc (open_now, off)
 
   pub record Decided (book : BookValue) (tid : Tid) (outcome : Outcome) (done : List Act) : Type 0 where
     pub was_open : (cell : Cell) → IsShut book tid cell → ⊥
@@ -109,10 +83,7 @@ module _ (n stamp : ℕ) where
     where
       now : (o : Option TransactionValue) → find_transaction (effect book (entry_of n stamp (acts.Decide tid outcome cause))) tid ≡ o → HasOutcome (effect book (entry_of n stamp (acts.Decide tid outcome cause))) tid outcome → IsShut (effect book (entry_of n stamp (acts.Decide tid outcome cause))) tid (cell_of outcome)
       now None none is = absurd (cc (sym (ap cell_of_transaction none) ∙ is))
-      now (Some tx) found is = record { tx = tx; found = found; cell_is = one (sym (ap cell_of_transaction found) ∙ is); shut = shut_cell outcome }
-        where
-          one : {x y : Cell} → Some x ≡ Some y → x ≡ y
-          one e = cc e
+      now (Some tx) found is = record { tx = tx; found = found; cell_is = some_same (sym (ap cell_of_transaction found) ∙ is); shut = shut_cell outcome }
   decided_at (act ∷ before) rest book well tid outcome cause lawful =
       let d : Decided (effect book (entry_of n stamp act)) tid outcome (before ++ acts.Decide tid outcome cause ∷ rest) = decided_at before rest (effect book (entry_of n stamp act)) (well_on book act well lawful.0) tid outcome cause lawful.1 in
       record { was_open = λ cell s. d.was_open cell (shut_on (act ∷ []) book well (lawful.0, tt) tid cell s); home = d.home; then_is = d.then_is }

@@ -1,26 +1,15 @@
 -- A request that is dropped as it comes dooms its transaction: its node knows abort, or its home stopped or decided abort.
-use Rattle.std.proofs.Common.{◌≡◌, ◌≢◌, ℕ, ◌==◌, ◌&&◌, Bool, true, false, Option, Some, None, is_some, refl, sym, ap, ◌∙◌, if◌then◌else◌}
-use Rattle.std.specs.Prelude.{unwrap_or}
-use Rattle.std.proofs.lemmas.Bool.{eqb-true}
-use Rattle.qs_base.specs.declared.identifiers.NodeNo.{NodeNo}
+use Rattle.qs_world_runs.proofs.Words.{◌≡◌, ◌≢◌, ℕ, ◌==◌, Bool, true, false, Option, Some, None, is_some, refl, sym, ap, ◌∙◌, if◌then◌else◌, unwrap_or, eqb-true, and_right, NodeNo, Tid, same_node, is_dropped, Work, here, new_participant, Participant, Committed, IsDoomed, abort_dooms, began_here, face_at, outcome_of, place, Scene, shown_here}
 use Rattle.qs_base.specs.declared.identifiers.Outcome.{Outcome}
 use Rattle.qs_base.specs.declared.identifiers.Outcome.TheVariants as outcomes
-use Rattle.qs_base.specs.declared.identifiers.Tid.{Tid}
-use Rattle.qs_engage.specs.Nodes.{same_node}
-use Rattle.qs_node_step.specs.Serving.{is_dropped}
-use Rattle.qs_node_step.specs.State.{Work, here, part_of}
+use Rattle.qs_node_step.specs.State.{part_of}
 use Rattle.qs_tm.specs.Outcomes.{is_abort}
-use Rattle.qs_tm.specs.Participant.{new_participant}
-use Rattle.qs_tm.specs.declared.participant.Participant.{Participant}
 use Rattle.qs_world_agree.specs.World as machine
-use Rattle.qs_world_agree.specs.World.{Committed}
-use Rattle.qs_world_agree.specs.Doomed.{IsDoomed}
-use Rattle.qs_world_agree.proofs.Doomed.{abort_dooms, past_home_dooms}
-use Rattle.qs_world_refine.specs.NodeFaces.{began_here, face_at, is_past_commit, outcome_of, unknown, unknown_at_home}
-use Rattle.qs_world_refine.specs.Places.{place}
-use Rattle.qs_world_refine.specs.Shows.{Scene}
+use Rattle.qs_world_agree.proofs.Doomed.{past_home_dooms}
+use Rattle.qs_world_refine.specs.NodeFaces.{is_past_commit, unknown, unknown_at_home}
 use Rattle.qs_world_refine.specs.Stands.{Stands}
-use Rattle.qs_world_refine.proofs.Heads.{Learnt, aborted_cell, shown_here}
+use Rattle.qs_world_refine.proofs.Heads.{Learnt, aborted_cell}
+use Rattle.qs_base_lemmas.proofs.Tests.{and_rest}
 
 module _ (t : Tid) (scene : Scene) (n : ℕ) (work : Work) (v : machine.World) (is : Stands t scene n work v) where
   -- abort is known
@@ -54,16 +43,8 @@ module _ (t : Tid) (scene : Scene) (n : ℕ) (work : Work) (v : machine.World) (
       at_n = eqb-true t.home.0 n (sym (ap (λ (k : NodeNo). same_node t.home k) is.at.node) ∙ home)
 
       down : began_here work.node t ≡ false → v.up v.home ≡ false
-      down later = ap v.up is.shown.stage.home ∙ (is.shown.stage.up t.home.0 t.inc is.home_in ∙ off (scene.up t.home.0) (t.inc == scene.inc t.home.0)
-          (ap (λ (i : ℕ). t.inc == i) (ap scene.inc at_n ∙ sym is.at.inc) ∙ rest (same_node t.home work.node.setting.node) (t.inc == work.node.setting.inc) home later))
-        where
-          off : (a b : Bool) → b ≡ false → (a && b) ≡ false
-          off true b is = is
-          off false b is = refl
-
-          rest : (a b : Bool) → a ≡ true → (a && b) ≡ false → b ≡ false
-          rest true b is so = so
-          rest false b is so = absurd (cc is)
+      down later = ap v.up is.shown.stage.home ∙ (is.shown.stage.up t.home.0 t.inc is.home_in ∙ and_right (scene.up t.home.0) (t.inc == scene.inc t.home.0)
+          (ap (λ (i : ℕ). t.inc == i) (ap scene.inc at_n ∙ sym is.at.inc) ∙ and_rest (same_node t.home work.node.setting.node) (t.inc == work.node.setting.inc) home later))
 
       of_home : (b : Bool) → began_here work.node t ≡ b → IsDoomed v
       of_home true began = absurd (undecided (is.lawful.agreed.knows_commit (place n (scene.inc n)) (knows began)))

@@ -1,29 +1,12 @@
 -- What counts of a part for a vote to be due stays through all that serves nothing, and a vote leaves nothing that is due.
-use Rattle.std.proofs.Common.{◌≡◌, ℕ, arith, ◌&&◌, ◌||◌, Bool, true, false, List, [], ◌∷◌, Option, Some, None, Less, Equal, Greater, refl, sym, ap, subst, ◌∙◌, cond, nat_lt}
-use Rattle.std.proofs.lemmas.Bool.Decides.{nat_tests}
-use Rattle.std.specs.BTreeMap.{is_at}
+use Rattle.qs_world_runs.proofs.Words.{◌≡◌, ℕ, arith, ◌||◌, Bool, true, false, List, [], ◌∷◌, Option, Some, None, Less, Equal, Greater, refl, sym, ap, subst, ◌∙◌, cond, nat_lt, nat_tests, is_at, list_any, lookup, set_value, unwrap_or, Ordering, changed_value, learnt_part, life_cmp, no_part, voted_part, Life, Part, Vote}
 use Rattle.std.specs.BTreeSet.{insert_key}
-use Rattle.std.specs.List.{list_any}
-use Rattle.std.specs.Map.{lookup, set_value}
-use Rattle.std.specs.Prelude.{unwrap_or}
-use Rattle.std.specs.declared.cmp.Ordering.{Ordering}
 use Rattle.qs_base.specs.declared.identifiers.Outcome.{Outcome}
 use Rattle.qs_base.specs.declared.identifiers.Outcome.TheVariants as outcomes
 use Rattle.qs_book_laws.proofs.Maps.{lookup_changed}
-use Rattle.qs_book_machine.specs.Transaction.{changed_value, learnt_part, life_cmp, no_part, start_cmp, voted_part}
-use Rattle.qs_book_machine.specs.declared.transaction.Life.{Life}
-use Rattle.qs_book_machine.specs.declared.transaction.Part.{Part}
+use Rattle.qs_book_machine.specs.Transaction.{start_cmp}
 use Rattle.qs_book_machine.specs.declared.transaction.Start.{Start}
-use Rattle.qs_ops.specs.declared.vote.Vote.{Vote}
 use Rattle.qs_ops.specs.declared.vote.Vote.TheVariants as votes
-
-pub both_and : (a b : Bool) → (a && b) ≡ true → (a ≡ true) × (b ≡ true)
-both_and true b is = (refl, is)
-both_and false b is = absurd (cc is)
-
-pub both_or : (a b : Bool) → (a || b) ≡ false → (a ≡ false) × (b ≡ false)
-both_or false b is = (refl, is)
-both_or true b is = absurd (cc is)
 
 not_less : (n : ℕ) → nat_lt n n ≡ false
 not_less n = grind (arith, nat_tests)

@@ -1,50 +1,27 @@
 -- What a vote needs beside what its member has pending is made by no entry but an Ask, a request served of its transaction or a restart.
-use Rattle.std.proofs.Common.{◌≡◌, ℕ, ◌+◌, ◌==◌, arith, ◌&&◌, ◌||◌, not, Bool, true, false, List, [], ◌∷◌, ◌++◌, Option, Some, None, refl, sym, ap, subst, ◌∙◌, nat_lt}
-use Rattle.std.proofs.lemmas.Bool.Decides.{nat_tests}
-use Rattle.std.specs.BTreeMap.{is_at}
-use Rattle.std.specs.List.{list_any}
-use Rattle.std.specs.Prelude.{is_some, slice_get, unwrap_or}
-use Rattle.std.proofs.lemmas.List.Folds.{list_any-append}
-use Rattle.qs_base.proofs.Same.{same_member-true, same_tid-self, same_tid-true}
-use Rattle.qs_base.specs.Order.{same_member, same_tid}
-use Rattle.qs_base.specs.declared.identifiers.Member.{Member}
+use Rattle.qs_world_runs.proofs.Words.{◌≡◌, ℕ, ◌+◌, ◌==◌, ◌&&◌, ◌||◌, not, Bool, true, false, List, [], ◌∷◌, ◌++◌, Option, Some, None, refl, sym, ap, subst, ◌∙◌, nat_lt, is_at, list_any, is_some, slice_get, unwrap_or, list_any-append, same_member-true, same_tid-self, same_tid-true, same_member, same_tid, Member, Tid, Act, life_itself, changed_apart, Inv, held, Gives, GivesFor, Obliged, BookValue, find_transaction, inc_at, borrower_at, broken, broken_act, broken_at, effect, TransactionValue}
+use Rattle.qs_world_runs.proofs.Words.{cell_of, changed_value, decided_at, ended_part, given_back, is_commit, is_covering, learnt_part, life, life_cmp, no_part, voted_part, yielded_part, Cell, Life, Part, Cause, Vote, entries_of, entry_of, effects_of, Event, IsVoteDue, Here, IsKept, IsOrdinary, Trace, and_parts, or_parts, eqb-true}
 use Rattle.qs_base.specs.declared.identifiers.Outcome.{Outcome}
 use Rattle.qs_base.specs.declared.identifiers.Outcome.TheVariants as outcomes
-use Rattle.qs_base.specs.declared.identifiers.Tid.{Tid}
-use Rattle.qs_book_journal.specs.declared.entry.Act.{Act}
 use Rattle.qs_book_journal.specs.declared.entry.Act.TheVariants as acts
-use Rattle.qs_book_laws.proofs.Counts.{life_exact, life_itself}
-use Rattle.qs_book_laws.proofs.Maps.{changed_apart}
-use Rattle.qs_book_laws.proofs.Outcomes.{Inv}
-use Rattle.qs_book_laws.proofs.Steps.{decide_may, held, passed, past, stepped}
-use Rattle.qs_book_laws.proofs.Turns.{Gives, GivesFor, Obliged}
-use Rattle.qs_book_machine.specs.Book.{BookValue, find_transaction, inc_at}
-use Rattle.qs_book_machine.specs.Clauses.{borrower_at, broken_vote, is_vote_due}
-use Rattle.qs_book_machine.specs.Lawful.{IsLawful, broken, broken_act, broken_at, effect, is_in_order}
+use Rattle.qs_book_laws.proofs.Counts.{life_exact}
+use Rattle.qs_book_laws.proofs.Steps.{decide_may, passed, past, stepped}
+use Rattle.qs_book_machine.specs.Clauses.{broken_vote, is_vote_due}
+use Rattle.qs_book_machine.specs.Lawful.{IsLawful, is_in_order}
 use Rattle.qs_book_machine.specs.Nodes as machine
-use Rattle.qs_book_machine.specs.Transaction.{TransactionValue, cell_of, changed_value, decided_at, ended, ended_part, given_back, is_commit, is_covering, is_open, is_start, learnt, learnt_part, lent, life, life_cmp, made_part, no_part, part_of, starts_after, voted, voted_part, yielded_part}
-use Rattle.qs_book_machine.specs.declared.transaction.Cell.{Cell}
+use Rattle.qs_book_machine.specs.Transaction.{ended, is_open, is_start, learnt, lent, made_part, part_of, starts_after, voted}
 use Rattle.qs_book_machine.specs.declared.transaction.Cell.TheVariants as cells
-use Rattle.qs_book_machine.specs.declared.transaction.Life.{Life}
-use Rattle.qs_book_machine.specs.declared.transaction.Part.{Part}
 use Rattle.qs_book_machine.specs.declared.transaction.Start.{Start}
-use Rattle.qs_ops.specs.declared.answer.Cause.{Cause}
-use Rattle.qs_ops.specs.declared.vote.Vote.{Vote}
 use Rattle.qs_ops.specs.declared.vote.Vote.TheVariants as votes
-use Rattle.qs_world.specs.Posting.{entries_of, entry_of}
 use Rattle.qs_node_step.specs.State.{NodeValue}
-use Rattle.qs_node_step.specs.Step.{effects_of}
-use Rattle.qs_node_step.specs.declared.event.Event.{Event}
-use Rattle.qs_world_runs.specs.CutVotes.{IsVoteDue, StepsVoteDue, is_due_vote}
+use Rattle.qs_world_runs.specs.CutVotes.{StepsVoteDue, is_due_vote}
 use Rattle.qs_world_runs.specs.Firsts.{is_asked_or_served, is_vote_of, votes_first}
-use Rattle.qs_world_runs.specs.PlacesAmid.{Here}
 use Rattle.qs_world_runs.specs.PlacesGo.{is_restart}
-use Rattle.qs_world_runs.specs.Traces.{IsKept, IsOrdinary, Trace}
 use Rattle.qs_world_runs.proofs.PlacedActs.{step_here}
 use Rattle.qs_world_runs.proofs.PlacesGo.{inc_stays}
 use Rattle.qs_world_runs.proofs.TraceStages.{step_traced}
 use Rattle.qs_world_runs.proofs.VotesFirst.{steps_vote_first}
-use Rattle.qs_world_runs.proofs.DueParts.{any_put, both_and, both_or, changed_tally, learnt_tally, part_in, tally, voted_off}
+use Rattle.qs_world_runs.proofs.DueParts.{any_put, changed_tally, learnt_tally, part_in, tally, voted_off}
 
 module _ (tid : Tid) (member : Member) (inc covers : ℕ) where
   abbrev due_by : Option ℕ → Cell → ℕ × (ℕ × ℕ) → Bool → Bool
@@ -80,12 +57,9 @@ module _ (tid : Tid) (member : Member) (inc covers : ℕ) where
         starts_same votes.Recoverable n served far = refl
         starts_same votes.ReadOnly n served far = any_put (is_start member inc served covers) (record { life = life other now; served = n }) tx.starts (of (same_member other member) refl)
           where
-            equal : (a b : ℕ) → (a == b) ≡ true → a ≡ b
-            equal a b e = grind (arith, nat_tests, e)
-
             of_inc : (c : Bool) → (now == inc) ≡ c → same_member other member ≡ true → ((now == inc) && (n + covers == served)) ≡ false
             of_inc false apart same = rw apart refl
-            of_inc true near same = absurd (let one : other ≡ member = same_member-true other member same in let two : now ≡ inc = equal now inc near in
+            of_inc true near same = absurd (let one : other ≡ member = same_member-true other member same in let two : now ≡ inc = eqb-true now inc near in
                 let e : life other now ≡ life member inc = ap (λ (m : Member). life m now) one ∙ ap (λ (i : ℕ). life member i) two in
                 let there : is_at (life_cmp (life other now)) (life member inc) ≡ true = subst (λ (l : Life). is_at (life_cmp l) (life member inc) ≡ true) (sym e) (rw (life_itself (life member inc)) refl) in cc (far, there))
 
@@ -94,7 +68,7 @@ module _ (tid : Tid) (member : Member) (inc covers : ℕ) where
             of true same = rw same (of_inc (now == inc) refl same)
 
         off : nat_lt (part_of later member inc).voted (part_of later member inc).served ≡ false → ⊥
-        off none = let less : nat_lt (part_of later member inc).voted (part_of later member inc).served ≡ true = (both_and (nat_lt (part_of later member inc).voted (part_of later member inc).served) (is_covering later member inc covers) (both_and (is_some later.asked && not (is_commit later.cell)) (nat_lt (part_of later member inc).voted (part_of later member inc).served && is_covering later member inc covers) is).1).0 in cc (none, less)
+        off none = let less : nat_lt (part_of later member inc).voted (part_of later member inc).served ≡ true = (and_parts (nat_lt (part_of later member inc).voted (part_of later member inc).served) (is_covering later member inc covers) (and_parts (is_some later.asked && not (is_commit later.cell)) (nat_lt (part_of later member inc).voted (part_of later member inc).served && is_covering later member inc covers) is).1).0 in cc (none, less)
 
         by : (b : Bool) → is_at (life_cmp (life other now)) (life member inc) ≡ b → ⊥
         by true near = off (subst (λ (l : Life). nat_lt (part_in (changed_value (is_at (life_cmp l)) (voted_part ballot) tx.parts) (life member inc)).voted (part_in (changed_value (is_at (life_cmp l)) (voted_part ballot) tx.parts) (life member inc)).served ≡ false)
@@ -147,7 +121,7 @@ module _ (tid : Tid) (member : Member) (inc covers : ℕ) where
         own same tx found p is = let d = decide_open book t outcome cause h in
             let there : find_transaction book tid ≡ Some d.0 = subst (λ (x : Tid). find_transaction book x ≡ Some d.0) (same_tid-true t tid same) d.1 in
             let undecided : is_commit tx.cell ≡ false = not_commit tx.cell (one tx d.0 (sym there ∙ found) d.2) in
-            let two = both_and (is_some tx.asked && not (is_commit (cell_of outcome))) (nat_lt (part_of tx member inc).voted (part_of tx member inc).served && is_covering tx member inc covers) is in
+            let two = and_parts (is_some tx.asked && not (is_commit (cell_of outcome))) (nat_lt (part_of tx member inc).voted (part_of tx member inc).served && is_covering tx member inc covers) is in
             p (of (is_some tx.asked) (is_commit (cell_of outcome)) (is_commit tx.cell) (nat_lt (part_of tx member inc).voted (part_of tx member inc).served && is_covering tx member inc covers) undecided two.0 two.1)
           where
             of : (a b c d : Bool) → c ≡ false → (a && not b) ≡ true → d ≡ true → ((a && not c) && d) ≡ true
@@ -198,7 +172,7 @@ module _ (tid : Tid) (member : Member) (inc covers : ℕ) where
     never_due : (ballot : Vote) (before after : List Act) (book : BookValue) → Inv book → IsLawful book (entries_of n stamp (before ++ acts.Vote tid member ballot covers ∷ after)) → list_any (is_asked_or_served tid) before ≡ false → list_any is_restart before ≡ false
         → inc_at book (record { 0 = n }) ≡ inc → Here tid Unable book → ⊥
     never_due ballot [] after book i lawful off still now un = due_at book ballot lawful.0 now un
-    never_due ballot (act ∷ before) after book i lawful off still now un = let p = both_or (is_asked_or_served tid act) _ off in let q = both_or (is_restart act) _ still in
+    never_due ballot (act ∷ before) after book i lawful off still now un = let p = or_parts (is_asked_or_served tid act) _ off in let q = or_parts (is_restart act) _ still in
         never_due ballot before after (effect book (entry_of n stamp act)) (stepped book (entry_of n stamp act) i lawful.0).inv lawful.1 p.1 q.1
         (inc_stays n stamp (act ∷ []) book (rw q.0 refl) (lawful.0, tt) ∙ now)
         (step_here tid Unable Unable book (entry_of n stamp act) i lawful.0 (stays_unable book act lawful.0 p.0 q.0) (λ label client ticks is. λ due. cc due) un)
@@ -250,17 +224,17 @@ pub restless : (node : NodeValue) (event : Event) (free : ℕ) → list_any is_r
 restless node event free = step_traced Restless Restless restless_kept restless_kept node event free (record { lets = λ t so. so; comes = λ t line is so. so; learns = λ t peer tid label member number issuer op is so. so; takes = λ t peer tid label member number issuer op is so. so }) refl
 
 front_off : (p : Act → Bool) (before after : List Act) → list_any p (before ++ after) ≡ false → list_any p before ≡ false
-front_off p before after off = (both_or (list_any p before) (list_any p after) (sym (list_any-append p before after) ∙ off)).0
+front_off p before after off = (or_parts (list_any p before) (list_any p after) (sym (list_any-append p before after) ∙ off)).0
 
 -- before a vote nothing came that comes only behind votes
 unserved_before : (tid : Tid) (came : Bool) (before : List Act) (vote : Act) (after : List Act) → is_vote_of tid vote ≡ true → votes_first tid came (before ++ vote ∷ after) ≡ true → (came || list_any (is_asked_or_served tid) before) ≡ false
-unserved_before tid came [] vote after is first = by came (both_and (not (is_vote_of tid vote && came)) _ first).0
+unserved_before tid came [] vote after is first = by came (and_parts (not (is_vote_of tid vote && came)) _ first).0
   where
     by : (c : Bool) → not (is_vote_of tid vote && c) ≡ true → (c || false) ≡ false
     by false so = refl
     by true so = absurd (let off : not (is_vote_of tid vote && true) ≡ false = rw is refl in cc (off, so))
 unserved_before tid came (act ∷ before) vote after is first =
-    or_next came (is_asked_or_served tid act) (list_any (is_asked_or_served tid) before) (unserved_before tid (came || is_asked_or_served tid act) before vote after is (both_and (not (is_vote_of tid act && came)) _ first).1)
+    or_next came (is_asked_or_served tid act) (list_any (is_asked_or_served tid) before) (unserved_before tid (came || is_asked_or_served tid act) before vote after is (and_parts (not (is_vote_of tid act && came)) _ first).1)
   where
     or_next : (a b c : Bool) → ((a || b) || c) ≡ false → (a || (b || c)) ≡ false
     or_next true b c so = so

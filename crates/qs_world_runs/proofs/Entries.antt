@@ -1,14 +1,7 @@
 -- What holds of each entry of a map whose keys rise holds once a value is put at a key, or changed there, where it holds of that value.
-use Rattle.std.proofs.Common.{◌≡◌, Bool, true, false, List, [], ◌∷◌, Option, Some, None, refl, sym, ap, subst, ◌∙◌}
-use Rattle.std.specs.Cmp.{IsTotalOrder}
+use Rattle.qs_world_runs.proofs.Words.{◌≡◌, Bool, true, false, List, [], ◌∷◌, Option, Some, None, refl, sym, ap, subst, ◌∙◌, IsTotalOrder, lookup, set_value, insert_entry, is_at, Ordering, Less, Equal, Greater, IsBelow, IsRising, changed_value, same_Some}
 use Rattle.std.specs.List.{AllByRecursion}
-use Rattle.std.specs.Map.{lookup, set_value}
 use Rattle.std.specs.Ordering.{match_ordering, ordering_reverse}
-use Rattle.std.specs.BTreeMap.{insert_entry, is_at}
-use Rattle.std.specs.declared.cmp.Ordering.{Ordering}
-use Rattle.std.specs.declared.cmp.Ordering.TheVariants.{Less, Equal, Greater}
-use Rattle.qs_book_laws.proofs.Rising.{IsBelow, IsRising}
-use Rattle.qs_book_machine.specs.Transaction.{changed_value}
 
 module _ {K : Type 0} (cmp : K → K → Ordering) (exact : (a b : K) → cmp a b ≡ Equal → a ≡ b) where
   pub at_exact : (a b : K) → is_at (cmp a) b ≡ true → a ≡ b
@@ -52,11 +45,8 @@ module _ {K X : Type 0} (cmp : K → K → Ordering) where
     each_at P k [] u is all = absurd (cc is)
     each_at P k (e ∷ es) u is all = one (is_at (cmp k) e.0) refl is (each_at P k es u)
       where
-        same : (a b : X) → Some a ≡ Some b → a ≡ b
-        same a b is = cc is
-
         one : (b : Bool) → is_at (cmp k) e.0 ≡ b → lookup (is_at (cmp k)) (e ∷ es) ≡ Some u → (lookup (is_at (cmp k)) es ≡ Some u → Each P es → P k u) → P k u
-        one true at is more = subst (λ (l : K). P l u) (sym (at_exact cmp exact k e.0 at)) (subst (λ (x : X). P e.0 x) (same e.1 u (rw at at is)) all.0)
+        one true at is more = subst (λ (l : K). P l u) (sym (at_exact cmp exact k e.0 at)) (subst (λ (x : X). P e.0 x) (same_Some e.1 u (rw at at is)) all.0)
         one false at is more = more (rw at at is) all.1
 
     -- a value that is found there is changed

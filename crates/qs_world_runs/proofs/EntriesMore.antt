@@ -1,20 +1,8 @@
 -- What holds of the machine after the entries of a step so far, once they are lawful, goes on with one more of them.
-use Rattle.std.proofs.Common.{◌≡◌, ℕ, List, [], ◌∷◌, ◌++◌, Option, Some, None, refl, sym, ap, subst, ◌∙◌, length}
+use Rattle.qs_world_runs.proofs.Words.{◌≡◌, ℕ, List, [], ◌∷◌, ◌++◌, Option, Some, None, refl, sym, ap, subst, ◌∙◌, length, Member, Tid, Act, after_both, held, lawful_front, lawful_rest, BookValue, find_transaction, broken_issue, book_after, broken, effect, TransactionValue, Op, entries_of, entry_of, Actor, actor, lasts_ran, LastsWell}
 use Rattle.std.proofs.lemmas.List.{map-append}
-use Rattle.qs_base.specs.declared.identifiers.Member.{Member}
-use Rattle.qs_base.specs.declared.identifiers.Tid.{Tid}
-use Rattle.qs_book_journal.specs.declared.entry.Act.{Act}
 use Rattle.qs_book_journal.specs.declared.entry.Act.TheVariants as acts
-use Rattle.qs_book_laws.proofs.Steps.{after_both, held, lawful_front, lawful_rest}
-use Rattle.qs_book_machine.specs.Book.{BookValue, find_transaction}
-use Rattle.qs_book_machine.specs.Clauses.{broken_issue}
-use Rattle.qs_book_machine.specs.Lawful.{IsLawful, book_after, broken, effect}
-use Rattle.qs_book_machine.specs.Transaction.{TransactionValue}
-use Rattle.qs_ops.specs.declared.operation.Op.{Op}
-use Rattle.qs_world.specs.Posting.{entries_of, entry_of}
-use Rattle.qs_world_lawful.proofs.EntryTurns.{Actor, actor}
-use Rattle.qs_world_lawful.proofs.LastsOpening.{lasts_ran}
-use Rattle.qs_world_lawful.proofs.LastsWell.{LastsWell}
+use Rattle.qs_book_machine.specs.Lawful.{IsLawful}
 
 module _ (n stamp : ℕ) where
   module _ (before : BookValue) (w : LastsWell before) where

@@ -1,35 +1,16 @@
 -- Files keep few changes of each transaction through all that a server does: a change counts as an operation, and past 1,024 of them none is served.
-use Rattle.std.proofs.Common.{◌≡◌, ℕ, ◌+◌, ◌≤◌, ◌<◌, ◌^◌, ◌==◌, arith, Bool, true, false, List, [], ◌∷◌, ◌++◌, Option, Some, None, Less, Equal, Greater, refl, sym, subst, cond, nat_le, length, if◌then◌else◌}
-use Rattle.std.proofs.lemmas.Bool.Decides.{nat_tests}
-use Rattle.std.proofs.lemmas.List.{length-append}
-use Rattle.std.specs.BTreeMap.{insert_entry, is_at}
-use Rattle.std.specs.Map.{lookup, remove_entry, set_value}
-use Rattle.std.specs.Option.{option_map}
-use Rattle.std.specs.Prelude.{unwrap_or}
-use Rattle.std.specs.declared.cmp.Ordering.{Ordering}
-use Rattle.qs_base.proofs.TidOrder.{tid_exact}
-use Rattle.qs_base.specs.Order.{tid_cmp}
-use Rattle.qs_base.specs.declared.identifiers.ServerNo.{ServerNo}
-use Rattle.qs_base.specs.declared.identifiers.Tid.{Tid}
-use Rattle.qs_book_laws.proofs.Alikes.{at_exact}
-use Rattle.qs_ops.specs.Server.{ServerValue, after_notice, after_serving, after_vote, noted_by, noted_in, reply_in, reply_of, served_by, voted_by, voted_in}
+use Rattle.qs_world_runs.proofs.Words.{◌≡◌, ℕ, ◌+◌, ◌≤◌, ◌<◌, ◌^◌, ◌==◌, arith, Bool, true, false, List, [], ◌∷◌, ◌++◌, Option, Some, None, Less, Equal, Greater, refl, sym, subst, cond, nat_le, length, if◌then◌else◌, le_refl, nat_tests, length-append, insert_entry, is_at, lookup, remove_entry, set_value, option_map, unwrap_or, Ordering, tid_exact, tid_cmp, ServerNo, Tid, at_exact, ServerValue, after_notice, after_serving, after_vote, noted_by, noted_in, reply_of, served_by, voted_by, voted_in}
+use Rattle.qs_world_runs.proofs.Words.{TableValue, after_serve, kept, released, share_of, Op, Reply, ServerKind, Share, Notice, Vote, ServersValue, with_server, Every, AreFew, some_same}
+use Rattle.qs_ops.specs.Server.{reply_in}
 use Rattle.qs_ops.specs.Servers as servers
 use Rattle.qs_ops.specs.Spelled.{is_change}
-use Rattle.qs_ops.specs.Table.{TableValue, after_serve, change_by, free_reply, holder, kept, nothing_held, released, reply_to, served, share_of}
-use Rattle.qs_ops.specs.declared.operation.Op.{Op}
-use Rattle.qs_ops.specs.declared.reply.Reply.{Reply}
+use Rattle.qs_ops.specs.Table.{change_by, free_reply, holder, nothing_held, reply_to, served}
 use Rattle.qs_ops.specs.declared.reply.Reply.TheVariants as replies
-use Rattle.qs_ops.specs.declared.server.ServerKind.{ServerKind}
 use Rattle.qs_ops.specs.declared.server.ServerKind.TheVariants.{Files, Audit, Names, Timers, Windows, Scratch, Nothing}
 use Rattle.qs_ops.specs.declared.share.KeptChanges.{KeptChanges}
-use Rattle.qs_ops.specs.declared.share.Share.{Share}
-use Rattle.qs_ops.specs.declared.vote.Notice.{Notice}
 use Rattle.qs_ops.specs.declared.vote.Notice.TheVariants as notices
-use Rattle.qs_ops.specs.declared.vote.Vote.{Vote}
 use Rattle.qs_ops.specs.declared.vote.Vote.TheVariants as votes
-use Rattle.qs_node_servers.specs.Servers.{ServersValue, with_server}
-use Rattle.qs_world_lawful.specs.Logs.{Every}
-use Rattle.qs_world_runs.specs.Rooms.{AreFew, IsFew, IsFewOf}
+use Rattle.qs_world_runs.specs.Rooms.{IsFew, IsFewOf}
 
 -- ---- all entries of a map
 
@@ -56,11 +37,8 @@ module _ {K X : Type 0} (Q : K × X → Type 0) where
   each_set test f goes [] each v there = absurd (cc there)
   each_set test f goes (e ∷ es) each v there = by (test e.0) refl there (λ found. each_set test f goes es each.1 v found)
     where
-      of : {a b : X} → Some a ≡ Some b → a ≡ b
-      of e = cc e
-
       by : (b : Bool) → test e.0 ≡ b → cond b (Some e.1) (lookup test es) ≡ Some v → (lookup test es ≡ Some v → Every Q (set_value test es (f v))) → Every Q (set_value test (e ∷ es) (f v))
-      by true is at rest = rw is (subst (λ (x : X). Q (e.0, f x)) (of at) (goes e.0 e.1 is each.0), each.1)
+      by true is at rest = rw is (subst (λ (x : X). Q (e.0, f x)) (some_same at) (goes e.0 e.1 is each.0), each.1)
       by false is at rest = rw is (each.0, rest at)
 
   -- what is found is one of them
@@ -68,11 +46,8 @@ module _ {K X : Type 0} (Q : K × X → Type 0) where
   each_found test [] v each there = absurd (cc there)
   each_found test (e ∷ es) v each there = by (test e.0) refl there (λ found. each_found test es v each.1 found)
     where
-      of : {a b : X} → Some a ≡ Some b → a ≡ b
-      of e = cc e
-
       by : (b : Bool) → test e.0 ≡ b → cond b (Some e.1) (lookup test es) ≡ Some v → (lookup test es ≡ Some v → (k : K) × (test k ≡ true) × Q (k, v)) → (k : K) × (test k ≡ true) × Q (k, v)
-      by true is at rest = (e.0, is, subst (λ (x : X). Q (e.0, x)) (of at) each.0)
+      by true is at rest = (e.0, is, subst (λ (x : X). Q (e.0, x)) (some_same at) each.0)
       by false is at rest = rest at
 
 -- ---- a share
@@ -131,15 +106,12 @@ module _ (T : Tid → Type 0) where
   served_few : (table : TableValue) (tid : Tid) (op : Op) (reply : Reply) → reply_to table tid op ≡ Some reply → AreFew T table → AreFew T (served table tid op reply)
   served_few table tid op reply says each = put_few table tid (after_serve (share_of table tid) op reply) each (λ at. after_few (share_of table tid) op reply (few_share table tid each at) (λ other. left (free_reply table tid op) (nat_le 1024 (share_of table tid).operations) refl says other))
     where
-      one : {a b : Reply} → Some a ≡ Some b → a ≡ b
-      one e = cc e
-
       left : (free : Option Reply) (b : Bool) → nat_le 1024 (share_of table tid).operations ≡ b
           → option_map (λ (r : Reply). if b then replies.TooMany else (elim (holder table tid op) [ Some other ↦ replies.Busy other | None ↦ r ])) free ≡ Some reply
           → (reply ≡ replies.TooMany → ⊥) → nat_le 1024 (share_of table tid).operations ≡ false
       left free false few is other = few
       left None true many is other = absurd (cc is)
-      left (Some free) true many is other = absurd (other (sym (one is)))
+      left (Some free) true many is other = absurd (other (sym (some_same is)))
 
   voted_few : (table : TableValue) (tid : Tid) (ballot : Vote) → AreFew T table → AreFew T (voted_in table tid ballot)
   voted_few table tid votes.ReadOnly each = released_few table tid each
@@ -154,10 +126,7 @@ module _ (T : Tid → Type 0) where
 
   -- changes that a log kept
   pub kept_few : (table : TableValue) (k : KeptChanges) → (T k.tid → length k.changes < 2 ^ 64) → AreFew T table → AreFew T (kept table k)
-  kept_few table k few each = put_few table k.tid (record { changes = k.changes; reads = []; operations = length k.changes; voted = false }) each (λ at. record { counted = same (length k.changes); few = few at })
-    where
-      same : (n : ℕ) → n ≤ n
-      same n = omega arith
+  kept_few table k few each = put_few table k.tid (record { changes = k.changes; reads = []; operations = length k.changes; voted = false }) each (λ at. record { counted = le_refl (length k.changes); few = few at })
 
   -- ---- a server
 

@@ -1,22 +1,11 @@
 -- As a step begins nothing was sent: its field is that of the world.
-use Rattle.std.proofs.Common.{◌≡◌, ℕ, ◌+◌, ◌≤◌, ◌==◌, ◌&&◌, not, Bool, true, false, List, [], ◌++◌, refl, sym, ap, ◌∙◌, arith, if◌then◌else◌}
-use Rattle.std.proofs.lemmas.Bool.{eqb-true}
-use Rattle.qs_base.specs.declared.identifiers.ServerNo.{ServerNo}
-use Rattle.qs_base.specs.declared.identifiers.Tid.{Tid}
-use Rattle.qs_book_machine.specs.declared.transaction.RequestNo.{RequestNo}
-use Rattle.qs_packet.specs.declared.message.Message.{Message}
-use Rattle.qs_node_step.specs.State.{Work, work_on}
-use Rattle.qs_world.specs.World.{World}
-use Rattle.qs_world_runs.specs.Placed.{Field, asked, field_of, waiting}
-use Rattle.qs_world_runs.specs.PlacesAmid.{counted, field_amid}
+use Rattle.qs_world_runs.proofs.Words.{◌≡◌, ℕ, ◌+◌, ◌≤◌, ◌==◌, ◌&&◌, not, Bool, true, false, List, [], ◌++◌, refl, sym, ap, ◌∙◌, arith, if◌then◌else◌, eqb-true, ServerNo, Tid, RequestNo, Message, Work, work_on, World, Field, asked, field_of, waiting, field_amid, eq_le}
+use Rattle.qs_world_runs.specs.PlacesAmid.{counted}
 use Rattle.qs_world_runs.specs.PlacesEnds.{StepBegins}
 use Rattle.qs_world_runs.proofs.PlacedActs.{open_grown}
 use Rattle.qs_world_runs.proofs.PlacedAmid.{waits_amid}
 use Rattle.qs_world_runs.proofs.PlacedTx.{Grows, back, there}
 use Rattle.qs_world_runs.proofs.PlacesLeft.{asked_more}
-
-itself : (a : ℕ) → a ≤ a
-itself a = omega arith
 
 pub three_more : (a b c d e f : ℕ) → a ≤ d → b ≤ e → c ≤ f → a + (b + c) ≤ d + (e + f)
 three_more a b c d e f p q r = omega (arith, p, q, r)
@@ -48,11 +37,8 @@ module _ (t : Tid) (world : World) (n free : ℕ) where
       waits at server = by (at.link.to.0 == n) refl
         where
           by : (b : Bool) → (at.link.to.0 == n) ≡ b → waiting t (field_of world) at server ≤ waiting t first_field at server
-          by b is = least (waiting t (field_of world) at server) (waiting t first_field at server) (sym (waits_amid t (field_of world) (world.channels.peer n) n first at server ∙ picked b is))
+          by b is = eq_le (waiting t (field_of world) at server) (waiting t first_field at server) (sym (waits_amid t (field_of world) (world.channels.peer n) n first at server ∙ picked b is))
             where
-              least : (a c : ℕ) → a ≡ c → a ≤ c
-              least a c e = omega (arith, e)
-
               picked : (b : Bool) → (at.link.to.0 == n) ≡ b → (if at.link.to.0 == n then counted t at server (world.hosts n).node else waiting t (field_of world) at server) ≡ waiting t (field_of world) at server
               picked true same = ap (λ (c : Bool). if c then counted t at server (world.hosts n).node else waiting t (field_of world) at server) same ∙ ap (λ (k : ℕ). counted t at server (world.hosts k).node) (sym (eqb-true at.link.to.0 n same))
               picked false apart = ap (λ (c : Bool). if c then counted t at server (world.hosts n).node else waiting t (field_of world) at server) apart

@@ -1,32 +1,15 @@
 -- As a step ends each message stands behind what was on its way, or waits where no incarnation is known.
-use Rattle.std.proofs.Common.{◌≡◌, ℕ, ◌+◌, ◌-◌, ◌<◌, ◌≤◌, ◌==◌, ◌&&◌, not, Bool, true, false, List, [], ◌∷◌, ◌++◌, length, map, zero, suc, refl, sym, ap, subst, ◌∙◌, arith, if◌then◌else◌}
-use Rattle.std.proofs.lemmas.Bool.{eqb-true}
-use Rattle.std.proofs.lemmas.Bool.Decides.{nat_tests}
-use Rattle.std.specs.Prelude.{drop}
-use Rattle.qs_base.specs.declared.identifiers.ServerNo.{ServerNo}
-use Rattle.qs_base.specs.declared.identifiers.Tid.{Tid}
-use Rattle.qs_session_channels.specs.Channels.{Channels}
-use Rattle.qs_book_machine.specs.declared.transaction.RequestNo.{RequestNo}
-use Rattle.qs_packet.specs.declared.message.Message.{Message}
-use Rattle.qs_node_step.specs.State.{Work}
-use Rattle.qs_node_step.specs.Step.{accept}
-use Rattle.qs_world.specs.Moves.{Source, stepped, stepped_host, taken_by}
-use Rattle.qs_world.specs.Posting.{post_all}
-use Rattle.qs_world.specs.World.{Parcel, World}
-use Rattle.qs_world_refine.specs.Shows.{sent_to}
-use Rattle.qs_world_refine.proofs.Posted.{handed_all, inc_all, parcels, parcels_say, peer_all, posted_all, up_all, waits_all}
-use Rattle.qs_world_lawful.specs.Parcels.{pending, pending_from}
-use Rattle.qs_world_runs.specs.Placed.{Field, asked, field_of, message_of, waiting}
-use Rattle.qs_world_runs.specs.PlacesAmid.{counted, field_amid}
-use Rattle.qs_world_runs.specs.PlacesEnds.{AreInOrder, StepEnds, taken}
+use Rattle.qs_world_runs.proofs.Words.{◌≡◌, ℕ, ◌+◌, ◌-◌, ◌<◌, ◌≤◌, ◌==◌, ◌&&◌, not, Bool, true, false, List, [], ◌∷◌, ◌++◌, length, map, zero, suc, refl, sym, ap, subst, ◌∙◌, arith, if◌then◌else◌, le_refl, eqb-true, and_parts, nat_tests, drop, ServerNo, Tid, Channels, RequestNo, Message, Work, accept, Source, stepped_host, taken_by, post_all, Parcel, World, sent_to, inc_all, parcels, peer_all, up_all, pending, pending_from, Field, asked, field_of, message_of, waiting, field_amid, AreInOrder}
+use Rattle.qs_world_runs.proofs.Words.{taken, and_three, eq_le}
+use Rattle.qs_world.specs.Moves.{stepped}
+use Rattle.qs_world_refine.proofs.Posted.{handed_all, parcels_say, posted_all, waits_all}
+use Rattle.qs_world_runs.specs.PlacesAmid.{counted}
+use Rattle.qs_world_runs.specs.PlacesEnds.{StepEnds}
 use Rattle.qs_world_runs.proofs.FieldBegins.{three_more}
 use Rattle.qs_world_runs.proofs.PlacedActs.{open_grown}
 use Rattle.qs_world_runs.proofs.PlacedAmid.{kept_amid, sent_amid, waits_amid}
 use Rattle.qs_world_runs.proofs.PlacedTx.{Grows, back}
 use Rattle.qs_world_runs.proofs.PlacesLeft.{asked_more}
-
-itself : (a : ℕ) → a ≤ a
-itself a = omega arith
 
 module _ (t : Tid) (world : World) (n stamp : ℕ) (source : Source) (work : Work) (order : AreInOrder (taken_by world n source) n) where
   abbrev c : Channels Parcel
@@ -64,7 +47,7 @@ module _ (t : Tid) (world : World) (n stamp : ℕ) (source : Source) (work : Wor
     from_more f g k x each one i (suc more) low high = by (i == k) refl (from_more f g k x each one (suc i) more)
       where
         rest : (i more : ℕ) → ask (pending_from f i more) ≤ ask (pending_from g i more)
-        rest i zero = itself 0
+        rest i zero = le_refl 0
         rest i (suc more) = sums (ask (f i ++ pending_from f (suc i) more)) (ask (g i ++ pending_from g (suc i) more)) (ask (f i)) (ask (pending_from f (suc i) more)) (ask (g i)) (ask (pending_from g (suc i) more))
             (ask_more (f i) (pending_from f (suc i) more)) (ask_more (g i) (pending_from g (suc i) more)) (each i) (rest (suc i) more)
           where
@@ -121,7 +104,7 @@ module _ (t : Tid) (world : World) (n stamp : ℕ) (source : Source) (work : Wor
 
         by : (b : Bool) → ask (pending c p q i j) ≤ ask (if b then pending c p q i j ++ parcels n stamp q work.out.messages else pending c p q i j)
         by true = up (ask (pending c p q i j)) (ask (pending c p q i j ++ parcels n stamp q work.out.messages)) (ask (parcels n stamp q work.out.messages)) (ask_more (pending c p q i j) (parcels n stamp q work.out.messages))
-        by false = itself (ask (pending c p q i j))
+        by false = le_refl (ask (pending c p q i j))
 
     -- what was sent stands behind it
     and_more : (p q i j : ℕ) → test p q i j ≡ true → ask (pending c p q i j) + asked t server number (sent_to q work.out.messages) ≤ ask (pending d p q i j)
@@ -151,7 +134,7 @@ module _ (t : Tid) (world : World) (n stamp : ℕ) (source : Source) (work : Wor
         g i = pending d p q i (c.inc q)
 
         all_more : (i more : ℕ) → ask (pending_from f i more) ≤ ask (pending_from g i more)
-        all_more i zero = itself 0
+        all_more i zero = le_refl 0
         all_more i (suc more) = sums (ask (f i ++ pending_from f (suc i) more)) (ask (g i ++ pending_from g (suc i) more)) (ask (f i)) (ask (pending_from f (suc i) more)) (ask (g i)) (ask (pending_from g (suc i) more))
             (ask_more (f i) (pending_from f (suc i) more)) (ask_more (g i) (pending_from g (suc i) more)) (as_many p q i (c.inc q)) (all_more (suc i) more)
           where
@@ -161,16 +144,9 @@ module _ (t : Tid) (world : World) (n stamp : ℕ) (source : Source) (work : Wor
         plus_none : (a b : ℕ) → a ≤ b → a + 0 ≤ b
         plus_none a b e = omega (arith, e)
 
-        two : (a b : Bool) → (a && b) ≡ true → (a ≡ true) × (b ≡ true)
-        two true b so = (refl, so)
-        two false b so = absurd (cc so)
-
         tests : (a : Bool) (k l j : ℕ) → (a && ((k == l) && not (k == 0))) ≡ true → (a && ((j == j) && ((l == k) && not (l == 0)))) ≡ true
-        tests true k l j so = let same : k ≡ l = eqb-true k l (two (k == l) (not (k == 0)) so).0 in let some : not (k == 0) ≡ true = (two (k == l) (not (k == 0)) so).1 in
-            subst (λ (x : ℕ). ((j == j) && ((x == k) && not (x == 0))) ≡ true) same (shut (j == j) (k == k) (not (k == 0)) (grind (arith, nat_tests)) (grind (arith, nat_tests)) some)
-          where
-            shut : (x y z : Bool) → x ≡ true → y ≡ true → z ≡ true → (x && (y && z)) ≡ true
-            shut x y z p q r = rw (p, q, r) refl
+        tests true k l j so = let same : k ≡ l = eqb-true k l (and_parts (k == l) (not (k == 0)) so).0 in let some : not (k == 0) ≡ true = (and_parts (k == l) (not (k == 0)) so).1 in
+            subst (λ (x : ℕ). ((j == j) && ((x == k) && not (x == 0))) ≡ true) same (and_three (j == j) (k == k) (not (k == 0)) (grind (arith, nat_tests)) (grind (arith, nat_tests)) some)
         tests false k l j so = absurd (cc so)
 
         within : (a b : ℕ) → a ≤ b → b < a + ((b + 1) - a)
@@ -178,7 +154,7 @@ module _ (t : Tid) (world : World) (n stamp : ℕ) (source : Source) (work : Wor
 
         by : (b : Bool) → goes p q ≡ b → ask (pending_from f (c.peer q p) ((c.inc p + 1) - c.peer q p)) + (if b then asked t server number (sent_to q work.out.messages) else 0) ≤ ask (pending_from g (c.peer q p) ((c.inc p + 1) - c.peer q p))
         by false so = plus_none (ask (pending_from f (c.peer q p) ((c.inc p + 1) - c.peer q p))) (ask (pending_from g (c.peer q p) ((c.inc p + 1) - c.peer q p))) (all_more (c.peer q p) ((c.inc p + 1) - c.peer q p))
-        by true so = let at_n : p ≡ n = eqb-true p n (two (p == n) ((c.peer n q == c.inc q) && not (c.peer n q == 0)) so).0 in
+        by true so = let at_n : p ≡ n = eqb-true p n (and_parts (p == n) ((c.peer n q == c.inc q) && not (c.peer n q == 0)) so).0 in
             let low : c.peer q p ≤ c.inc p = subst (λ (k : ℕ). c.peer q k ≤ c.inc k) (sym at_n) (order.known q) in
             from_more f g (c.inc p) (asked t server number (sent_to q work.out.messages)) (λ i. as_many p q i (c.inc q))
             (and_more p q (c.inc p) (c.inc q) (subst (λ (k : ℕ). (k == n) && ((c.inc k == c.inc n) && ((c.inc q == c.peer n q) && not (c.inc q == 0))) ≡ true) (sym at_n) (tests (n == n) (c.peer n q) (c.inc q) (c.inc n) (subst (λ (k : ℕ). ((k == n) && ((c.peer n q == c.inc q) && not (c.peer n q == 0))) ≡ true) at_n so))))
@@ -207,7 +183,7 @@ module _ (t : Tid) (world : World) (n stamp : ℕ) (source : Source) (work : Wor
 
         own : (e : Bool) → ask (if e then c.waits p q else []) + (if e then asked t server number (sent_to q work.out.messages) else 0) ≤ ask (if e then (if e then c.waits p q ++ parcels n stamp q work.out.messages else c.waits p q) else [])
         own true = least (ask (c.waits p q ++ parcels n stamp q work.out.messages)) (ask (c.waits p q)) (ask (parcels n stamp q work.out.messages)) (asked t server number (sent_to q work.out.messages)) (ask_more (c.waits p q) (parcels n stamp q work.out.messages)) (ap (asked t server number) (parcels_say n stamp q work.out.messages))
-        own false = itself 0
+        own false = le_refl 0
 
         by : (b : Bool) → (p == n) ≡ b → ask (if c.up p && (c.peer p q == 0) then c.waits p q else []) + (if b && (c.peer n q == 0) then asked t server number (sent_to q work.out.messages) else 0)
             ≤ ask (if c.up p && (c.peer p q == 0) then (if b && (c.peer n q == 0) then c.waits p q ++ parcels n stamp q work.out.messages else c.waits p q) else [])
@@ -219,11 +195,8 @@ module _ (t : Tid) (world : World) (n stamp : ℕ) (source : Source) (work : Wor
             (ap (λ (k : ℕ). c.peer k q == 0) (sym at_n)) (own (c.peer n q == 0)))
 
   waits_then : (at : RequestNo) (server : ServerNo) → waiting t amid at server ≤ waiting t (field_of after) at server
-  waits_then at server = least (waiting t amid at server) (waiting t (field_of after) at server) (waits_amid t base (c.peer n) n work at server ∙ by (at.link.to.0 == n))
+  waits_then at server = eq_le (waiting t amid at server) (waiting t (field_of after) at server) (waits_amid t base (c.peer n) n work at server ∙ by (at.link.to.0 == n))
     where
-      least : (a b : ℕ) → a ≡ b → a ≤ b
-      least a b e = omega (arith, e)
-
       by : (b : Bool) → (if b then counted t at server work.node else waiting t base at server) ≡ counted t at server (if b then stepped_host stamp (accept work.node) work.out (world.hosts n) else world.hosts at.link.to.0).node
       by true = refl
       by false = refl

@@ -1,17 +1,8 @@
 -- What a field in the middle of a step has room for, as numbers: what waits, what is on its way, and what is kept back.
-use Rattle.std.proofs.Common.{◌≡◌, ℕ, ◌+◌, ◌≤◌, ◌==◌, ◌&&◌, not, Bool, true, false, refl, arith, if◌then◌else◌}
-use Rattle.qs_base.specs.declared.identifiers.ServerNo.{ServerNo}
-use Rattle.qs_base.specs.declared.identifiers.Tid.{Tid}
-use Rattle.qs_book_machine.specs.declared.transaction.RequestNo.{RequestNo}
-use Rattle.qs_node_step.specs.State.{Work}
-use Rattle.qs_world_refine.specs.Shows.{sent_to}
-use Rattle.qs_world_runs.specs.Placed.{Field, asked, waiting}
-use Rattle.qs_world_runs.specs.PlacesAmid.{counted, field_amid}
+use Rattle.qs_world_runs.proofs.Words.{◌≡◌, ℕ, ◌+◌, ◌≤◌, ◌==◌, ◌&&◌, not, Bool, true, false, refl, arith, if◌then◌else◌, ServerNo, Tid, RequestNo, Work, sent_to, Field, asked, waiting, field_amid}
+use Rattle.qs_world_runs.specs.PlacesAmid.{counted}
 use Rattle.qs_world_runs.proofs.PlacedAmid.{kept_amid, room, there_amid}
 use Rattle.qs_world_runs.proofs.PlacedTx.{Grows, back, there}
-
-pub itself : (a : ℕ) → a ≤ a
-itself a = omega arith
 
 pub room_more : (h g s : Bool) (w v x a b p q : ℕ) → w ≤ v → p ≤ q → room h g s w x a b p ≤ room h g s v x a b q
 room_more true true true w v x a b p q r e = omega (arith, r, e)

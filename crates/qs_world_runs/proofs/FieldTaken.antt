@@ -1,16 +1,6 @@
 -- A request that comes leaves its way and waits at its server: as many are there.
-use Rattle.std.proofs.Common.{◌≡◌, ℕ, ◌+◌, ◌-◌, ◌<◌, ◌≤◌, ◌==◌, ◌&&◌, Bool, true, false, List, [], ◌∷◌, ◌++◌, length, map, Some, zero, suc, refl, sym, ap, subst, ◌∙◌, arith, if◌then◌else◌}
-use Rattle.std.proofs.lemmas.Bool.{eqb-true}
-use Rattle.std.proofs.lemmas.Bool.Decides.{nat_tests}
-use Rattle.std.specs.Prelude.{drop, slice_get}
-use Rattle.qs_base.specs.declared.identifiers.ServerNo.{ServerNo}
-use Rattle.qs_base.specs.declared.identifiers.Tid.{Tid}
+use Rattle.qs_world_runs.proofs.Words.{◌≡◌, ℕ, ◌+◌, ◌-◌, ◌<◌, ◌≤◌, ◌==◌, ◌&&◌, Bool, true, false, List, [], ◌∷◌, ◌++◌, length, map, Some, zero, suc, refl, sym, ap, subst, ◌∙◌, arith, if◌then◌else◌, le_refl, eqb-true, and_parts, nat_tests, drop, slice_get, ServerNo, Tid, Channels, Message, Parcel, World, pending, pending_from, asked, field_of, message_of, eqb-self, same_Some}
 use Rattle.qs_session_channels.specs.Channels as channel
-use Rattle.qs_session_channels.specs.Channels.{Channels}
-use Rattle.qs_packet.specs.declared.message.Message.{Message}
-use Rattle.qs_world.specs.World.{Parcel, World}
-use Rattle.qs_world_lawful.specs.Parcels.{pending, pending_from}
-use Rattle.qs_world_runs.specs.Placed.{asked, field_of, message_of}
 use Rattle.qs_world_runs.proofs.PlacesLeft.{asked_more}
 
 -- ---- the first of what is on its way leaves it
@@ -28,10 +18,7 @@ module _ (t : Tid) (server : ServerNo) (number : ℕ) where
 
   -- behind the first incarnation all is as it was
   behind : (f g : ℕ → List Parcel) (k : ℕ) → ((i : ℕ) → k < i → f i ≡ g i) → (i more : ℕ) → k < i → ask (pending_from f i more) ≤ ask (pending_from g i more)
-  behind f g k each i zero low = itself 0
-    where
-      itself : (a : ℕ) → a ≤ a
-      itself a = omega arith
+  behind f g k each i zero low = le_refl 0
   behind f g k each i (suc more) low = sums (ask (f i ++ pending_from f (suc i) more)) (ask (g i ++ pending_from g (suc i) more)) (ask (f i)) (ask (g i)) (ask (pending_from f (suc i) more)) (ask (pending_from g (suc i) more))
       (ask_more (f i) (pending_from f (suc i) more)) (ask_more (g i) (pending_from g (suc i) more)) (ap ask (each i low)) (behind f g k each (suc i) more (later k i low))
     where
@@ -60,10 +47,7 @@ module _ (t : Tid) (server : ServerNo) (number : ℕ) where
 rest_of : (posted : List Parcel) (k : ℕ) (x : Parcel) → slice_get posted k ≡ Some x → drop k posted ≡ x ∷ drop (suc k) posted
 rest_of [] zero x is = absurd (cc is)
 rest_of [] (suc k) x is = absurd (cc is)
-rest_of (p ∷ posted) zero x is = ap (λ (y : Parcel). y ∷ posted) (one p x is)
-  where
-    one : (a b : Parcel) → Some a ≡ Some b → a ≡ b
-    one a b e = cc e
+rest_of (p ∷ posted) zero x is = ap (λ (y : Parcel). y ∷ posted) (same_Some p x is)
 rest_of (p ∷ posted) (suc k) x is = rest_of posted k x is
 
 longer : (xs : List Parcel) (x : Parcel) → length (xs ++ x ∷ []) ≡ suc (length xs)
@@ -84,16 +68,13 @@ module _ (t : Tid) (world : World) (n m : ℕ) (parcel : Parcel) (next : slice_g
   here : pending c m n (c.peer n m) (c.inc n) ≡ parcel ∷ pending d m n (c.peer n m) (c.inc n)
   here = rest_of (c.posted m n (c.peer n m) (c.inc n)) (length (c.handed m n (c.peer n m) (c.inc n))) parcel next ∙ ap (λ (k : ℕ). parcel ∷ drop k (c.posted m n (c.peer n m) (c.inc n))) (sym (ap length at_place ∙ longer (c.handed m n (c.peer n m) (c.inc n)) parcel))
     where
-      self : (a : ℕ) → (a == a) ≡ true
-      self a = grind (arith, nat_tests)
-
       at_place : d.handed m n (c.peer n m) (c.inc n) ≡ c.handed m n (c.peer n m) (c.inc n) ++ parcel ∷ []
-      at_place = picked (m == m) (n == n) (c.peer n m == c.peer n m) (c.inc n == c.inc n) (self m) (self n) (self (c.peer n m)) (self (c.inc n))
+      at_place = picked (m == m) (n == n) (c.peer n m == c.peer n m) (c.inc n == c.inc n) (eqb-self m) (eqb-self n) (eqb-self (c.peer n m)) (eqb-self (c.inc n))
         where
           picked : (p q r s : Bool) → p ≡ true → q ≡ true → r ≡ true → s ≡ true
               → (if p then (if q then (λ (k l : ℕ). if k == c.peer n m then (if l == c.inc n then c.handed m n (c.peer n m) (c.inc n) ++ parcel ∷ [] else c.handed m n k l) else c.handed m n k l) else c.handed m n) else c.handed m n) (c.peer n m) (c.inc n)
               ≡ c.handed m n (c.peer n m) (c.inc n) ++ parcel ∷ []
-          picked p q r s pe qe re se = rw (pe, qe) (inner (c.peer n m == c.peer n m) (c.inc n == c.inc n) (self (c.peer n m)) (self (c.inc n)))
+          picked p q r s pe qe re se = rw (pe, qe) (inner (c.peer n m == c.peer n m) (c.inc n == c.inc n) (eqb-self (c.peer n m)) (eqb-self (c.inc n)))
             where
               inner : (r s : Bool) → r ≡ true → s ≡ true → (if r then (if s then c.handed m n (c.peer n m) (c.inc n) ++ parcel ∷ [] else c.handed m n (c.peer n m) (c.inc n)) else c.handed m n (c.peer n m) (c.inc n)) ≡ c.handed m n (c.peer n m) (c.inc n) ++ parcel ∷ []
               inner r s re se = rw (re, se) refl
@@ -123,10 +104,6 @@ module _ (t : Tid) (world : World) (n m : ℕ) (parcel : Parcel) (next : slice_g
       same_less : (a b : ℕ) → a ≡ b → a ≤ b + 0
       same_less a b e = omega (arith, e)
 
-      two : (a b : Bool) → (a && b) ≡ true → (a ≡ true) × (b ≡ true)
-      two true b so = (refl, so)
-      two false b so = absurd (cc so)
-
       off : (a b e : Bool) → (a && b) ≡ false → (a && (b && e)) ≡ false
       off true true e so = absurd (cc so)
       off true false e so = refl
@@ -145,7 +122,7 @@ module _ (t : Tid) (world : World) (n m : ℕ) (parcel : Parcel) (next : slice_g
           (λ i low. sym (elsewhere m n i (c.inc n) (last (m == m) (n == n) (i == c.peer n m) (later (c.peer n m) i low)))) ((c.inc m + 1) - c.peer n m)
 
       by : (b : Bool) → own p q ≡ b → asked t server number ((field_of world).sent p q) ≤ asked t server number ((field_of handed_world).sent p q) + (if b then asked t server number (parcel.message ∷ []) else 0)
-      by true so = let both = two (p == m) (q == n) so in
+      by true so = let both = and_parts (p == m) (q == n) so in
           subst (λ (k : ℕ). asked t server number ((field_of world).sent k q) ≤ asked t server number ((field_of handed_world).sent k q) + asked t server number (parcel.message ∷ [])) (sym (eqb-true p m both.0))
           (subst (λ (k : ℕ). asked t server number ((field_of world).sent m k) ≤ asked t server number ((field_of handed_world).sent m k) + asked t server number (parcel.message ∷ [])) (sym (eqb-true q n both.1)) first)
       by false so = same_less (asked t server number ((field_of world).sent p q)) (asked t server number ((field_of handed_world).sent p q))

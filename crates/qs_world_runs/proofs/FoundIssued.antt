@@ -1,36 +1,22 @@
 -- A request that is issued fits and reaches its node; or it went out to one that it does not reach, and is awaited.
-use Rattle.std.proofs.Common.{◌≡◌, ◌⊎◌, inl, inr, ℕ, ◌+◌, ◌<◌, ◌≤◌, ◌==◌, ◌&&◌, not, nat_le, nat_lt, Bool, true, false, length, Some, None, refl, sym, ap, subst, ◌∙◌, arith, if◌then◌else◌}
-use Rattle.std.specs.BTreeMap.{is_at}
-use Rattle.std.proofs.lemmas.Bool.Decides.{nat_tests}
-use Rattle.qs_base.specs.Order.{tid_cmp}
-use Rattle.qs_base.specs.declared.identifiers.NodeNo.{NodeNo}
+use Rattle.qs_world_runs.proofs.Words.{◌≡◌, ◌⊎◌, inl, inr, ℕ, ◌+◌, ◌<◌, ◌≤◌, ◌==◌, ◌&&◌, not, nat_le, nat_lt, Bool, true, false, length, Some, None, refl, sym, ap, subst, ◌∙◌, arith, if◌then◌else◌, is_at, nat_tests, tid_cmp, NodeNo, Tid, last_number, next_sent, peer_of, same_node, Op, is_other, enter_issue, issue_as, issue_away, issue_here, next_local, Work, here, with_manager, Setting, Outstanding, Participant, is_sound, is_sound_peer, known_sound, Field, IssueFinds, Reaches, same_Some}
+use Rattle.qs_world_runs.proofs.Words.{apart_turned}
 use Rattle.qs_base.specs.declared.identifiers.Outcome.TheVariants as outcomes
-use Rattle.qs_base.specs.declared.identifiers.Tid.{Tid}
-use Rattle.qs_engage.specs.Engage.{last_number, next_sent, peer_of}
-use Rattle.qs_engage.specs.Nodes.{all_nodes, same_node}
+use Rattle.qs_engage.specs.Nodes.{all_nodes}
 use Rattle.qs_ipc.specs.Queue.{is_for}
-use Rattle.qs_ops.specs.declared.operation.Op.{Op}
-use Rattle.qs_node_step.specs.Bringing.{is_other}
-use Rattle.qs_node_step.specs.Requests.{enter_issue, issue_as, issue_away, issue_here, next_local, next_number}
-use Rattle.qs_node_step.specs.State.{Work, here, part_of, with_manager}
-use Rattle.qs_node_step.specs.declared.setting.Setting.{Setting}
+use Rattle.qs_node_step.specs.Requests.{next_number}
+use Rattle.qs_node_step.specs.State.{part_of}
 use Rattle.qs_tm.specs.Manager as tm
 use Rattle.qs_tm.specs.Participant as participant
-use Rattle.qs_tm.specs.declared.participant.Outstanding.{Outstanding}
-use Rattle.qs_tm.specs.declared.participant.Participant.{Participant}
-use Rattle.qs_world_refine.specs.Sound.{is_sound, is_sound_peer}
 use Rattle.qs_world_refine.proofs.Known.{told_is}
 use Rattle.qs_world_refine.proofs.Maps.{lookup_changed}
 use Rattle.qs_world_refine.proofs.NodeSets.{all_named}
 use Rattle.qs_world_refine.proofs.PassGoes.{whole_of}
 use Rattle.qs_world_refine.proofs.SoundCount.{all_at}
-use Rattle.qs_world_refine.proofs.SoundHolds.{known_sound}
 use Rattle.qs_world_refine.proofs.SoundParts.{and_both}
-use Rattle.qs_world_runs.specs.Placed.{Field}
-use Rattle.qs_world_runs.specs.PlacesFound.{IssueFinds}
-use Rattle.qs_world_runs.specs.PlacesRules.{Reaches}
 use Rattle.qs_world_runs.proofs.Onward.{Awaits, Onward, awaits_on, onward_on, sent_awaits, sent_onward, issued_onward}
 use Rattle.qs_world_runs.proofs.StuckRules.{Kept, goes_out}
+use Rattle.std.proofs.lemmas.Bool.{leb-true}
 
 abbrev pub IsUncommitted : Participant → Type 0
 IsUncommitted part = (part.outcome ≡ None) ⊎ (part.outcome ≡ Some outcomes.Abort)
@@ -87,11 +73,8 @@ pub record IsCounted (part : Participant) (m : NodeNo) : Type 0 where
 pub counted_sound : (t : Tid) (work : Work) (part : Participant) (m : NodeNo) → is_sound work.node ≡ true → part_of t work ≡ Some part → m.0 < 16 → IsCounted part m
 counted_sound t work part m sound known low = record {
   within = subst (λ (k : ℕ). m.0 < k) (sym (whole_of part (known_sound t work.node part known sound).whole).peers) low;
-  covered = less (peer_of part.engage m).covered (peer_of part.engage m).sent (and_both (nat_le (peer_of part.engage m).covered (peer_of part.engage m).sent) _ (all_at (is_sound_peer work.node part) all_nodes m.0 (known_sound t work.node part known sound).peers (all_named m.0 low))).0;
+  covered = leb-true (peer_of part.engage m).covered (peer_of part.engage m).sent (and_both (nat_le (peer_of part.engage m).covered (peer_of part.engage m).sent) _ (all_at (is_sound_peer work.node part) all_nodes m.0 (known_sound t work.node part known sound).peers (all_named m.0 low))).0;
 }
-  where
-    less : (a b : ℕ) → nat_le a b ≡ true → a ≤ b
-    less a b is = grind (arith, nat_tests, is)
 
 counted_on : (part next : Participant) (m : NodeNo) → Onward part next → IsCounted part m → IsCounted next m
 counted_on part next m onward is = record {
@@ -126,11 +109,8 @@ module _ (D : Type 0) (t : Tid) (base : Field) (knows : ℕ → ℕ) where
       goes : is_other mid.node.setting m ≡ true
       goes = by (m.0 == mid.node.setting.node.0) (nat_lt m.0 mid.node.setting.nodes) other (ap (λ (s : Setting). nat_lt m.0 s.nodes) setting ∙ in_run)
         where
-          turned : (a b : ℕ) → (a == b) ≡ false → (b == a) ≡ false
-          turned a b is = grind (arith, nat_tests, is)
-
           by : (a b : Bool) → (m.0 == mid.node.setting.node.0) ≡ false → nat_lt m.0 mid.node.setting.nodes ≡ true → is_other mid.node.setting m ≡ true
-          by a b apart within = rw (turned m.0 mid.node.setting.node.0 apart, within) refl
+          by a b apart within = rw (apart_turned m.0 mid.node.setting.node.0 apart, within) refl
 
       sent_number : next_sent m part.engage ≡ Some request.number
       sent_number =
@@ -156,15 +136,12 @@ module _ (D : Type 0) (t : Tid) (base : Field) (knows : ℕ → ℕ) where
           number_is : (s : ℕ) → next_sent m part.engage ≡ Some request.number → s ≤ (peer_of part.engage m).sent → s < request.number
           number_is s is less = picked ((peer_of part.engage m).sent == last_number) is
             where
-              equal : (a b : ℕ) → Some a ≡ Some b → a ≡ b
-              equal a b e = cc e
-
               above : (a b c : ℕ) → a + 1 ≡ c → b ≤ a → b < c
               above a b c e p = omega (arith, e, p)
 
               picked : (b : Bool) → (if b then None else Some ((peer_of part.engage m).sent + 1)) ≡ Some request.number → s < request.number
               picked true is = absurd (cc is)
-              picked false is = above (peer_of part.engage m).sent s request.number (equal ((peer_of part.engage m).sent + 1) request.number is) less
+              picked false is = above (peer_of part.engage m).sent s request.number (same_Some ((peer_of part.engage m).sent + 1) request.number is) less
 
           by : Kept t counted_work (issue_away t request op mid) sent_part → Late t work (issue_away t request op mid) m
           by kept = record {

@@ -1,19 +1,11 @@
 -- A request that went out late dooms its transaction: where its sender knows an incarnation that does not run any more, that takes nothing more of it.
-use Rattle.std.proofs.Common.{◌≡◌, inl, inr, ℕ, ◌<◌, ◌≤◌, ◌==◌, ◌&&◌, Bool, true, false, refl, sym, ap, subst, ◌∙◌, arith, if◌then◌else◌}
-use Rattle.std.proofs.lemmas.Bool.Decides.{nat_tests}
-use Rattle.qs_base.specs.declared.identifiers.Tid.{Tid}
-use Rattle.qs_node_step.specs.State.{Work}
+use Rattle.qs_world_runs.proofs.Words.{◌≡◌, inl, inr, ℕ, ◌<◌, ◌≤◌, ◌==◌, ◌&&◌, Bool, true, false, refl, sym, ap, subst, ◌∙◌, arith, if◌then◌else◌, nat_tests, Tid, Work, Leads, IsDoomed, IsPast, known_place, place, Scene, Field, Reaches}
 use Rattle.qs_world_agree.specs.World as machine
-use Rattle.qs_world_agree.specs.Carry.{Leads}
-use Rattle.qs_world_agree.specs.Doomed.{IsDoomed, IsPast}
 use Rattle.qs_world_agree.specs.Laws.{IsReached}
 use Rattle.qs_world_agree.proofs.Doomed.{late_dooms}
 use Rattle.qs_world_agree.proofs.Lawful.{inv_reached}
-use Rattle.qs_world_refine.specs.Places.{known_place, place}
-use Rattle.qs_world_refine.specs.Shows.{Scene, Shows}
+use Rattle.qs_world_refine.specs.Shows.{Shows}
 use Rattle.qs_world_refine.specs.Stands.{Stands}
-use Rattle.qs_world_runs.specs.Placed.{Field}
-use Rattle.qs_world_runs.specs.PlacesRules.{Reaches}
 
 -- which places a world of the agreement machine has, and which run and are known at node n
 pub record Sees (scene : Scene) (n : ℕ) (w : machine.World) : Type 0 where

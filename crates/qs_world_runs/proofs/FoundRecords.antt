@@ -1,41 +1,11 @@
 -- What is on record once a restart has put on record the votes that it finds: of each its own where it is new, and else what was there.
-use Rattle.std.proofs.Common.{◌≡◌, ◌⊎◌, inl, inr, ℕ, ◌==◌, ◌&&◌, ◌||◌, not, Bool, true, false, List, [], ◌∷◌, flat_map, Option, Some, None, refl, sym, ap, subst, ◌∙◌, arith, if◌then◌else◌}
-use Rattle.std.proofs.lemmas.Bool.Decides.{nat_tests}
-use Rattle.std.proofs.lemmas.List.Sums.{fold-append}
-use Rattle.std.specs.Prelude.{slice_get}
-use Rattle.std.specs.List.{list_any}
-use Rattle.std.specs.Map.{lookup}
-use Rattle.std.specs.BTreeMap.{is_at}
-use Rattle.qs_base.specs.Order.{same_tid}
-use Rattle.qs_base.proofs.Same.{same_tid-self}
-use Rattle.qs_base.specs.declared.identifiers.Tid.{Tid}
-use Rattle.qs_book_journal.specs.declared.entry.Found.{Found}
-use Rattle.qs_book_laws.proofs.Alikes.{voter_equal, voter_exact, voter_itself}
-use Rattle.qs_book_laws.proofs.Maps.{changed_at_here, lookup_put, lookup_put_apart}
-use Rattle.qs_book_laws.proofs.Rising.{IsBelow, IsRising}
-use Rattle.qs_book_machine.specs.Book.{BookValue, find_transaction}
+use Rattle.qs_world_runs.proofs.Words.{◌≡◌, ◌⊎◌, inl, inr, ℕ, ◌==◌, ◌&&◌, not, Bool, true, false, List, [], ◌∷◌, Option, Some, None, refl, sym, ap, subst, ◌∙◌, if◌then◌else◌, fold-append, slice_get, list_any, lookup, is_at, same_tid, same_tid-self, Tid, Found, voter_exact, changed_at_here, IsBelow, IsRising, BookValue, find_transaction, record_of, voter, voter_cmp, put_new_votes, record_at, OnRecord, Voter, Every, and_parts, not-true, or_parts, eqb-self}
+use Rattle.std.proofs.Common.{flat_map}
+use Rattle.qs_book_laws.proofs.Alikes.{voter_equal, voter_itself}
+use Rattle.qs_book_laws.proofs.Maps.{lookup_put, lookup_put_apart}
 use Rattle.qs_book_machine.specs.Nodes as machine
-use Rattle.qs_book_machine.specs.Nodes.{record_of, voter, voter_cmp}
-use Rattle.qs_book_machine.specs.Restart.{is_new_vote, is_same_vote, new_vote, new_votes, put_new_votes, record_at, vote_as_stopped, voter_of, votes_once, with_vote, with_votes}
-use Rattle.qs_book_machine.specs.declared.state.OnRecord.{OnRecord}
-use Rattle.qs_book_machine.specs.declared.state.Voter.{Voter}
-use Rattle.qs_world_lawful.specs.Logs.{Every}
+use Rattle.qs_book_machine.specs.Restart.{is_new_vote, is_same_vote, new_vote, new_votes, vote_as_stopped, voter_of, votes_once, with_vote, with_votes}
 use Rattle.qs_world_lawful.proofs.RestoredRecords.{new_votes_are}
-
-both : (a b : Bool) → (a && b) ≡ true → (a ≡ true) × (b ≡ true)
-both true b e = (refl, e)
-both false b e = absurd (cc e)
-
-off : (b : Bool) → not b ≡ true → b ≡ false
-off false e = refl
-off true e = absurd (cc e)
-
-neither : (a b : Bool) → (a || b) ≡ false → (a ≡ false) × (b ≡ false)
-neither false b e = (refl, e)
-neither true b e = absurd (cc e)
-
-equal : (n : ℕ) → (n == n) ≡ true
-equal n = grind (arith, nat_tests)
 
 module _ (here : ℕ) (book : BookValue) (state : machine.NodeValue) where
   abbrev nv : Found → List (Voter × OnRecord)
@@ -73,13 +43,13 @@ module _ (here : ℕ) (book : BookValue) (state : machine.NodeValue) where
   -- others are far, where each is found once
   once_far : (f : Found) (fs : List Found) → list_any (is_same_vote f) fs ≡ false → Every (IsFar (voter_of f)) fs
   once_far f [] none = tt
-  once_far f (g ∷ fs) none = (by (is_at (voter_cmp (voter_of f)) (voter_of g)) refl, once_far f fs (neither (is_same_vote f g) _ none).1)
+  once_far f (g ∷ fs) none = (by (is_at (voter_cmp (voter_of f)) (voter_of g)) refl, once_far f fs (or_parts (is_same_vote f g) _ none).1)
     where
       by : (b : Bool) → is_at (voter_cmp (voter_of f)) (voter_of g) ≡ b → is_at (voter_cmp (voter_of f)) (voter_of g) ≡ false
       by false e = e
       by true e =
           let same : voter_of f ≡ voter_of g = voter_exact (voter_of f) (voter_of g) e in
-          absurd (cc (sym (neither (is_same_vote f g) _ none).0 ∙ subst (λ (v : Voter). (same_tid v.tid f.tid && (v.server.0 == f.server.0)) ≡ true) same (rw (same_tid-self f.tid, equal f.server.0) refl)))
+          absurd (cc (sym (or_parts (is_same_vote f g) _ none).0 ∙ subst (λ (v : Voter). (same_tid v.tid f.tid && (v.server.0 == f.server.0)) ≡ true) same (rw (same_tid-self f.tid, eqb-self f.server.0) refl)))
 
   each_leaves : (at : Voter) (fs : List Found) → Every (IsFar at) fs → Every (LeavesAt at) fs
   each_leaves at [] far = tt
@@ -118,10 +88,10 @@ module _ (here : ℕ) (book : BookValue) (state : machine.NodeValue) where
       (all_leave fs (with_votes (nv f) w) (voter_of f) (each_leaves (voter_of f) fs far) ∙ own_then f w agrees.0, each_then fs (with_votes (nv f) w) apart.1 (agree_on f w fs far agrees.1))
     where
       apart : (not (list_any (is_same_vote f) fs) ≡ true) × (votes_once fs ≡ true)
-      apart = both _ (votes_once fs) once
+      apart = and_parts _ (votes_once fs) once
 
       far : Every (IsFar (voter_of f)) fs
-      far = once_far f fs (off _ apart.0)
+      far = once_far f fs (not-true _ apart.0)
 
   all_agree : (fs : List Found) → Every (Agrees state) fs
   all_agree [] = tt

@@ -1,30 +1,20 @@
 -- Where a node is blocked for a transaction, the machine may have it refused there as well: what shows it shows it then too.
-use Rattle.std.proofs.Common.{◌≡◌, ℕ, ◌<◌, ◌==◌, Bool, true, false, List, [], ◌∷◌, Option, Some, None, refl, sym, ap, subst, ◌∙◌, arith, if◌then◌else◌}
-use Rattle.std.proofs.lemmas.Bool.{eqb-true}
-use Rattle.std.proofs.lemmas.Bool.Decides.{nat_tests}
-use Rattle.qs_base.specs.declared.identifiers.Tid.{Tid}
-use Rattle.qs_record.specs.declared.record.Record.{Record}
+use Rattle.qs_world_runs.proofs.Words.{◌≡◌, ℕ, ◌<◌, ◌==◌, Bool, true, false, List, [], ◌∷◌, Option, Some, None, refl, sym, ap, subst, ◌∙◌, if◌then◌else◌, eqb-true, Tid, Record, Participant, World, Leads, IsDoomed, ShowsAll, ShowsFace, face_at, place, scene_of, sight, eqb-self, same_Some}
 use Rattle.qs_record.specs.declared.record.Record.TheVariants as records
 use Rattle.qs_tm.specs.Manager as tm
-use Rattle.qs_tm.specs.declared.participant.Participant.{Participant}
-use Rattle.qs_world.specs.World.{World}
 use Rattle.qs_world_agree.specs.World as machine
 use Rattle.qs_world_agree.specs.World.{with_at}
-use Rattle.qs_world_agree.specs.Carry.{Leads}
-use Rattle.qs_world_agree.specs.Doomed.{IsDoomed}
 use Rattle.qs_world_agree.specs.Step.{Refuse}
 use Rattle.qs_world_agree.proofs.Doomed.{refusal_dooms}
-use Rattle.qs_world_refine.specs.EachMove.{ShowsAll}
-use Rattle.qs_world_refine.specs.Faces.{Face, ShowsFace, ShowsOpen}
+use Rattle.qs_world_refine.specs.Faces.{Face, ShowsOpen}
 use Rattle.qs_world_refine.specs.MoveLaws.{AllClose, MayClose}
-use Rattle.qs_world_refine.specs.NodeFaces.{face, face_at}
-use Rattle.qs_world_refine.specs.Places.{place}
-use Rattle.qs_world_refine.specs.Shows.{scene_of, sight}
+use Rattle.qs_world_refine.specs.NodeFaces.{face}
 use Rattle.qs_world_refine.specs.Sights.{Sight, ShowsLog, ShowsSight}
 use Rattle.qs_world_refine.proofs.Facts.{lawful_on}
 use Rattle.qs_world_refine.proofs.Placing.{placed_stay}
 use Rattle.qs_world_refine.proofs.Reading.{part_known}
 use Rattle.qs_world_runs.proofs.Onward.{IsHeldUp}
+use Rattle.std.proofs.lemmas.Option.{none-some}
 
 abbrev pub refused_at : machine.World → ℕ → machine.World
 refused_at w p = record w { refused = with_at w.refused p true }
@@ -126,9 +116,6 @@ pub record Refused (t : Tid) (after : World) (n : ℕ) (w : machine.World) : Typ
 
 module _ (t : Tid) (after : World) (n : ℕ) (w : machine.World) (all : ShowsAll t after w) (low : n < after.size) (up : after.channels.up n ≡ true)
     (on : (part : Participant) → tm.part_of t (after.hosts n).node.manager ≡ Some part → IsHeldUp part → part.outcome ≡ None → (face (after.hosts n).node t part).on ≡ true) where
-  same_part : (a b : Participant) → Some a ≡ Some b → a ≡ b
-  same_part a b e = cc e
-
   pub refused_then : Refused t after n w
   refused_then = by (tm.part_of t (after.hosts n).node.manager) refl
     where
@@ -141,7 +128,7 @@ module _ (t : Tid) (after : World) (n : ℕ) (w : machine.World) (all : ShowsAll
       }
         where
           never : (p : Participant) → tm.part_of t (after.hosts n).node.manager ≡ Some p → IsHeldUp p → ⊥
-          never p its held = let so : part.blocked ≡ true = subst (λ (k : Participant). k.blocked ≡ true) (same_part p part (sym its ∙ known)) held.blocked in cc (so, free)
+          never p its held = let so : part.blocked ≡ true = subst (λ (k : Participant). k.blocked ≡ true) (same_Some p part (sym its ∙ known)) held.blocked in cc (so, free)
       blocked_or part known true blocked = record {
         next = refused_at w (place n (after.channels.inc n));
         leads = leads_refused t after n w all low up part known blocked;
@@ -152,20 +139,14 @@ module _ (t : Tid) (after : World) (n : ℕ) (w : machine.World) (all : ShowsAll
           shown : ShowsAll t after (refused_at w (place n (after.channels.inc n)))
           shown = shows_refused t after n w all low up part known blocked
 
-          itself : (a : ℕ) → (a == a) ≡ true
-          itself a = grind (arith, nat_tests)
-
           picked : (b : Bool) → b ≡ true → (if b then true else w.refused (place n (after.channels.inc n))) ≡ true
           picked b is = rw is refl
 
           dooms : (p : Participant) → tm.part_of t (after.hosts n).node.manager ≡ Some p → IsHeldUp p → p.outcome ≡ None → IsDoomed (refused_at w (place n (after.channels.inc n)))
           dooms p its held undecided = refusal_dooms (refused_at w (place n (after.channels.inc n))) (place n (after.channels.inc n)) shown.seen.lawful.reached
               ((shown.seen.shown.faces n low up).engaged ∙ (ap (λ (k : Participant). (face (after.hosts n).node t k).on) (part_known t (after.hosts n).node p its) ∙ on p its held undecided))
-              (picked (place n (after.channels.inc n) == place n (after.channels.inc n)) (itself (place n (after.channels.inc n))))
+              (picked (place n (after.channels.inc n) == place n (after.channels.inc n)) (eqb-self (place n (after.channels.inc n))))
 
       by : (o : Option Participant) → tm.part_of t (after.hosts n).node.manager ≡ o → Refused t after n w
-      by None none = record { next = w; leads = record { events = []; run = refl }; shows = all; held = λ p its held undecided. absurd (clash p (sym none ∙ its)) }
-        where
-          clash : (p : Participant) → None ≡ Some p → ⊥
-          clash p e = cc e
+      by None none = record { next = w; leads = record { events = []; run = refl }; shows = all; held = λ p its held undecided. absurd (none-some p (sym none ∙ its)) }
       by (Some part) known = blocked_or part known part.blocked refl

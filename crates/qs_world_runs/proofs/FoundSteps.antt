@@ -1,58 +1,24 @@
 -- A whole step: what it issues and votes of a transaction finds what it needs at each stage, or that is doomed in what shows it after the step.
-use Rattle.std.proofs.Common.{◌≡◌, inl, inr, ℕ, ◌<◌, ◌≤◌, ◌==◌, ◌&&◌, ◌||◌, not, nat_lt, Bool, true, false, Option, Some, None, is_some, refl, sym, ap, subst, ◌∙◌, arith, if◌then◌else◌, []}
-use Rattle.std.proofs.lemmas.Bool.Decides.{nat_tests}
-use Rattle.qs_base.specs.declared.identifiers.NodeNo.{NodeNo}
+use Rattle.qs_world_runs.proofs.Words.{◌≡◌, inl, inr, ℕ, ◌<◌, ◌≤◌, ◌==◌, ◌&&◌, ◌||◌, not, nat_lt, Bool, true, false, Option, Some, None, is_some, refl, sym, ap, subst, ◌∙◌, arith, if◌then◌else◌, [], nat_tests, NodeNo, Tid, peer_of, names_transaction, due_tids, settle, settle_tid, Work, accept, after_step, effects_of, step_work, wait_on, waiting_clients, Event, is_undecided, Participant, Clock, Commanded, Handed, Noticed, Queues, Source, event_of, step_with, stepped_host, taken_by, Opening}
+use Rattle.qs_world_runs.proofs.Words.{World, Parcel, Leads, IsDoomed, leads_on, abort_dooms, doom_stays, IsShownWorld, AllGoes, ShowsAll, taken_scene, outcome_seen, place, BeginsNew, Scene, scene_of, StepCame, step_came, from_node, from_notice, face_is, shown_here, up_taken, up_all, home_in_run, shown_fit, begun_low, steady_gives, done_work, first_work, MakesStep, Joined, PlacesAt, Field, field_of, taken, ComesFinds, Reaches, Channels, IsSteady, StepMay, step_may, same_Some, eqb-self}
 use Rattle.qs_base.specs.declared.identifiers.Outcome.{Outcome}
-use Rattle.qs_base.specs.declared.identifiers.Tid.{Tid}
-use Rattle.qs_engage.specs.Engage.{peer_of}
-use Rattle.qs_restart.specs.Recovery.{names_transaction}
-use Rattle.qs_node_step.specs.Settling.{due_tids, settle, settle_tid}
-use Rattle.qs_node_step.specs.State.{NodeValue, Work, part_of}
-use Rattle.qs_node_step.specs.Step.{accept, after_step, effects_of, step_work, wait_on, waiting_clients}
-use Rattle.qs_node_step.specs.declared.event.Event.{Event}
+use Rattle.qs_node_step.specs.State.{NodeValue, part_of}
 use Rattle.qs_node_step.specs.declared.event.Event.TheVariants as events
 use Rattle.qs_tm.specs.Manager as tm
-use Rattle.qs_tm.specs.Participant.{is_undecided}
-use Rattle.qs_tm.specs.declared.participant.Participant.{Participant}
-use Rattle.qs_world.specs.Moves.{Clock, Commanded, Handed, Noticed, Queues, Source, event_of, step_with, stepped_host, taken_by}
-use Rattle.qs_world.specs.World.{Opening, World, Parcel}
 use Rattle.qs_world_agree.specs.World as machine
-use Rattle.qs_world_agree.specs.Carry.{Leads}
-use Rattle.qs_world_agree.specs.Doomed.{IsDoomed}
-use Rattle.qs_world_agree.proofs.Carries.{leads_on}
-use Rattle.qs_world_agree.proofs.Doomed.{abort_dooms, doom_stays}
 use Rattle.qs_world_refine.specs.Begun.{has_begun}
-use Rattle.qs_world_refine.specs.ShownWorlds.{IsShownWorld}
-use Rattle.qs_world_refine.specs.EachMove.{AllGoes, ShowsAll}
 use Rattle.qs_world_refine.specs.Faces.{Face}
-use Rattle.qs_world_refine.specs.MoveLaws.{taken_scene}
-use Rattle.qs_world_refine.specs.NodeFaces.{face, outcome_seen}
-use Rattle.qs_world_refine.specs.Places.{place}
-use Rattle.qs_world_refine.specs.SaidLaws.{BeginsNew}
-use Rattle.qs_world_refine.specs.Shows.{Scene, scene_of}
+use Rattle.qs_world_refine.specs.NodeFaces.{face}
 use Rattle.qs_world_refine.specs.SoundSteps.{MayHappen, begun}
 use Rattle.qs_world_refine.specs.Stands.{GoesOn, Stands}
-use Rattle.qs_world_refine.proofs.EachEvent.{StepCame, step_came}
-use Rattle.qs_world_refine.proofs.EachMay.{each_may_come, from_node, from_notice}
-use Rattle.qs_world_refine.proofs.Heads.{face_is, shown_here}
-use Rattle.qs_world_refine.proofs.Moving.{up_taken}
+use Rattle.qs_world_refine.proofs.EachMay.{each_may_come}
 use Rattle.qs_world_refine.proofs.PassGoes.{engaged}
-use Rattle.qs_world_refine.proofs.Posted.{up_all}
 use Rattle.qs_world_refine.proofs.SaidSteps.{step_open}
-use Rattle.qs_world_refine.proofs.ShownMoves.{home_in_run, shown_fit}
 use Rattle.qs_world_refine.proofs.SoundParts.{and_both}
-use Rattle.qs_world_refine.proofs.SteadyFrom.{begun_low, steady_gives}
 use Rattle.qs_world_refine.proofs.StepAll.{step_goes_further, stood, then_f}
 use Rattle.qs_world_refine.proofs.StepJoined.{after_leads}
-use Rattle.qs_world_lawful.specs.GivenStep.{done_work, first_work}
 use Rattle.qs_world_lawful.proofs.FactsStages.{happens_keep, settle_keeps}
-use Rattle.qs_world_runs.specs.Agrees.{MakesStep}
-use Rattle.qs_world_runs.specs.Joined.{Joined}
-use Rattle.qs_world_runs.specs.JoinedPlaces.{PlacesAt}
-use Rattle.qs_world_runs.specs.Placed.{Field, field_of}
-use Rattle.qs_world_runs.specs.PlacesEnds.{taken}
-use Rattle.qs_world_runs.specs.PlacesFound.{ComesFinds, StepFound, StepsFind}
-use Rattle.qs_world_runs.specs.PlacesRules.{Reaches}
+use Rattle.qs_world_runs.specs.PlacesFound.{StepFound, StepsFind}
 use Rattle.qs_world_runs.proofs.FoundIssued.{IsUncommitted}
 use Rattle.qs_world_runs.proofs.FoundLate.{sees_work, sees_world, unreached_doomed, Sees}
 use Rattle.qs_world_runs.proofs.FoundRefused.{Refused, refused_then}
@@ -63,15 +29,6 @@ use Rattle.qs_world_runs.proofs.Stuck.{settle_sticks, wait_keeps}
 use Rattle.qs_world_runs.proofs.StuckRules.{Sticks, sticks_fold, sticks_of, sticks_on, keeps_itself}
 use Rattle.qs_world_runs.proofs.TurnsShown.{stands_taken}
 use Rattle.qs_world_refine.proofs.EachHears as hears
-use Rattle.qs_session_channels.specs.Channels.{Channels}
-use Rattle.qs_world_refine.specs.Steady.{IsSteady}
-use Rattle.qs_world_refine.proofs.MoveGoes.{StepMay, step_may}
-
-one : (a b : Event) → Some a ≡ Some b → a ≡ b
-one a b same = cc same
-
-itself : (k : ℕ) → (k == k) ≡ true
-itself k = grind (arith, nat_tests)
 
 module _ (t : Tid) (o : Opening) (world : World) (n stamp free : ℕ) (source : Source) (event : Event) (w : machine.World) (j : Joined PlacesAt o world) (makes : MakesStep world n stamp source event) (began : has_begun world t ≡ true) (all : ShowsAll t world w)
     (came : StepCame t world n free source event w) where
@@ -142,7 +99,7 @@ module _ (t : Tid) (o : Opening) (world : World) (n stamp free : ℕ) (source : 
   further = step_goes_further t world w steady home_low all n stamp free its.low its.runs source event makes.comes came may
 
   node_then : (after.hosts n).node ≡ accept last.node
-  node_then = picked (n == n) (itself n)
+  node_then = picked (n == n) (eqb-self n)
     where
       picked : (b : Bool) → b ≡ true → (if b then stepped_host stamp (after_step node event free) (effects_of node event free) (world.hosts n) else world.hosts n).node ≡ accept last.node
       picked b is = rw is refl
@@ -227,8 +184,8 @@ module _ (t : Tid) (o : Opening) (world : World) (n stamp free : ℕ) (source : 
   comes_found : (s : Source) → source ≡ s → event_of world n stamp s ≡ Some event → ComesFinds D t world n event first
   comes_found (Commanded k) is comes = comes_first (ap (taken_by world n) is)
   comes_found (Handed m) is comes = let from = from_node world n stamp m event comes in subst (λ (e : Event). ComesFinds D t world n e first) (sym from.is) tt
-  comes_found Queues is comes = subst (λ (e : Event). ComesFinds D t world n e first) (one events.ServeAll event comes) tt
-  comes_found Clock is comes = subst (λ (e : Event). ComesFinds D t world n e first) (one events.Tick event comes) tt
+  comes_found Queues is comes = subst (λ (e : Event). ComesFinds D t world n e first) (same_Some events.ServeAll event comes) tt
+  comes_found Clock is comes = subst (λ (e : Event). ComesFinds D t world n e first) (same_Some events.Tick event comes) tt
   comes_found (Noticed m new) is comes = let from = from_notice world n stamp m new event comes in subst (λ (e : Event). ComesFinds D t world n e first) (sym from.is) tt
 
   pub step_found : (found : StepFound t world n stamp free source event w) × Leads came.came.after.next found.next

@@ -1,40 +1,14 @@
 -- At the turn of a transaction whose home is ready to commit, what the step commanded, issued and voted of it so far found what it needs: else its home could not be ready.
-use Rattle.std.proofs.Common.{◌≡◌, inl, inr, ℕ, ◌≤◌, ◌&&◌, not, Bool, true, false, List, [], ◌∷◌, Some, None, sym, ap, subst, ◌∙◌, if◌then◌else◌}
-use Rattle.qs_base.specs.declared.identifiers.NodeNo.{NodeNo}
-use Rattle.qs_base.specs.declared.identifiers.Tid.{Tid}
-use Rattle.qs_node_step.specs.Settling.{due_tids, is_busy, is_pass_due, may_answer, pass_rule, settle_tid, try}
-use Rattle.qs_node_step.specs.State.{NodeValue, Work, doings_of, part_of, work_on}
-use Rattle.qs_node_step.specs.Step.{happen}
-use Rattle.qs_node_step.specs.Voting.{vote_pass}
-use Rattle.qs_node_step.specs.declared.event.Event.{Event}
+use Rattle.qs_world_runs.proofs.Words.{◌≡◌, inl, inr, ℕ, ◌≤◌, ◌&&◌, not, Bool, true, false, List, [], ◌∷◌, Some, None, sym, ap, subst, ◌∙◌, if◌then◌else◌, NodeNo, Tid, due_tids, is_busy, is_pass_due, may_answer, pass_rule, settle_tid, try, Work, doings_of, work_on, happen, vote_pass, Event, Setting, Participant, Source, taken_by, Opening, World, IsDoomed, is_sound, IsSteady, StepMay, step_may, settle_leaves, steady_gives, AtEach, done_work, first_work, FitsEvent, HasNodeFacts}
+use Rattle.qs_world_runs.proofs.Words.{begin_incarnation_keeps, happen_same, begin_same, MakesStep, SoundStages, Joined, book_in, PlacesAt, field_of, taken, ComesFinds, PassFinds, IsReadyAt, same_Some}
+use Rattle.qs_node_step.specs.State.{NodeValue, part_of}
 use Rattle.qs_node_step.specs.declared.event.Event.TheVariants as events
-use Rattle.qs_node_step.specs.declared.setting.Setting.{Setting}
 use Rattle.qs_tm.specs.Participant as participant
-use Rattle.qs_tm.specs.declared.participant.Participant.{Participant}
-use Rattle.qs_world.specs.Moves.{Source, taken_by}
-use Rattle.qs_world.specs.World.{Opening, World}
 use Rattle.qs_world_agree.specs.World as machine
-use Rattle.qs_world_agree.specs.Doomed.{IsDoomed}
-use Rattle.qs_world_refine.specs.Sound.{is_sound}
-use Rattle.qs_world_refine.specs.Steady.{IsSteady}
 use Rattle.qs_world_refine.proofs.Known.{undecided_is}
-use Rattle.qs_world_refine.proofs.MoveGoes.{StepMay, step_may}
-use Rattle.qs_world_refine.proofs.SettleFrames.{settle_leaves}
 use Rattle.qs_world_refine.proofs.SettleRules.{beside, beside_apart}
-use Rattle.qs_world_refine.proofs.SteadyFrom.{steady_gives}
-use Rattle.qs_world_lawful.specs.Given.{AtEach}
-use Rattle.qs_world_lawful.specs.GivenStep.{done_work, first_work}
-use Rattle.qs_world_lawful.specs.NodeFacts.{FitsEvent, HasNodeFacts}
-use Rattle.qs_world_lawful.proofs.FactsTold.{begin_incarnation_keeps}
-use Rattle.qs_world_lawful.proofs.SameSettings.{happen_same}
-use Rattle.qs_world_lawful.proofs.SameSettingTold.{begin_same}
-use Rattle.qs_world_runs.specs.Agrees.{MakesStep, SoundStages}
-use Rattle.qs_world_runs.specs.Joined.{Joined, book_in}
-use Rattle.qs_world_runs.specs.JoinedPlaces.{PlacesAt}
-use Rattle.qs_world_runs.specs.Placed.{field_of}
-use Rattle.qs_world_runs.specs.PlacesEnds.{taken}
-use Rattle.qs_world_runs.specs.PlacesFound.{ComesFinds, FoundAtTurn, PassFinds, TurnsFind}
-use Rattle.qs_world_runs.specs.PlacesTurns.{IsReadyAt, passed}
+use Rattle.qs_world_runs.specs.PlacesFound.{FoundAtTurn, TurnsFind}
+use Rattle.qs_world_runs.specs.PlacesTurns.{passed}
 use Rattle.qs_world_runs.proofs.AgreesPasses.{stages_sound}
 use Rattle.qs_world_runs.proofs.FoundCommands.{HasLabels, come_found}
 use Rattle.qs_world_runs.proofs.FoundIssued.{Late, Supplies}
@@ -102,11 +76,8 @@ module _ (o : Opening) (world : World) (n stamp free : ℕ) (source : Source) (e
 
   module _ (work : Work) (t : Tid) (sticks : Sticks t done work) (size : work.node.setting.nodes ≡ world.size) (sound : is_sound work.node ≡ true) (ready : IsReadyAt work t) where
     never : (part : Participant) → part_of t (passed work t) ≡ Some part → IsStuck part → ⊥
-    never part known stuck = off (subst (λ (p : Participant). may_answer t p (passed work t) ≡ true) (same ready.part part (sym ready.known ∙ known)) ready.may)
+    never part known stuck = off (subst (λ (p : Participant). may_answer t p (passed work t) ≡ true) (same_Some ready.part part (sym ready.known ∙ known)) ready.may)
       where
-        same : (a b : Participant) → Some a ≡ Some b → a ≡ b
-        same a b e = cc e
-
         by : (a b : Bool) → a ≡ false → (a && b) ≡ true → ⊥
         by true b is so = cc is
         by false b is so = cc so

@@ -1,37 +1,15 @@
 -- In a vote pass of a transaction each note finds what it needs, or went out late and is awaited; and each vote is for commit, or the node is held up.
-use Rattle.std.proofs.Common.{◌≡◌, ◌⊎◌, inl, inr, ℕ, ◌≤◌, ◌==◌, ◌&&◌, ◌||◌, not, nat_lt, Bool, true, false, List, [], ◌∷◌, Option, Some, None, is_some, fold, refl, sym, ap, subst, ◌∙◌, if◌then◌else◌}
-use Rattle.std.specs.BTreeMap.{is_at}
-use Rattle.qs_base.specs.Order.{tid_cmp}
-use Rattle.qs_base.specs.declared.identifiers.NodeNo.{NodeNo}
-use Rattle.qs_base.specs.declared.identifiers.ServerNo.{ServerNo}
-use Rattle.qs_base.specs.declared.identifiers.Tid.{Tid}
+use Rattle.qs_world_runs.proofs.Words.{◌≡◌, ◌⊎◌, inl, inr, ℕ, ◌≤◌, ◌==◌, ◌&&◌, ◌||◌, not, nat_lt, Bool, true, false, List, [], ◌∷◌, Option, Some, None, is_some, fold, refl, sym, ap, subst, ◌∙◌, if◌then◌else◌, is_at, tid_cmp, NodeNo, ServerNo, Tid, vote_of, Vote, server_at, member_here, end_members, issue_as, is_busy, is_lent, is_pass_due, is_put_off, Work, doings_of, due_votes, issue_note, owes_note, served_count, vote_frame, vote_next, vote_pass, vote_with, Setting, is_undecided, needs_pass}
+use Rattle.qs_world_runs.proofs.Words.{Participant, is_audit, is_sound, where_so, known_sound, is_apart, seen, AtEach, Field, is_against, PassFinds, note_op, note_request, or-true}
 use Rattle.qs_ipc.specs.Ipc as ipc
-use Rattle.qs_ops.specs.Server.{vote_of}
-use Rattle.qs_ops.specs.declared.vote.Vote.{Vote}
 use Rattle.qs_ops.specs.declared.vote.Vote.TheVariants as votes
-use Rattle.qs_node_servers.specs.Servers.{server_at}
-use Rattle.qs_node_step.specs.Bringing.{member_here}
-use Rattle.qs_node_step.specs.Deciding.{end_members}
-use Rattle.qs_node_step.specs.Requests.{issue_as, next_number}
-use Rattle.qs_node_step.specs.Settling.{is_busy, is_lent, is_pass_due, is_put_off}
-use Rattle.qs_node_step.specs.State.{Work, doings_of, part_of}
-use Rattle.qs_node_step.specs.Voting.{due_votes, issue_note, owes_note, served_count, vote_frame, vote_next, vote_pass, vote_with}
-use Rattle.qs_node_step.specs.declared.setting.Setting.{Setting}
+use Rattle.qs_node_step.specs.Requests.{next_number}
+use Rattle.qs_node_step.specs.State.{part_of}
 use Rattle.qs_tm.specs.Participant as participant
-use Rattle.qs_tm.specs.Participant.{is_undecided, needs_pass}
-use Rattle.qs_tm.specs.declared.participant.Participant.{Participant}
-use Rattle.qs_world.specs.Openings.{is_audit}
-use Rattle.qs_world_refine.specs.Sound.{is_sound, where_so}
 use Rattle.qs_world_refine.proofs.Known.{is_open}
 use Rattle.qs_world_refine.proofs.Maps.{lookup_changed}
-use Rattle.qs_world_refine.proofs.SoundHolds.{known_sound}
 use Rattle.qs_world_refine.proofs.SoundParts.{and_both}
-use Rattle.qs_world_refine.proofs.SoundViews.{is_apart, seen}
-use Rattle.qs_world_lawful.specs.Given.{AtEach}
-use Rattle.qs_world_runs.specs.Placed.{Field}
-use Rattle.qs_world_runs.specs.PlacedActs.{is_against}
-use Rattle.qs_world_runs.specs.PlacesFound.{PassFinds, VoteFinds}
-use Rattle.qs_world_runs.specs.PlacesGo.{note_op, note_request}
+use Rattle.qs_world_runs.specs.PlacesFound.{VoteFinds}
 use Rattle.qs_world_runs.proofs.FoundIssued.{IsUncommitted, Late, Supplies, issued_found, uncommitted_on}
 use Rattle.qs_world_runs.proofs.Onward.{IsHeldUp, Onward, awaits_on, held_on, onward_on, voted_onward}
 use Rattle.qs_world_runs.proofs.StuckRules.{Keeps, Kept, end_keeps, keeps_fold, next_keeps}
@@ -123,12 +101,8 @@ module _ (D : Type 0) (t : Tid) (base : Field) (knows : ℕ → ℕ) (small : ba
           known_voted : part_of t (vote_next t now s) ≡ Some voted
           known_voted = ap (λ (k : Work). part_of t k) is ∙ lookup_changed (is_at (tid_cmp t)) (participant.voted (member_here now s) (votes.Abort reason) (served_count t s now)) now.node.manager.known part known
 
-          or_last : (a : Bool) → (a || true) ≡ true
-          or_last true = refl
-          or_last false = refl
-
           held : IsHeldUp voted
-          held = record { blocked = or_last part.blocked; engaged = ap (λ (h : Bool). h || is_some part.engage.superior) onward.home ∙ (ap (λ (o : Option NodeNo). old.engage.home || is_some o) onward.superior ∙ engaged) }
+          held = record { blocked = or-true part.blocked; engaged = ap (λ (h : Bool). h || is_some part.engage.superior) onward.home ∙ (ap (λ (o : Option NodeNo). old.engage.home || is_some o) onward.superior ∙ engaged) }
 
           open_voted : IsUncommitted voted
           open_voted = uncommitted_on old voted (onward_on old part voted onward (voted_onward (member_here now s) (votes.Abort reason) (served_count t s now) part)) (inl undecided)

@@ -1,41 +1,16 @@
 -- From a machine that shows a transaction at one stage of a step to those that show it at the later ones; and what each stage finds, from what a request that went out late and a node that is held up come to at the end.
-use Rattle.std.proofs.Common.{◌≡◌, ◌≢◌, ◌⊎◌, inl, inr, ℕ, ◌<◌, ◌≤◌, ◌||◌, Bool, true, List, [], ◌∷◌, Option, Some, None, fold, sym, ap, subst, ◌∙◌, arith}
-use Rattle.std.specs.BTreeMap.{is_at}
-use Rattle.std.specs.Map.{lookup}
-use Rattle.std.proofs.lemmas.Bool.Decides.{nat_tests}
-use Rattle.qs_base.specs.declared.identifiers.ClientNo.{ClientNo}
-use Rattle.qs_base.specs.declared.identifiers.NodeNo.{NodeNo}
+use Rattle.qs_world_runs.proofs.Words.{◌≡◌, ◌≢◌, ◌⊎◌, inl, inr, ℕ, ◌<◌, ◌≤◌, ◌||◌, Bool, true, List, [], ◌∷◌, Option, Some, None, fold, sym, ap, subst, ◌∙◌, arith, is_at, lookup, nat_tests, ClientNo, NodeNo, Tid, peer_of, pass_rule, settle_tid, try, Work, client_cmp, wait_on, vote_pass, OpenCommand, Participant, Leads, leads_on, face_at, outcome_seen, place, Scene, commands_in_run, face_is, shown_here, settle_tid_goes, wait_carries, AtEach, HasNodeFacts, Field, PassFinds, WaitFinds, Reaches}
 use Rattle.qs_base.specs.declared.identifiers.Outcome.{Outcome}
 use Rattle.qs_base.specs.declared.identifiers.Outcome.TheVariants as outcomes
-use Rattle.qs_base.specs.declared.identifiers.Tid.{Tid}
-use Rattle.qs_engage.specs.Engage.{peer_of}
-use Rattle.qs_node_step.specs.Settling.{pass_rule, settle_tid, try}
-use Rattle.qs_node_step.specs.State.{Work, client_cmp, part_of}
-use Rattle.qs_node_step.specs.Step.{wait_on}
-use Rattle.qs_node_step.specs.Voting.{vote_pass}
-use Rattle.qs_node_step.specs.declared.state.OpenCommand.{OpenCommand}
-use Rattle.qs_tm.specs.declared.participant.Participant.{Participant}
+use Rattle.qs_node_step.specs.State.{part_of}
 use Rattle.qs_world_agree.specs.World as machine
-use Rattle.qs_world_agree.specs.Carry.{Leads}
-use Rattle.qs_world_agree.proofs.Carries.{leads_on}
 use Rattle.qs_world_agree.proofs.Doomed.{sent_stays}
 use Rattle.qs_world_refine.specs.Faces.{Face}
-use Rattle.qs_world_refine.specs.NodeFaces.{face_at, outcome_seen}
-use Rattle.qs_world_refine.specs.Places.{place}
-use Rattle.qs_world_refine.specs.Shows.{Scene}
-use Rattle.qs_world_refine.specs.SoundSteps.{commands_in_run}
 use Rattle.qs_world_refine.specs.Stands.{GoesOn, Stands}
-use Rattle.qs_world_refine.proofs.Heads.{face_is, shown_here}
-use Rattle.qs_world_refine.proofs.SettleGoes.{settle_tid_goes}
-use Rattle.qs_world_refine.proofs.SoundStep.{wait_carries}
 use Rattle.qs_world_refine.proofs.WaitStands.{wait_stands}
-use Rattle.qs_world_lawful.specs.Given.{AtEach}
-use Rattle.qs_world_lawful.specs.NodeFacts.{HasNodeFacts, IsCommand}
+use Rattle.qs_world_lawful.specs.NodeFacts.{IsCommand}
 use Rattle.qs_world_lawful.proofs.FactsLabelled.{command_in}
 use Rattle.qs_world_lawful.proofs.FactsStages.{waits_keep}
-use Rattle.qs_world_runs.specs.Placed.{Field}
-use Rattle.qs_world_runs.specs.PlacesFound.{PassFinds, WaitFinds}
-use Rattle.qs_world_runs.specs.PlacesRules.{Reaches}
 use Rattle.qs_world_runs.proofs.FoundCommands.{wait_found}
 use Rattle.qs_world_runs.proofs.FoundIssued.{IsUncommitted, Supplies, uncommitted_on}
 use Rattle.qs_world_runs.proofs.FoundTurns.{passed_is}

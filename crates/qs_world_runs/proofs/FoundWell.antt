@@ -1,20 +1,7 @@
 -- What is issued and voted in a step and finds what it needs, is issued and voted well.
-use Rattle.std.proofs.Common.{◌≡◌, ◌⊎◌, inl, inr, ℕ, List, [], ◌∷◌}
-use Rattle.qs_base.specs.declared.identifiers.ClientNo.{ClientNo}
-use Rattle.qs_base.specs.declared.identifiers.ServerNo.{ServerNo}
-use Rattle.qs_base.specs.declared.identifiers.Tid.{Tid}
-use Rattle.qs_book_journal.specs.declared.script_line.Command.{Command}
-use Rattle.qs_book_machine.specs.Book.{BookValue}
-use Rattle.qs_ops.specs.declared.operation.Op.{Op}
-use Rattle.qs_node_step.specs.Settling.{settle_tid}
-use Rattle.qs_node_step.specs.State.{Work}
-use Rattle.qs_node_step.specs.Step.{wait_on}
-use Rattle.qs_node_step.specs.Voting.{vote_next}
-use Rattle.qs_tm.specs.declared.participant.Outstanding.{Outstanding}
-use Rattle.qs_world_lawful.specs.Given.{AtEach}
-use Rattle.qs_world_runs.specs.Placed.{Field}
-use Rattle.qs_world_runs.specs.PlacesFound.{CommandFinds, IssueFinds, PassFinds, VoteFinds, WaitFinds}
-use Rattle.qs_world_runs.specs.PlacesGo.{CommandsWell, IssuesWell, PassesWell, VotesWell, WaitsWell}
+use Rattle.qs_world_runs.proofs.Words.{◌≡◌, ◌⊎◌, inl, inr, ℕ, List, [], ◌∷◌, ClientNo, ServerNo, Tid, Command, BookValue, Op, settle_tid, Work, wait_on, vote_next, Outstanding, AtEach, Field, IssueFinds, PassFinds, WaitFinds, IssuesWell, PassesWell, WaitsWell}
+use Rattle.qs_world_runs.specs.PlacesFound.{CommandFinds, VoteFinds}
+use Rattle.qs_world_runs.specs.PlacesGo.{CommandsWell, VotesWell}
 
 module _ (D : Type 0) (t : Tid) (base : Field) (knows : ℕ → ℕ) (n stamp : ℕ) (before : BookValue) where
   issue_well : (request : Outstanding) (op : Op) (work : Work) → D ⊎ IssueFinds base knows request op work → D ⊎ IssuesWell t base knows n stamp before request op work

@@ -1,45 +1,25 @@
 -- At a node where nothing of a transaction is open its present lives agree.
-use Rattle.std.proofs.Common.{◌≡◌, inl, inr, ℕ, ◌≤◌, ◌==◌, ◌&&◌, ◌||◌, not, nat_lt, Bool, true, false, List, [], ◌∷◌, Option, Some, length, suc, is_some, refl, sym, ap, subst, ◌∙◌, arith, if◌then◌else◌}
-use Rattle.std.proofs.lemmas.Bool.Decides.{nat_tests}
-use Rattle.std.specs.List.{filter, list_any}
-use Rattle.qs_base.specs.Order.{same_tid}
-use Rattle.qs_base.specs.declared.identifiers.Class.{Class}
+use Rattle.qs_world_runs.proofs.Words.{◌≡◌, inl, inr, ℕ, ◌≤◌, ◌==◌, ◌&&◌, ◌||◌, not, nat_lt, Bool, true, false, List, [], ◌∷◌, Option, Some, length, suc, is_some, refl, sym, ap, subst, ◌∙◌, arith, if◌then◌else◌, nat_tests, filter, list_any, same_tid, Class, ClientNo, NodeNo, ServerNo, Tid, is_standing_loan, Lent, BookValue, find_transaction, TransactionValue, agrees_in, is_commit, Cell, Life, Part, class_of, is_two_phase, client_no, is_client_no, names_no, member_of, at_server, face_of}
+use Rattle.qs_world_runs.proofs.Words.{is_loan_in, HoldsAt, HoldsTid, HoldsStill, Field, IsLife, IsMember, and_from, or_parts, eq-eqb}
 use Rattle.qs_base.specs.declared.identifiers.Class.TheVariants as classes
-use Rattle.qs_base.specs.declared.identifiers.ClientNo.{ClientNo}
-use Rattle.qs_base.specs.declared.identifiers.NodeNo.{NodeNo}
-use Rattle.qs_base.specs.declared.identifiers.ServerNo.{ServerNo}
-use Rattle.qs_base.specs.declared.identifiers.Tid.{Tid}
-use Rattle.qs_node_kept.specs.Loans.{is_standing_loan}
-use Rattle.qs_node_kept.specs.declared.kept.Lent.{Lent}
-use Rattle.qs_book_machine.specs.Book.{BookValue, find_transaction}
-use Rattle.qs_book_machine.specs.Transaction.{TransactionValue, agrees_in, borrower, is_commit, is_open, part_of}
-use Rattle.qs_book_machine.specs.declared.transaction.Cell.{Cell}
+use Rattle.qs_book_machine.specs.Transaction.{borrower, is_open, part_of}
 use Rattle.qs_book_machine.specs.declared.transaction.Cell.TheVariants as cells
-use Rattle.qs_book_machine.specs.declared.transaction.Life.{Life}
-use Rattle.qs_book_machine.specs.declared.transaction.Part.{Part}
-use Rattle.qs_ops.specs.Members.{class_of, is_two_phase}
-use Rattle.qs_ops.specs.Servers.{client_no, is_client_no, names_no, timers_no, windows_no, scratch_no}
+use Rattle.qs_ops.specs.Servers.{timers_no, windows_no, scratch_no}
 use Rattle.qs_node_step.specs.State.{NodeValue}
-use Rattle.qs_tm.specs.Participant.{member_of}
-use Rattle.qs_world_lawful.specs.Face.{Face, at_server, face_of, part_in, is_held, is_given_back, is_loan_here, is_loan_in}
-use Rattle.qs_world_lawful.specs.Holds.{HoldsAt, HoldsTid, HoldsMember, HoldsStill}
-use Rattle.qs_world_runs.specs.Placed.{Field, IsLife, IsMember}
+use Rattle.qs_world_lawful.specs.Face.{Face, part_in, is_held, is_given_back, is_loan_here}
+use Rattle.qs_world_lawful.specs.Holds.{HoldsMember}
 use Rattle.qs_world_runs.specs.PlacedLaws.{IsFree, FreeAgrees}
 
 -- ---- loans: where none stands, as many were given back as were made
 
 module _ (tid : Tid) (inc : ℕ) (client : ClientNo) where
-  none_of : (a b : Bool) → (a || b) ≡ false → (a ≡ false) × (b ≡ false)
-  none_of true b is = absurd (cc is)
-  none_of false b is = (refl, is)
-
   all_back : (loans : List Lent) → list_any (is_standing_loan tid inc) loans ≡ false
       → length (filter (is_given_back client inc) (filter (is_loan_in tid) loans)) ≡ length (filter (is_loan_here client inc) (filter (is_loan_in tid) loans))
   all_back [] none = refl
   all_back (loan ∷ loans) none = by (same_tid tid loan.tid) (loan.client.0 == client.0) (loan.inc == inc) loan.yielded refl refl refl refl both.0 (all_back loans both.1)
     where
       both : (is_standing_loan tid inc loan ≡ false) × (list_any (is_standing_loan tid inc) loans ≡ false)
-      both = none_of (is_standing_loan tid inc loan) (list_any (is_standing_loan tid inc) loans) none
+      both = or_parts (is_standing_loan tid inc loan) (list_any (is_standing_loan tid inc) loans) none
 
       by : (s c i y : Bool) → same_tid tid loan.tid ≡ s → (loan.client.0 == client.0) ≡ c → (loan.inc == inc) ≡ i → loan.yielded ≡ y → (s && (not y && i)) ≡ false
           → length (filter (is_given_back client inc) (filter (is_loan_in tid) loans)) ≡ length (filter (is_loan_here client inc) (filter (is_loan_in tid) loans))
@@ -69,9 +49,6 @@ client_class c = by (client_no c == names_no) (client_no c == timers_no) (client
   where
     by : (a b c d e : Bool) → a ≡ false → b ≡ false → c ≡ false → d ≡ false → e ≡ true → (if a then classes.Volatile else if b then classes.Immediate else if c then classes.Standard else if d then classes.Delayed else if e then classes.Activity else classes.Recoverable) ≡ classes.Activity
     by a b c d e p q r s t = rw (p, q, r, s, t) refl
-
-same_count : (a b : ℕ) → a ≡ b → (a == b) ≡ true
-same_count a b e = grind (arith, nat_tests, e)
 
 module _ (book : BookValue) (tid : Tid) (tx : TransactionValue) (field : Field) (node : NodeValue) (found : find_transaction book tid ≡ Some tx) (undecided : is_open tx.cell ≡ true) (h : HoldsStill book node) (free : IsFree tid node) where
   abbrev here : NodeNo
@@ -119,20 +96,17 @@ module _ (book : BookValue) (tid : Tid) (tx : TransactionValue) (field : Field) 
       part_is server same = subst (λ (n : NodeNo). part_of tx (at_server n server) inc ≡ part) at (subst (λ (s : ServerNo). part_of tx (at_server l.member.node s) inc ≡ part) same (subst (λ (i : ℕ). part_of tx l.member i ≡ part) now life.kept))
 
       two_phase : (c : Class) → is_two_phase c ≡ true → class_of l.member.server.0 ≡ c → IsMember l.member.server → (part.covered == part.served) ≡ true
-      two_phase c two is (inl low) = same_count part.covered part.served (voted l.member.server part low (ap is_two_phase is ∙ two) (part_is l.member.server refl) (life.cast (ap is_two_phase is ∙ two)))
+      two_phase c two is (inl low) = eq-eqb part.covered part.served (voted l.member.server part low (ap is_two_phase is ∙ two) (part_is l.member.server refl) (life.cast (ap is_two_phase is ∙ two)))
       two_phase c two is (inr client) = absurd (let one : is_two_phase (class_of l.member.server.0) ≡ true = ap is_two_phase is ∙ two in
           let other : is_two_phase (class_of l.member.server.0) ≡ false = ap (λ (s : ℕ). is_two_phase (class_of s)) client.2 ∙ ap is_two_phase (client_class client.0.0) in cc (one, other))
 
       activity : class_of l.member.server.0 ≡ classes.Activity → IsMember l.member.server → ((part.made == part.served) && (part.yielded == part.made)) ≡ true
       activity is (inl low) = absurd (low_class l.member.server.0 low is)
-      activity is (inr client) = both (part.made == part.served) (part.yielded == part.made) (same_count part.made part.served (life.made is))
-          (same_count part.yielded part.made (given client.0 part client.1 (part_is (record { 0 = client_no client.0.0 }) (ap (λ (s : ℕ). server_of s) client.2))))
+      activity is (inr client) = and_from (part.made == part.served) (part.yielded == part.made) (eq-eqb part.made part.served (life.made is))
+          (eq-eqb part.yielded part.made (given client.0 part client.1 (part_is (record { 0 = client_no client.0.0 }) (ap (λ (s : ℕ). server_of s) client.2))))
         where
           server_of : ℕ → ServerNo
           server_of s = record { 0 = s }
-
-          both : (a b : Bool) → a ≡ true → b ≡ true → (a && b) ≡ true
-          both a b p q = rw (p, q) refl
 
       by : (c : Class) → class_of l.member.server.0 ≡ c → IsMember l.member.server → agrees_in c part ≡ true
       by classes.Recoverable is m = two_phase classes.Recoverable refl is m

@@ -1,30 +1,14 @@
 -- What a node issues to others in a step waits as the step ends where each of its entries that issues one does, since its node has decided nothing of what is undecided then.
-use Rattle.std.proofs.Common.{◌≡◌, ◌⊎◌, inl, inr, ℕ, ◌==◌, true, Option, Some, None, is_some, refl, sym, ap, subst, ◌∙◌}
-use Rattle.qs_base.specs.declared.identifiers.NodeNo.{NodeNo}
-use Rattle.qs_base.specs.declared.identifiers.Tid.{Tid}
-use Rattle.qs_book_machine.specs.Book.{BookValue, find_transaction}
-use Rattle.qs_book_machine.specs.Lawful.{IsLawful, book_after}
-use Rattle.qs_book_machine.specs.Transaction.{TransactionValue, is_open, standing_request}
-use Rattle.qs_book_machine.specs.declared.transaction.Request.{Request}
-use Rattle.qs_node_step.specs.Step.{after_step, effects_of}
-use Rattle.qs_node_step.specs.declared.event.Event.{Event}
-use Rattle.qs_world.specs.Moves.{Source, Step, moved, step_with}
-use Rattle.qs_world.specs.World.{Opening, World}
-use Rattle.qs_world_runs.specs.Agrees.{MakesStep}
-use Rattle.qs_world_runs.specs.Awaited.{IsWaiting, WaitsAt}
-use Rattle.qs_world_runs.specs.Awaiting.{AwaitsFresh, EachFreshAwaited, EachIssueWaits}
-use Rattle.qs_world_runs.specs.Joined.{Joined, book_in}
-use Rattle.qs_world_runs.specs.JoinedPlaces.{PlacesAt}
-use Rattle.qs_world_runs.specs.JoinedLaws.{entries_in}
+use Rattle.qs_world_runs.proofs.Words.{◌≡◌, ◌⊎◌, inl, inr, ℕ, ◌==◌, true, Option, Some, refl, sym, ap, subst, ◌∙◌, NodeNo, Tid, BookValue, find_transaction, book_after, TransactionValue, standing_request, after_step, effects_of, Event, Source, Step, moved, step_with, Opening, World, MakesStep, IsWaiting, WaitsAt, EachIssueWaits, Joined, book_in, PlacesAt, entries_in, none_some}
+use Rattle.qs_book_machine.specs.Lawful.{IsLawful}
+use Rattle.qs_book_machine.specs.Transaction.{is_open}
+use Rattle.qs_world_runs.specs.Awaiting.{AwaitsFresh, EachFreshAwaited}
 use Rattle.qs_world_runs.proofs.ClientsGo.{of_steps}
 use Rattle.qs_world_runs.proofs.FreshIssued.{IsIssuedIn, StandsIn, issued_or_stood}
 use Rattle.qs_world_runs.proofs.JoinedAs.{joined_as}
 use Rattle.qs_world_runs.proofs.JoinedParts.{book_on}
 use Rattle.qs_world_runs.proofs.OwnAwaited.{never_decided}
 use Rattle.qs_world_runs.proofs.PlacesJoined.{amid}
-
-some_is : {X : Type 0} {x y : X} → Some x ≡ Some y → x ≡ y
-some_is e = cc e
 
 module _ (P : Opening → World → Type 0) (less : (o : Opening) (world : World) → P o world → PlacesAt o world) (issues : EachIssueWaits P) (o : Opening) (world : World) (n stamp free : ℕ) (source : Source) (event : Event) (j : Joined P o world) (makes : MakesStep world n stamp source event) (lawful : IsLawful (book_in o world) (entries_in world n stamp free event))
     (tid : Tid) (tx : TransactionValue) (found_next : find_transaction (book_in o (moved (Step n stamp free source) world)) tid ≡ Some tx) (undecided : is_open tx.cell ≡ true) where
@@ -42,13 +26,9 @@ module _ (P : Opening → World → Type 0) (less : (o : Opening) (world : World
       waits (inl w) = w
       waits (inr kept) = absurd (never_decided P less o world j n stamp free source event makes lawful tid tx found_now undecided kept)
 
-      never : (x : Option Request) → x ≡ None → is_some x ≡ true → ⊥
-      never None e some = cc some
-      never (Some r) e some = cc e
-
       by : IsIssuedIn tid at member (effects_of (world.hosts n).node event free).entries ⊎ StandsIn (book_in o world) tid at member → WaitsAt tid member at.number (after_step (world.hosts n).node event free)
       by (inl issue) = waits (issues o world n stamp free source event j makes tid issue.issuer member at.number issue.op issue.among (ap (λ (k : NodeNo). k.0 == n) (sym issue.to) ∙ away))
-      by (inr stood) = absurd (never (standing_request stood.tx at member) (new stood.tx stood.found) stood.stands)
+      by (inr stood) = absurd (none_some (standing_request stood.tx at member) (new stood.tx stood.found) stood.stands)
 
 pub fresh_awaited : (P : Opening → World → Type 0) → ((o : Opening) (world : World) → P o world → PlacesAt o world) → EachIssueWaits P → EachFreshAwaited P
 fresh_awaited P less issues o world n stamp free source event j makes lawful tid w shows before awaited tx found undecided placed = inr (fresh_waits P less issues o world n stamp free source event j makes lawful tid tx found undecided)

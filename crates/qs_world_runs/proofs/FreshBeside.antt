@@ -1,46 +1,24 @@
 -- As an incarnation begins, the machine has beside its node all that it is to have: nothing was issued in it, what the node knows is what its log left open, and of what began here the outcome is kept.
-use Rattle.std.proofs.Common.{◌≡◌, inl, inr, ℕ, ◌<◌, ◌==◌, ◌&&◌, ◌||◌, ◌^◌, not, Bool, true, false, List, ◌++◌, length, Option, Some, None, refl, sym, ap, subst, ◌∙◌, arith, is_some, nat_lt}
-use Rattle.std.proofs.lemmas.Bool.Decides.{nat_tests}
-use Rattle.std.specs.Global.{Global}
-use Rattle.std.specs.Prelude.{slice_get}
-use Rattle.qs_base.specs.declared.identifiers.NodeNo.{NodeNo}
-use Rattle.qs_base.specs.declared.identifiers.ServerNo.{ServerNo}
-use Rattle.qs_base.specs.declared.identifiers.Tid.{Tid}
-use Rattle.qs_engage.specs.Nodes.{same_node}
+use Rattle.qs_world_runs.proofs.Words.{◌≡◌, inl, inr, ℕ, ◌<◌, ◌==◌, ◌&&◌, ◌||◌, ◌^◌, not, Bool, true, false, List, ◌++◌, length, Option, Some, None, refl, sym, ap, subst, ◌∙◌, arith, is_some, nat_lt, nat_tests, Global, slice_get, NodeNo, ServerNo, Tid, same_node, BookValue, cell_of_transaction, find_transaction, TransactionValue, is_commit, Cell, class_of, is_two_phase, ServerValue, Prepared, Recovery, new_manager, Setting, member_of, MemberPart, Participant, HoldsBeside, IsTrueCause}
+use Rattle.qs_world_runs.proofs.Words.{has_issued, doubt_at, at_server, part_or_new, is_kept, Lasts, HoldsLogged, Every, HasNodeFacts, clash, HoldsRunning}
 use Rattle.qs_node_kept.specs.declared.kept.Kept.{Kept}
-use Rattle.qs_book_machine.specs.Book.{BookValue, cell_of_transaction, find_transaction}
 use Rattle.qs_book_machine.specs.Clauses.{note_text}
 use Rattle.qs_book_machine.specs.Nodes as machine
 use Rattle.qs_book_machine.specs.Restart.{member_at}
-use Rattle.qs_book_machine.specs.Transaction.{TransactionValue, is_abort, is_commit, is_open, part_of}
-use Rattle.qs_book_machine.specs.declared.transaction.Cell.{Cell}
+use Rattle.qs_book_machine.specs.Transaction.{is_abort, is_open, part_of}
 use Rattle.qs_book_machine.specs.declared.transaction.Cell.TheVariants as cells
-use Rattle.qs_ops.specs.Members.{class_of, is_two_phase}
-use Rattle.qs_ops.specs.Server.{ServerValue}
-use Rattle.qs_restart.specs.Recovery.{Prepared, Recovery, in_doubt, untold}
+use Rattle.qs_restart.specs.Recovery.{in_doubt, untold}
 use Rattle.qs_node_step.specs.Answering.{was_committed}
-use Rattle.qs_node_step.specs.Opening.{new_manager}
 use Rattle.qs_node_step.specs.State.{NodeValue}
-use Rattle.qs_node_step.specs.declared.setting.Setting.{Setting}
 use Rattle.qs_tm.specs.Manager as tm
 use Rattle.qs_tm.specs.Members as rules
-use Rattle.qs_tm.specs.Participant.{member_of}
-use Rattle.qs_tm.specs.declared.members.MemberPart.{MemberPart}
-use Rattle.qs_tm.specs.declared.participant.Participant.{Participant}
-use Rattle.qs_world_lawful.specs.Beside.{HasOwner, HoldsBeside, HoldsEnded, HoldsPart, HoldsReader, HoldsReads, HoldsStranger, HoldsTidBeside, IsTrueCause, has_issued}
-use Rattle.qs_world_lawful.specs.Doubtful.{doubt_at, member_as, share_as}
-use Rattle.qs_world_lawful.specs.Face.{at_server, part_or_new}
-use Rattle.qs_world_lawful.specs.Holds.{HoldsMember, is_kept}
-use Rattle.qs_world_lawful.specs.Lasting.{Lasts}
-use Rattle.qs_world_lawful.specs.Logged.{HoldsLogged}
-use Rattle.qs_world_lawful.specs.Logs.{Every}
-use Rattle.qs_world_lawful.specs.NodeFacts.{HasNodeFacts}
+use Rattle.qs_world_lawful.specs.Beside.{HasOwner, HoldsEnded, HoldsPart, HoldsReader, HoldsReads, HoldsStranger, HoldsTidBeside}
+use Rattle.qs_world_lawful.specs.Doubtful.{member_as, share_as}
+use Rattle.qs_world_lawful.specs.Holds.{HoldsMember}
 use Rattle.qs_world_lawful.proofs.FreshFace.{Fresh, FreshAt, IsDoubt, IsOldLoan, known_as, node, tables, tid_held}
 use Rattle.qs_world_lawful.proofs.Reopened as reopened
 use Rattle.qs_world_lawful.proofs.Reopened.{IsReopened}
 use Rattle.qs_world_lawful.proofs.TakenUp.{all_alike, outcome_before}
-use Rattle.qs_world_lawful.proofs.Truths.{clash}
-use Rattle.qs_world_runs.specs.Joined.{HoldsRunning}
 use Rattle.qs_world_runs.proofs.BareTaken.{IsBare, IsBareManager, all_bare}
 use Rattle.qs_world_runs.proofs.RecordsStand.{records_stand}
 

@@ -1,35 +1,15 @@
 -- What stands after a step at another node, and did not before, was issued in the step.
-use Rattle.std.proofs.Common.{◌≡◌, ◌⊎◌, inl, inr, ℕ, ◌&&◌, not, Bool, true, false, List, [], ◌∷◌, ◌++◌, Option, Some, None, is_some, refl, sym, ap, subst, ◌∙◌}
-use Rattle.std.specs.BTreeMap.{is_at}
-use Rattle.std.specs.List.{find}
-use Rattle.std.specs.Map.{lookup}
-use Rattle.std.specs.Prelude.{slice_get, unwrap_or}
-use Rattle.qs_base.proofs.Same.{same_member-true}
-use Rattle.qs_base.specs.Order.{same_member}
-use Rattle.qs_base.specs.declared.identifiers.Member.{Member}
-use Rattle.qs_base.specs.declared.identifiers.NodeNo.{NodeNo}
-use Rattle.qs_base.specs.declared.identifiers.Tid.{Tid}
-use Rattle.qs_book_journal.specs.declared.entry.Act.{Act}
+use Rattle.qs_world_runs.proofs.Words.{◌≡◌, ◌⊎◌, inl, inr, ℕ, not, Bool, true, false, List, [], ◌∷◌, ◌++◌, Option, Some, None, is_some, refl, sym, ap, subst, ◌∙◌, is_at, find, lookup, slice_get, unwrap_or, same_member-true, same_member, Member, NodeNo, Tid, Act, Inv, ran, BookValue, find_transaction, inc_at, with_transaction, link_to, book_after, broken, effect, TransactionValue, is_standing, issued, request_cmp, requests_at, standing_request, Request, RequestNo, Op, Reply, entries_of}
+use Rattle.qs_world_runs.proofs.Words.{entry_of, IsOfStep, Every, same_or_apart, Begins, turned_by, Among, some_same, and_first}
 use Rattle.qs_book_journal.specs.declared.entry.Act.TheVariants as acts
 use Rattle.qs_book_laws.proofs.Holding.{crossing_transactions, waiting_transactions}
 use Rattle.qs_book_laws.proofs.Maps.{lookup_put}
-use Rattle.qs_book_laws.proofs.Outcomes.{Inv}
-use Rattle.qs_book_laws.proofs.Steps.{ran}
-use Rattle.qs_book_machine.specs.Book.{BookValue, find_transaction, inc_at, is_done, ticks_at, with_transaction, with_waiting}
-use Rattle.qs_book_machine.specs.Clauses.{link_to}
-use Rattle.qs_book_machine.specs.Lawful.{IsLawful, book_after, broken, effect, effect_act}
-use Rattle.qs_book_machine.specs.Transaction.{TransactionValue, begun, is_standing, issued, request_cmp, requests_at, served_in, standing_request}
-use Rattle.qs_book_machine.specs.declared.transaction.Request.{Request}
-use Rattle.qs_book_machine.specs.declared.transaction.RequestNo.{RequestNo}
-use Rattle.qs_ops.specs.declared.operation.Op.{Op}
-use Rattle.qs_ops.specs.declared.reply.Reply.{Reply}
-use Rattle.qs_world.specs.Posting.{entries_of, entry_of}
-use Rattle.qs_world_lawful.specs.Aside.{IsOfStep}
-use Rattle.qs_world_lawful.specs.Logs.{Every}
-use Rattle.qs_world_lawful.proofs.Apart.{Apart, same_or_apart}
-use Rattle.qs_world_lawful.proofs.EntryTurns.{Begins, begins}
-use Rattle.qs_world_lawful.proofs.Turning.{Turned, stood, turned_by}
-use Rattle.qs_world_runs.specs.Awaited.{Among}
+use Rattle.qs_book_machine.specs.Book.{is_done, ticks_at, with_waiting}
+use Rattle.qs_book_machine.specs.Lawful.{IsLawful, effect_act}
+use Rattle.qs_book_machine.specs.Transaction.{begun, served_in}
+use Rattle.qs_world_lawful.proofs.Apart.{Apart}
+use Rattle.qs_world_lawful.proofs.EntryTurns.{begins}
+use Rattle.qs_world_lawful.proofs.Turning.{Turned, stood}
 use Rattle.qs_world_runs.proofs.PlacedIssued.{stood_or_new, stood_served}
 use Rattle.qs_world_runs.proofs.PlacedTx.{request_self}
 use Rattle.qs_world_runs.proofs.RequestsLeft.{LeavesRequests, requests_left}
@@ -52,12 +32,8 @@ stood_self act tid tx at member stands = inr stands
 stood_behind : (member : Member) (rs : List Request) (r : Request) → is_some (find (is_standing member) (rs ++ r ∷ [])) ≡ true → (r.member ≡ member) ⊎ (is_some (find (is_standing member) rs) ≡ true)
 stood_behind member [] r stands = by (is_standing member r) refl stands
   where
-    left : (a b : Bool) → (a && b) ≡ true → a ≡ true
-    left true b e = refl
-    left false b e = absurd (cc e)
-
     by : (b : Bool) → is_standing member r ≡ b → is_some (find (is_standing member) (r ∷ [])) ≡ true → (r.member ≡ member) ⊎ (is_some (find (is_standing member) []) ≡ true)
-    by true is s = inl (same_member-true r.member member (left (same_member r.member member) (not r.served) is))
+    by true is s = inl (same_member-true r.member member (and_first (same_member r.member member) (not r.served) is))
     by false is s = absurd (cc (rw is at s))
 stood_behind member (x ∷ rs) r stands = by (is_standing member x) refl stands (stood_behind member rs r)
   where
@@ -136,12 +112,9 @@ module _ (stamp n : ℕ) (book : BookValue) (i : Inv book) (tid : Tid) (at : Req
   by_begun : (act : Act) → Begins book (entry_of n stamp act) → StandsIn (effect book (entry_of n stamp act)) tid at member → Before act
   by_begun act b s = pick (same_or_apart b.tid tid)
     where
-      one : {x y : TransactionValue} → Some x ≡ Some y → x ≡ y
-      one e = cc e
-
       pick : (b.tid ≡ tid) ⊎ Apart b.tid tid → Before act
       pick (inl same) = absurd (let none : is_some (standing_request (begun b.label b.client (ticks_at (slice_get book.nodes n))) at member) ≡ true = subst (λ (tx : TransactionValue). is_some (standing_request tx at member) ≡ true)
-          (one (sym s.found ∙ (ap (find_transaction (effect book (entry_of n stamp act))) (sym same) ∙ b.stands))) s.stands in cc none)
+          (some_same (sym s.found ∙ (ap (find_transaction (effect book (entry_of n stamp act))) (sym same) ∙ b.stands))) s.stands in cc none)
       pick (inr apart) = inr (record { tx = s.tx; found = sym (b.others tid apart) ∙ s.found; stands = s.stands })
 
   by_act : (act : Act) → IsOfStep act → broken book (entry_of n stamp act) ≡ None → StandsIn (effect book (entry_of n stamp act)) tid at member → Before act

@@ -1,24 +1,11 @@
 -- What waits at a node is of the incarnations that it knows, or stale, through all that its queues do: a request comes to wait, the first at a server leaves,
 -- counts are forgotten, and what a node sent before it restarted is marked.
-use Rattle.std.proofs.Common.{◌≡◌, ℕ, ◌≤◌, ◌==◌, Bool, true, false, List, [], ◌∷◌, ◌++◌, drop, Some, refl, sym, ap, subst, ◌∙◌, if◌then◌else◌}
-use Rattle.std.specs.BTreeMap.{is_at}
-use Rattle.std.specs.List.{filter}
-use Rattle.qs_base.proofs.Same.{same_tid-self}
-use Rattle.qs_base.specs.declared.identifiers.ServerNo.{ServerNo}
-use Rattle.qs_base.specs.declared.identifiers.Tid.{Tid}
+use Rattle.qs_world_runs.proofs.Words.{◌≡◌, ℕ, ◌≤◌, ◌==◌, Bool, true, false, List, [], ◌∷◌, ◌++◌, drop, Some, refl, sym, ap, subst, ◌∙◌, if◌then◌else◌, is_at, filter, same_tid-self, ServerNo, Tid, IpcValue, queue_at, server_cmp, QueueValue, first_of, Delivery, BookValue, drop_counts, Every, filter_last, filter_more, left_elsewhere, left_here, queued_elsewhere, queued_here, same_server_or, every_map, every_more, HasGiven, IsOfKnown, IsOfLast}
 use Rattle.qs_ipc.specs.Ipc as ipc
-use Rattle.qs_ipc.specs.Ipc.{IpcValue, queue_at, server_cmp}
-use Rattle.qs_ipc.specs.Queue.{QueueValue, first_of, is_of, mark_stale}
-use Rattle.qs_ipc.specs.declared.delivery.Delivery.{Delivery}
-use Rattle.qs_book_machine.specs.Book.{BookValue}
-use Rattle.qs_node_step.specs.Telling.{drop_counts}
-use Rattle.qs_world_lawful.specs.Logs.{Every}
-use Rattle.qs_world_lawful.proofs.Faces.{filter_last, filter_more, left_elsewhere, left_here, queued_elsewhere, queued_here, same_server_or}
+use Rattle.qs_ipc.specs.Queue.{is_of, mark_stale}
 use Rattle.qs_world_lawful.proofs.Forgetting.{dropped_waiting}
-use Rattle.qs_world_lawful.proofs.LogRecords.{every_map}
-use Rattle.qs_world_lawful.proofs.ParcelsKept.{every_more}
 use Rattle.qs_world_lawful.proofs.PeerRestarts.{filter_marked, marked_at, marked_of}
-use Rattle.qs_world_runs.specs.RepliesTrue.{FreshMarked, FreshQueues, HasGiven, IsFresh, IsFreshIn, IsOfKnown, IsOfLast}
+use Rattle.qs_world_runs.specs.RepliesTrue.{FreshMarked, FreshQueues, IsFresh, IsFreshIn}
 
 module _ (book : BookValue) (knows : ℕ → ℕ) (m : ℕ) where
   abbrev F : Delivery → Type 0

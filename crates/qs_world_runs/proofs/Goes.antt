@@ -1,27 +1,10 @@
 -- Whatever holds from the beginning to the end of each thing that a step does to what its node keeps of transactions, and of each record that it makes, holds of its rules.
-use Rattle.std.proofs.Common.{◌≡◌, ◌<◌, Bool, true, false, List, [], ◌∷◌, ◌++◌, Option, Some, None, length, refl, fold, if◌then◌else◌}
-use Rattle.std.specs.Map.{lookup, remove_entry}
-use Rattle.std.specs.BTreeMap.{is_at}
-use Rattle.qs_base.specs.declared.identifiers.ClientNo.{ClientNo}
-use Rattle.qs_base.specs.declared.identifiers.NodeNo.{NodeNo}
-use Rattle.qs_base.specs.declared.identifiers.ServerNo.{ServerNo}
-use Rattle.qs_base.specs.declared.identifiers.Tid.{Tid}
-use Rattle.qs_book_journal.specs.declared.entry.Act.{Act}
+use Rattle.qs_world_runs.proofs.Words.{◌≡◌, ◌<◌, Bool, true, false, List, [], ◌∷◌, ◌++◌, Option, Some, None, length, refl, fold, if◌then◌else◌, lookup, remove_entry, is_at, ClientNo, NodeNo, ServerNo, Tid, Act, Answer, Vote, Message, Record, where_undecided, answer, enter, is_other, send, send_each, send_next, Work, client_cmp, with_manager, vote_with, OpenCommand, aborted_participant, is_undecided, new_participant, Participant}
 use Rattle.qs_book_journal.specs.declared.entry.Act.TheVariants as acts
-use Rattle.qs_ops.specs.declared.answer.Answer.{Answer}
-use Rattle.qs_ops.specs.declared.vote.Vote.{Vote}
-use Rattle.qs_packet.specs.declared.message.Message.{Message}
-use Rattle.qs_record.specs.declared.record.Record.{Record}
 use Rattle.qs_record.specs.declared.record.Record.TheVariants as made
-use Rattle.qs_node_step.specs.Asking.{where_undecided}
-use Rattle.qs_node_step.specs.Bringing.{answer, enter, is_other, log, send, send_each, send_next}
-use Rattle.qs_node_step.specs.State.{Work, client_cmp, part_of, with_manager}
-use Rattle.qs_node_step.specs.Voting.{vote_with}
-use Rattle.qs_node_step.specs.declared.state.OpenCommand.{OpenCommand}
+use Rattle.qs_node_step.specs.Bringing.{log}
+use Rattle.qs_node_step.specs.State.{part_of}
 use Rattle.qs_tm.specs.Manager as tm
-use Rattle.qs_tm.specs.Outcomes.{aborted_participant}
-use Rattle.qs_tm.specs.Participant.{is_undecided, new_participant}
-use Rattle.qs_tm.specs.declared.participant.Participant.{Participant}
 use Rattle.qs_world_lawful.proofs.Recordless.{unknown}
 
 -- a change of what is kept of a transaction that leaves what its servers did, and that its node is involved

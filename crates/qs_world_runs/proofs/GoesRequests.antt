@@ -1,33 +1,16 @@
 -- What holds of each thing that a step does holds of requests that are issued, come, wait and are served, and of replies.
-use Rattle.std.proofs.Common.{ℕ, Bool, true, false, List, [], ◌∷◌, ◌++◌, Option, Some, None, refl}
-use Rattle.std.specs.Prelude.{is_none}
-use Rattle.std.specs.Map.{lookup}
-use Rattle.std.specs.BTreeMap.{is_at}
-use Rattle.qs_base.specs.declared.identifiers.ClientNo.{ClientNo}
-use Rattle.qs_base.specs.declared.identifiers.Member.{Member}
-use Rattle.qs_base.specs.declared.identifiers.NodeNo.{NodeNo}
-use Rattle.qs_base.specs.declared.identifiers.ServerNo.{ServerNo}
-use Rattle.qs_base.specs.declared.identifiers.Tid.{Tid}
-use Rattle.qs_engage.specs.Nodes.{same_node}
-use Rattle.qs_engage.specs.declared.engage.Engaged.{Engaged}
+use Rattle.qs_world_runs.proofs.Words.{ℕ, Bool, true, false, List, [], ◌∷◌, ◌++◌, Option, Some, None, refl, is_none, lookup, is_at, ClientNo, Member, NodeNo, ServerNo, Tid, same_node, Engaged, is_client, Delivery, Op, Reply, Begun, member_of, is_by_files, Outstanding, enter, send, member_here, enqueue, enter_issue, with_local, issue_here, ask_on, issue_away, issue_as, issue, is_asked, label_of, answer_issuer, waits_as, take_reply, reply_came, label_at, put_label, learn_label, cover_from}
+use Rattle.qs_world_runs.proofs.Words.{engage, take_in, is_dropped, request_came, reply_here, change_served, enter_serve, lent_to, make_loan, serve, serve_or_drop, serve_next, serve_all, Work, with_manager, with_queues, with_kept, with_doings, here, client_cmp}
 use Rattle.qs_engage.specs.declared.engage.Engaged.TheVariants as engagements
 use Rattle.qs_ipc.specs.Ipc as ipc
 use Rattle.qs_ipc.specs.Queue.{is_for}
-use Rattle.qs_node_servers.specs.Servers.{is_client}
-use Rattle.qs_ipc.specs.declared.delivery.Delivery.{Delivery}
 use Rattle.qs_book_journal.specs.declared.entry.Act.TheVariants as acts
-use Rattle.qs_ops.specs.declared.operation.Op.{Op}
-use Rattle.qs_ops.specs.declared.reply.Reply.{Reply}
 use Rattle.qs_packet.specs.declared.message.Message.TheVariants as messages
-use Rattle.qs_node_kept.specs.declared.kept.KeptLabel.{KeptLabel}
 use Rattle.qs_tm.specs.Manager as tm
 use Rattle.qs_tm.specs.Participant as participant
-use Rattle.qs_tm.specs.Participant.{member_of, is_by_files}
-use Rattle.qs_tm.specs.declared.participant.Outstanding.{Outstanding}
-use Rattle.qs_node_step.specs.Bringing.{enter, send, member_here}
-use Rattle.qs_node_step.specs.Requests.{enqueue, enter_issue, with_local, issue_here, ask_on, issue_away, issue_as, issue, next_number, is_asked, label_of, answer_issuer, waits_as, take_reply, reply_came, waiting_at}
-use Rattle.qs_node_step.specs.Serving.{label_at, put_label, learn_label, met, cover_from, engage, take_in, is_dropped, request_came, reply_here, change_served, enter_serve, lent_to, make_loan, give_reply, serve, may_serve, serve_or_drop, serve_next, serve_all}
-use Rattle.qs_node_step.specs.State.{Work, with_manager, with_queues, with_kept, with_doings, part_of, here, client_cmp}
+use Rattle.qs_node_step.specs.Requests.{next_number, waiting_at}
+use Rattle.qs_node_step.specs.Serving.{met, give_reply, may_serve}
+use Rattle.qs_node_step.specs.State.{part_of}
 use Rattle.qs_world_runs.proofs.Goes.{Goes, goes_answer, goes_elim, goes_enter, goes_fold, goes_if, goes_meet, goes_send}
 
 module _ (R : Work → Work → Type 0) (g : Goes R) where
@@ -88,7 +71,7 @@ module _ (R : Work → Work → Type 0) (g : Goes R) where
 
   -- ---- a request comes
 
-  pub goes_label : (b : KeptLabel) (work : Work) → R work (put_label b work)
+  pub goes_label : (b : Begun) (work : Work) → R work (put_label b work)
   goes_label b work = g.still work (put_label b work) refl refl
 
   goes_learn_label : (label : List ℕ) (tid : Tid) (work : Work) → R work (learn_label label tid work)

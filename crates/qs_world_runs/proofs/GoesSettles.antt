@@ -1,52 +1,32 @@
 -- What holds of each thing that a step does holds of votes, decisions and outcomes, and of all that a node does of itself at the end of a step.
-use Rattle.std.proofs.Common.{◌≡◌, ℕ, ◌<◌, arith, ◌&&◌, not, Bool, true, false, List, [], ◌∷◌, Option, Some, None, is_none, refl, sym, ap, subst, ◌∙◌, fold, if◌then◌else◌}
-use Rattle.std.specs.Prelude.{is_some}
-use Rattle.std.specs.Map.{lookup}
-use Rattle.std.specs.BTreeMap.{is_at}
-use Rattle.qs_base.specs.Order.{tid_cmp}
-use Rattle.qs_base.specs.declared.identifiers.NodeNo.{NodeNo}
+use Rattle.qs_world_runs.proofs.Words.{◌≡◌, ℕ, ◌<◌, arith, ◌&&◌, not, Bool, true, false, List, [], ◌∷◌, Option, Some, None, is_none, refl, sym, ap, subst, ◌∙◌, fold, if◌then◌else◌, is_some, lookup, is_at, tid_cmp, NodeNo, ServerNo, Tid, release_of, listed, changes_in, vote_of, Cause, Note, Vote, Notice, after_notice, Record, server_at, enter, log_if, member_here, decide_as, due_endings, end_member, end_members, give_notices, keep_outcome, learn_member, learn_members, learners_at, notice_of}
+use Rattle.qs_world_runs.proofs.Words.{notify, answer_superior, due_tids, forget_rule, is_pass_due, is_quiet, may_answer, pass_rule, ready, ready_rule, refusal_goes_to, refuse_elsewhere, refuse_home, refuse_rule, say_yes, send_refusal, settle, settle_tid, try, Work, change_server, doings_of, here, with_manager, end_record, forget, learn, change_count, due_votes, enter_vote, issue_note, owes_note, served_count, vote_frame, vote_next, vote_pass, vote_with, told_with_own, is_forgotten}
+use Rattle.qs_world_runs.proofs.Words.{is_undecided, Participant, Every, every_filter, Quiet}
 use Rattle.qs_base.specs.declared.identifiers.Outcome.{Outcome}
 use Rattle.qs_base.specs.declared.identifiers.Outcome.TheVariants as outcomes
-use Rattle.qs_base.specs.declared.identifiers.ServerNo.{ServerNo}
-use Rattle.qs_base.specs.declared.identifiers.Tid.{Tid}
-use Rattle.qs_engage.specs.Engage.{release_of}
-use Rattle.qs_engage.specs.Nodes.{is_no_node, listed}
+use Rattle.qs_engage.specs.Nodes.{is_no_node}
 use Rattle.qs_book_journal.specs.declared.entry.Act.TheVariants as acts
-use Rattle.qs_ops.specs.Server.{changes_in, vote_of}
-use Rattle.qs_ops.specs.declared.answer.Cause.{Cause}
 use Rattle.qs_ops.specs.declared.answer.Cause.TheVariants as causes
-use Rattle.qs_ops.specs.declared.operation.Op.TheVariants.{Note}
-use Rattle.qs_ops.specs.declared.vote.Vote.{Vote}
 use Rattle.qs_ops.specs.declared.vote.Vote.TheVariants as votes
-use Rattle.qs_ops.specs.declared.vote.Notice.{Notice}
 use Rattle.qs_ops.specs.declared.vote.Notice.TheVariants as notices
-use Rattle.qs_ops.specs.Server.{after_notice}
 use Rattle.qs_packet.specs.declared.message.Message.TheVariants as messages
-use Rattle.qs_record.specs.declared.record.Record.{Record}
 use Rattle.qs_record.specs.declared.record.Record.TheVariants as made
-use Rattle.qs_node_servers.specs.Servers.{audit_no, server_at}
-use Rattle.qs_node_step.specs.Bringing.{enter, log_if, member_here}
-use Rattle.qs_node_step.specs.Deciding.{decide, decide_as, decide_commit, due_endings, end_member, end_members, give_notices, keep_outcome, learn_member, learn_members, learners_at, notice_of, notify}
-use Rattle.qs_node_step.specs.Settling.{answer_superior, due_tids, forget_rule, is_pass_due, is_quiet, may_answer, pass_rule, ready, ready_rule, refusal_goes_to, refuse_elsewhere, refuse_home, refuse_rule, say_yes, send_refusal, settle, settle_tid, try}
-use Rattle.qs_node_step.specs.State.{Work, change_server, doings_of, here, part_of, with_manager}
-use Rattle.qs_node_step.specs.Telling.{end_record, forget, learn}
-use Rattle.qs_node_step.specs.Voting.{change_count, due_votes, enter_vote, issue_note, note_text, owes_note, served_count, vote_frame, vote_next, vote_pass, vote_with}
+use Rattle.qs_node_servers.specs.Servers.{audit_no}
+use Rattle.qs_node_step.specs.Deciding.{decide, decide_commit}
+use Rattle.qs_node_step.specs.State.{part_of}
+use Rattle.qs_node_step.specs.Voting.{note_text}
 use Rattle.qs_tm.specs.Manager as tm
 use Rattle.qs_tm.specs.Members as members
 use Rattle.qs_tm.specs.Members.{all_servers}
 use Rattle.qs_tm.specs.Outcomes as outcome_rules
-use Rattle.qs_tm.specs.Outcomes.{told_with_own}
 use Rattle.qs_tm.specs.Participant as participant
-use Rattle.qs_tm.specs.Participant.{is_due_at, is_forgotten, is_undecided, only_read, servers_due}
+use Rattle.qs_tm.specs.Participant.{is_due_at, only_read, servers_due}
 use Rattle.qs_tm.specs.declared.participant.Due.TheVariants as dues
-use Rattle.qs_tm.specs.declared.participant.Participant.{Participant}
 use Rattle.qs_book_laws.proofs.Maps.{lookup_changed}
-use Rattle.qs_world_lawful.specs.Logs.{Every}
 use Rattle.qs_world_lawful.proofs.LogEndings.{quiet_ends}
-use Rattle.qs_world_lawful.proofs.LogRecords.{every_filter}
 use Rattle.qs_world_lawful.proofs.Marks.{MarksOn}
 use Rattle.qs_world_lawful.proofs.QuietRequests.{quiet_issue}
-use Rattle.qs_world_lawful.proofs.Recordless.{Quiet, quiet_self}
+use Rattle.qs_world_lawful.proofs.Recordless.{quiet_self}
 use Rattle.qs_world_runs.proofs.Goes.{Goes, goes_enter, goes_fold, goes_if, goes_send, goes_sends, goes_where, is_prepare}
 use Rattle.qs_world_runs.proofs.GoesRequests.{goes_issue}
 

@@ -1,50 +1,24 @@
 -- What holds of each thing that a step does holds of a whole step, where what it begins is new; and of the end of a commit, as far as that may come.
-use Rattle.std.proofs.Common.{◌≡◌, ℕ, ◌+◌, ◌&&◌, not, Bool, true, false, List, [], Option, Some, None, fold, refl, if◌then◌else◌}
-use Rattle.std.specs.Map.{lookup}
-use Rattle.std.specs.BTreeMap.{is_at}
-use Rattle.qs_base.specs.declared.identifiers.ClientNo.{ClientNo}
-use Rattle.qs_base.specs.declared.identifiers.NodeNo.{NodeNo}
+use Rattle.qs_world_runs.proofs.Words.{◌≡◌, ℕ, ◌+◌, ◌&&◌, not, Bool, true, false, List, [], Option, Some, None, fold, refl, if◌then◌else◌, lookup, is_at, ClientNo, NodeNo, Tid, listed, same_node, Command, ScriptLine, Begun, Decided, ticked, Message, kept_outcome, borrower_command, is_aborted, answer, enter, send, ask, begin_as, begin_or_refuse, decided_answer, open_command, owner_command, give_notices, begin_incarnation, find_gone, inquire, is_orphaned_by, known_tids, notice_decided}
+use Rattle.qs_world_runs.proofs.Words.{notice_part, notice_tid, peer_restarted, resume_home, resume_part, resume_tid, label_at, put_label, settle, Work, change_server, client_cmp, here, with_manager, with_node, with_queues, work_on, abort_old, age_rule, borrower_waits, command_came, happen, is_owner, labelled, message_came, obey, owner_waits, step_work, tick, wait_command, wait_on, waiting_clients, waits_at, with_command, end_record, end_told, learn, learn_unknown, names_at, take_outcome}
+use Rattle.qs_world_runs.proofs.Words.{take_told, tell_came, told_at_home, told_came, told_known, told_unknown, Event, Issued, OpenCommand, is_told_again, named_by, begun_participant, is_owed_by, is_undecided, BeginFault, Participant, BeginsNew}
 use Rattle.qs_base.specs.declared.identifiers.Outcome.{Outcome}
 use Rattle.qs_base.specs.declared.identifiers.Outcome.TheVariants as outcomes
-use Rattle.qs_base.specs.declared.identifiers.Tid.{Tid}
-use Rattle.qs_engage.specs.Nodes.{listed, same_node}
 use Rattle.qs_ipc.specs.Ipc as ipc
 use Rattle.qs_book_journal.specs.declared.entry.Act.TheVariants as acts
-use Rattle.qs_book_journal.specs.declared.script_line.Command.{Command}
 use Rattle.qs_book_journal.specs.declared.script_line.Command.TheVariants as commands
-use Rattle.qs_book_journal.specs.declared.script_line.ScriptLine.{ScriptLine}
-use Rattle.qs_node_kept.specs.declared.kept.KeptLabel.{KeptLabel}
-use Rattle.qs_node_kept.specs.declared.kept.Decided.{Decided}
 use Rattle.qs_ops.specs.declared.answer.Answer.TheVariants as answers
 use Rattle.qs_ops.specs.declared.answer.Cause.TheVariants as causes
-use Rattle.qs_ops.specs.Timers.{ticked}
-use Rattle.qs_packet.specs.declared.message.Message.{Message}
 use Rattle.qs_packet.specs.declared.message.Message.TheVariants as messages
 use Rattle.qs_node_servers.specs.Servers.{timers_no}
-use Rattle.qs_node_step.specs.Answering.{kept_outcome}
-use Rattle.qs_node_step.specs.Borrowing.{borrower_command, is_aborted}
-use Rattle.qs_node_step.specs.Bringing.{answer, enter, send}
-use Rattle.qs_node_step.specs.Commands.{ask, begin_as, begin_or_refuse, decided_answer, open_command, owner_command}
-use Rattle.qs_node_step.specs.Deciding.{decide, give_notices}
-use Rattle.qs_node_step.specs.Restarts.{begin_incarnation, find_gone, inquire, is_orphaned_by, known_tids, notice_decided, notice_part, notice_tid, peer_restarted, resume_home, resume_part, resume_tid}
-use Rattle.qs_node_step.specs.Serving.{label_at, put_label}
-use Rattle.qs_node_step.specs.Settling.{settle}
-use Rattle.qs_node_step.specs.State.{NodeValue, Work, change_server, client_cmp, part_of, here, with_manager, with_node, with_queues, work_on}
-use Rattle.qs_node_step.specs.Step.{abort_old, age_rule, borrower_waits, command_came, happen, is_owner, labelled, message_came, obey, owner_waits, step_work, tick, wait_command, wait_on, waiting_clients, waits_at, with_command}
-use Rattle.qs_node_step.specs.Telling.{end_record, end_told, learn, learn_unknown, names_at, take_outcome, take_told, tell_came, told_at_home, told_came, told_known, told_unknown}
-use Rattle.qs_node_step.specs.declared.event.Event.{Event}
+use Rattle.qs_node_step.specs.Deciding.{decide}
+use Rattle.qs_node_step.specs.State.{NodeValue, part_of}
 use Rattle.qs_node_step.specs.declared.event.Event.TheVariants as events
-use Rattle.qs_node_step.specs.declared.state.Issued.{Issued}
-use Rattle.qs_node_step.specs.declared.state.OpenCommand.{OpenCommand}
 use Rattle.qs_tm.specs.Manager as tm
 use Rattle.qs_tm.specs.Outcomes as outcome_rules
-use Rattle.qs_tm.specs.Outcomes.{is_abort, is_told_again, named_by}
+use Rattle.qs_tm.specs.Outcomes.{is_abort}
 use Rattle.qs_tm.specs.Participant as participant
-use Rattle.qs_tm.specs.Participant.{begun_participant, is_owed_by, is_undecided}
-use Rattle.qs_tm.specs.declared.manager.BeginFault.{BeginFault}
 use Rattle.qs_tm.specs.declared.manager.BeginFault.TheVariants as faults
-use Rattle.qs_tm.specs.declared.participant.Participant.{Participant}
-use Rattle.qs_world_refine.specs.SaidLaws.{BeginsNew}
 use Rattle.qs_world_runs.proofs.Goes.{Goes, goes_answer, goes_elim, goes_enter, goes_fold, goes_if, goes_send, goes_sends, goes_where}
 use Rattle.qs_world_runs.proofs.GoesCommands.{goes_ask, goes_ask_came, goes_block, goes_borrower, goes_closer, goes_inquiry, goes_learn_unknown, goes_names, goes_refusal, goes_refuse, goes_request_command, goes_told_unknown}
 use Rattle.qs_world_runs.proofs.GoesRequests.{goes_label, goes_reply, goes_request, goes_serve_all}
@@ -98,7 +72,7 @@ module _ (R : Work → Work → Type 0) (g : Goes R) where
       by None = goes_open client tid command work
       by (Some decided) = goes_answer R g client (decided_answer decided command) work
 
-  goes_labelled : (client : ClientNo) (begun : KeptLabel) (command : Command) (work : Work) → R work (labelled client begun command work)
+  goes_labelled : (client : ClientNo) (begun : Begun) (command : Command) (work : Work) → R work (labelled client begun command work)
   goes_labelled client begun command work = goes_if R g (is_owner client begun.owner) work (owner_command client begun.tid command work) _ (goes_owner client begun.tid command work) (by begun.tid)
     where
       by : (o : Option Tid) → R work (elim o [ None ↦ work | Some tid ↦ borrower_command client tid command work ])
@@ -130,7 +104,7 @@ module _ (R : Work → Work → Type 0) (g : Goes R) where
       w : Work
       w = with_command line work
 
-      met : (c : Command) (o : Option KeptLabel) → R w (elim o [ None ↦ w | Some begun ↦ labelled client begun c w ])
+      met : (c : Command) (o : Option Begun) → R w (elim o [ None ↦ w | Some begun ↦ labelled client begun c w ])
       met c None = g.self w
       met c (Some begun) = goes_labelled client begun c w
 
@@ -260,7 +234,7 @@ module _ (R : Work → Work → Type 0) (g : Goes R) where
       borrowers c None None = g.self work
       borrowers c None (Some tid) = goes_borrower R g client tid c work
 
-      of : (command : OpenCommand) (o : Option KeptLabel) → R work (elim o [ None ↦ work | Some begun ↦ waits_at client command begun work ])
+      of : (command : OpenCommand) (o : Option Begun) → R work (elim o [ None ↦ work | Some begun ↦ waits_at client command begun work ])
       of command None = g.self work
       of command (Some begun) = goes_if R g (is_owner client begun.owner) work (owner_waits client begun.tid command.line.command work) (borrower_waits client command.issued begun.tid command.line.command work)
           (owners command.line.command begun.tid) (borrowers command.line.command command.issued begun.tid)

@@ -1,48 +1,15 @@
 -- What a client's command issues waits then: the owner's at its home, which has not decided; a borrower's while its loan stands, with the command in hand.
-use Rattle.std.proofs.Common.{◌≡◌, inl, inr, ℕ, ◌==◌, ◌&&◌, ◌||◌, not, Bool, true, false, List, [], ◌∷◌, Option, Some, None, refl, sym, ap, subst, ◌∙◌, arith, if◌then◌else◌}
-use Rattle.std.proofs.lemmas.Bool.Decides.{nat_tests}
-use Rattle.std.specs.BTreeMap.{is_at}
-use Rattle.std.specs.List.{filter, list_any}
-use Rattle.std.specs.Map.{lookup}
-use Rattle.qs_base.specs.Order.{same_tid}
-use Rattle.qs_base.specs.declared.identifiers.ClientNo.{ClientNo}
-use Rattle.qs_base.specs.declared.identifiers.Member.{Member}
-use Rattle.qs_base.specs.declared.identifiers.NodeNo.{NodeNo}
-use Rattle.qs_base.specs.declared.identifiers.Tid.{Tid}
-use Rattle.qs_engage.specs.Nodes.{same_node}
-use Rattle.qs_book_journal.specs.declared.script_line.Command.{Command}
+use Rattle.qs_world_runs.proofs.Words.{◌≡◌, inl, inr, ℕ, ◌==◌, ◌&&◌, ◌||◌, not, Bool, true, false, List, [], ◌∷◌, Option, Some, None, refl, sym, ap, subst, ◌∙◌, if◌then◌else◌, is_at, filter, list_any, lookup, same_tid, ClientNo, Member, NodeNo, Tid, same_node, Command, ScriptLine, last_taken, Begun, Decided, Lent, Answer, Op, client_server, kept_outcome, borrower_command, is_aborted, is_void, lent_command, loan_command, with_loan, answer, decided_answer, open_command, owner_command}
+use Rattle.qs_world_runs.proofs.Words.{request_as, request_command, label_at, Work, client_cmp, borrower_waits, command_came, is_owner, labelled, obey, owner_waits, wait_command, wait_on, waits_at, with_command, Issued, OpenCommand, Outstanding, is_engaged, is_sound, same_flag, known_sound, same_is, is_loan_in, IsRunning, IsBorrowed, is_lent_to, LeavesPlaces, eqb-self, not_implied, or_right}
 use Rattle.qs_book_journal.specs.declared.script_line.Command.TheVariants as commands
-use Rattle.qs_book_journal.specs.declared.script_line.ScriptLine.{ScriptLine}
-use Rattle.qs_node_kept.specs.Loans.{last_taken}
-use Rattle.qs_node_kept.specs.declared.kept.KeptLabel.{KeptLabel}
-use Rattle.qs_node_kept.specs.declared.kept.Decided.{Decided}
-use Rattle.qs_node_kept.specs.declared.kept.Lent.{Lent}
 use Rattle.qs_book_laws.proofs.Maps.{lookup_put}
-use Rattle.qs_ops.specs.declared.answer.Answer.{Answer}
 use Rattle.qs_ops.specs.declared.answer.Answer.TheVariants as answers
-use Rattle.qs_ops.specs.declared.operation.Op.{Op}
-use Rattle.qs_node_servers.specs.Servers.{client_server}
-use Rattle.qs_node_step.specs.Answering.{kept_outcome}
-use Rattle.qs_node_step.specs.Borrowing.{borrower_command, is_aborted, is_void, lent_command, loan_command, with_loan}
-use Rattle.qs_node_step.specs.Bringing.{answer}
-use Rattle.qs_node_step.specs.Commands.{decided_answer, open_command, owner_command, request_as, request_command, with_issued}
+use Rattle.qs_node_step.specs.Commands.{with_issued}
 use Rattle.qs_node_step.specs.Requests.{next_number}
-use Rattle.qs_node_step.specs.Serving.{label_at}
-use Rattle.qs_node_step.specs.State.{Work, client_cmp}
-use Rattle.qs_node_step.specs.Step.{borrower_waits, command_came, is_owner, labelled, obey, owner_waits, wait_command, wait_on, waits_at, with_command}
-use Rattle.qs_node_step.specs.declared.state.Issued.{Issued}
-use Rattle.qs_node_step.specs.declared.state.OpenCommand.{OpenCommand}
-use Rattle.qs_tm.specs.declared.participant.Outstanding.{Outstanding}
-use Rattle.qs_world_refine.specs.Sound.{is_engaged, is_sound, same_flag}
 use Rattle.qs_world_refine.proofs.Maps.{lookup_changed}
 use Rattle.qs_world_refine.proofs.SoundCommands.{loan_open}
-use Rattle.qs_world_refine.proofs.SoundHolds.{known_sound}
-use Rattle.qs_world_refine.proofs.SoundKnown.{same_is}
-use Rattle.qs_world_lawful.specs.Face.{is_loan_here, is_loan_in}
-use Rattle.qs_world_lawful.specs.NodeFacts.{IsRunning}
+use Rattle.qs_world_lawful.specs.Face.{is_loan_here}
 use Rattle.qs_world_lawful.proofs.BorrowersCommands.{present_stands}
-use Rattle.qs_world_runs.specs.Awaited.{IsBorrowed, is_lent_to}
-use Rattle.qs_world_runs.specs.PlacesAmid.{LeavesPlaces}
 use Rattle.qs_world_runs.proofs.AwaitedCommands.{client_self}
 use Rattle.qs_world_runs.proofs.FoundCommands.{HasLabels}
 use Rattle.qs_world_runs.proofs.IssuedNone.{none_left, none_yielded}
@@ -54,14 +21,10 @@ any_in : {A : Type 0} (p q r : A → Bool) → ((x : A) → q x ≡ true → p x
 any_in p q r both [] is = is
 any_in p q r both (x ∷ xs) is = by (q x) (p x) refl refl is (any_in p q r both xs)
   where
-    last : (a b : Bool) → b ≡ true → (a || b) ≡ true
-    last true b e = refl
-    last false b e = e
-
     by : (a b : Bool) → q x ≡ a → p x ≡ b → list_any p (filter q (x ∷ xs)) ≡ true → (list_any p (filter q xs) ≡ true → list_any r xs ≡ true) → (r x || list_any r xs) ≡ true
     by true true in_it so any more = let now : r x ≡ true = both x in_it so in rw now refl
-    by true false in_it so any more = last (r x) (list_any r xs) (more (rw so at (rw in_it at any)))
-    by false b in_it so any more = last (r x) (list_any r xs) (more (rw in_it at any))
+    by true false in_it so any more = or_right (r x) (list_any r xs) (more (rw so at (rw in_it at any)))
+    by false b in_it so any more = or_right (r x) (list_any r xs) (more (rw in_it at any))
 
 module _ (tid : Tid) (issuer member : Member) (number : ℕ) (op : Op) (client : ClientNo) (work : Work) where
   abbrev Goes : Work → Type 0
@@ -81,7 +44,7 @@ module _ (tid : Tid) (issuer member : Member) (number : ℕ) (op : Op) (client :
 
   -- ---- a command in hand, at its label
 
-  module _ (hand : OpenCommand) (there : lookup (is_at (client_cmp client)) work.node.commands ≡ Some hand) (begun : KeptLabel) (found : label_at hand.line.label work.node ≡ Some begun) (sound : is_sound work.node ≡ true) (away : IsAway member work) where
+  module _ (hand : OpenCommand) (there : lookup (is_at (client_cmp client)) work.node.commands ≡ Some hand) (begun : Begun) (found : label_at hand.line.label work.node ≡ Some begun) (sound : is_sound work.node ≡ true) (away : IsAway member work) where
     abbrev the_request : Member → ℕ → Outstanding
     the_request m k = record { issuer = client_server client; member = m; number = k; count = 0 }
 
@@ -117,10 +80,7 @@ module _ (tid : Tid) (issuer member : Member) (number : ℕ) (op : Op) (client :
           flagged false false is so = absurd (cc so)
 
           near : (a b : NodeNo) → a ≡ b → same_node a b ≡ true
-          near a b is = subst (λ (c : NodeNo). same_node a c ≡ true) is (itself a.0)
-            where
-              itself : (i : ℕ) → (i == i) ≡ true
-              itself i = grind (arith, nat_tests)
+          near a b is = subst (λ (c : NodeNo). same_node a c ≡ true) is (eqb-self a.0)
 
           of : IsRunning work.node.manager tid → tid.home ≡ work.node.setting.node → IsReady tid (the_request m k) (marked m k)
           of runs home_here = record { part = runs.part; known = runs.known; undecided = runs.undecided; engaged = on; holds = inr (inl home) }
@@ -160,10 +120,6 @@ module _ (tid : Tid) (issuer member : Member) (number : ℕ) (op : Op) (client :
           here : IsOpenHere tid work
           here = open_here tid work (loan_open client tid loan work last given valid sound)
 
-          present : (a b : Bool) → (not a || b) ≡ false → a ≡ true
-          present true b is = refl
-          present false b is = absurd (cc is)
-
           lends : (s c i y : Bool) → s ≡ true → ((c && i) && not y) ≡ true → (c && (s && (not y && i))) ≡ true
           lends true true true false in_it so = refl
           lends true true true true in_it so = absurd (cc so)
@@ -174,7 +130,7 @@ module _ (tid : Tid) (issuer member : Member) (number : ℕ) (op : Op) (client :
           lent : list_any (is_lent_to client tid work.node.setting.inc) work.node.kept.now.loans ≡ true
           lent = any_in (λ (x : Lent). is_loan_here client work.node.setting.inc x && not x.yielded) (is_loan_in tid) (is_lent_to client tid work.node.setting.inc)
               (λ x in_it so. lends (same_tid tid x.tid) (x.client.0 == client.0) (x.inc == work.node.setting.inc) x.yielded in_it so) work.node.kept.now.loans
-              (present_stands client tid work.node.setting.inc work.node.kept.now.loans loan last given (present (loan.inc == work.node.setting.inc) (is_aborted tid work.node) valid))
+              (present_stands client tid work.node.setting.inc work.node.kept.now.loans loan last given (not_implied (loan.inc == work.node.setting.inc) (is_aborted tid work.node) valid))
 
           borrowed : IsBorrowed tid m k (marked m k).node.commands work.node.kept.now work.node.setting.inc
           borrowed = record {
@@ -241,7 +197,7 @@ module _ (tid : Tid) (issuer member : Member) (number : ℕ) (op : Op) (client :
   pub wait_waits : is_sound work.node ≡ true → IsAway member work → Goes (wait_on work client)
   wait_waits sound away = by (lookup (is_at (client_cmp client)) work.node.commands) refl
     where
-      at : (hand : OpenCommand) → lookup (is_at (client_cmp client)) work.node.commands ≡ Some hand → (o : Option KeptLabel) → label_at hand.line.label work.node ≡ o → Goes (elim o [ None ↦ work | Some begun ↦ waits_at client hand begun work ])
+      at : (hand : OpenCommand) → lookup (is_at (client_cmp client)) work.node.commands ≡ Some hand → (o : Option Begun) → label_at hand.line.label work.node ≡ o → Goes (elim o [ None ↦ work | Some begun ↦ waits_at client hand begun work ])
       at hand there None none = still
       at hand there (Some begun) found = open_waits hand there begun found sound away
 
@@ -261,7 +217,7 @@ module _ (tid : Tid) (issuer member : Member) (number : ℕ) (op : Op) (line : S
   under : (c : Command) → Waited tid issuer member number op coming (elim (label_at line.label coming.node) [ None ↦ coming | Some begun ↦ labelled line.client begun c coming ])
   under c = by (label_at line.label coming.node) refl
     where
-      by : (o : Option KeptLabel) → label_at line.label coming.node ≡ o → Waited tid issuer member number op coming (elim o [ None ↦ coming | Some begun ↦ labelled line.client begun c coming ])
+      by : (o : Option Begun) → label_at line.label coming.node ≡ o → Waited tid issuer member number op coming (elim o [ None ↦ coming | Some begun ↦ labelled line.client begun c coming ])
       by None none = λ has. inl has
       by (Some begun) found = labelled_waits tid issuer member number op line.client coming (record { line = line; issued = None }) there begun found sound away labels c
 

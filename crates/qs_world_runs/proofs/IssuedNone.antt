@@ -1,38 +1,15 @@
 -- A rule enters a request only where it issues one: whatever else is served, voted, answered or told, each request that stands among its entries stood there before.
-use Rattle.std.proofs.Common.{◌≡◌, ◌⊎◌, inl, inr, ℕ, Bool, true, false, List, [], ◌∷◌, ◌++◌, fold, Option, Some, None, refl, subst, if◌then◌else◌}
-use Rattle.qs_base.proofs.Same.{same_tid-self}
-use Rattle.qs_base.specs.declared.identifiers.ClientNo.{ClientNo}
-use Rattle.qs_base.specs.declared.identifiers.Member.{Member}
-use Rattle.qs_base.specs.declared.identifiers.NodeNo.{NodeNo}
-use Rattle.qs_base.specs.declared.identifiers.ServerNo.{ServerNo}
-use Rattle.qs_base.specs.declared.identifiers.Tid.{Tid}
-use Rattle.qs_engage.specs.Nodes.{same_node}
+use Rattle.qs_world_runs.proofs.Words.{◌≡◌, ◌⊎◌, inl, inr, ℕ, Bool, true, false, List, [], ◌∷◌, ◌++◌, fold, Option, Some, None, refl, subst, if◌then◌else◌, same_tid-self, ClientNo, Member, NodeNo, ServerNo, Tid, same_node, Delivery, Act, give_back, after_serving, Op, Reply, Vote, Message, is_client, yield, enter, member_here, send, reply_came, engage, enter_serve, is_dropped, learn_label, lent_to, make_loan, reply_here, request_came, serve, serve_all, serve_next, serve_or_drop, take_in, Work}
+use Rattle.qs_world_runs.proofs.Words.{change_server, here, with_doings, with_kept, with_manager, with_queues, message_came, enter_vote, log_vote, vote_with, Among, is_loud, LeavesPlaces}
 use Rattle.qs_ipc.specs.Ipc as ipc
 use Rattle.qs_ipc.specs.Queue.{is_for}
-use Rattle.qs_ipc.specs.declared.delivery.Delivery.{Delivery}
-use Rattle.qs_book_journal.specs.declared.entry.Act.{Act}
 use Rattle.qs_book_journal.specs.declared.entry.Act.TheVariants as acts
-use Rattle.qs_node_kept.specs.Loans.{give_back}
-use Rattle.qs_ops.specs.Server.{after_serving}
 use Rattle.qs_ops.specs.declared.answer.Answer.TheVariants as answers
-use Rattle.qs_ops.specs.declared.operation.Op.{Op}
-use Rattle.qs_ops.specs.declared.reply.Reply.{Reply}
-use Rattle.qs_ops.specs.declared.vote.Vote.{Vote}
 use Rattle.qs_ops.specs.declared.vote.Vote.TheVariants as votes
-use Rattle.qs_packet.specs.declared.message.Message.{Message}
 use Rattle.qs_packet.specs.declared.message.Message.TheVariants as messages
-use Rattle.qs_node_servers.specs.Servers.{is_client}
-use Rattle.qs_node_step.specs.Borrowing.{yield}
-use Rattle.qs_node_step.specs.Bringing.{enter, member_here, send}
-use Rattle.qs_node_step.specs.Requests.{reply_came}
-use Rattle.qs_node_step.specs.Serving.{engage, enter_serve, is_dropped, learn_label, lent_to, make_loan, may_serve, reply_here, request_came, serve, serve_all, serve_next, serve_or_drop, take_in}
-use Rattle.qs_node_step.specs.State.{Work, change_server, here, part_of, with_doings, with_kept, with_manager, with_queues}
-use Rattle.qs_node_step.specs.Step.{message_came}
-use Rattle.qs_node_step.specs.Voting.{enter_vote, log_vote, vote_with}
+use Rattle.qs_node_step.specs.Serving.{may_serve}
+use Rattle.qs_node_step.specs.State.{part_of}
 use Rattle.qs_tm.specs.Manager as tm
-use Rattle.qs_world_runs.specs.Awaited.{Among}
-use Rattle.qs_world_runs.specs.PlacedActs.{is_loud}
-use Rattle.qs_world_runs.specs.PlacesAmid.{LeavesPlaces}
 use Rattle.qs_world_runs.proofs.AwaitedKept.{among_left}
 use Rattle.qs_world_runs.proofs.LeftRequests.{engage_leaves, label_leaves, reply_leaves}
 use Rattle.qs_world_runs.proofs.PlacesLeft.{answer_leaves, send_leaves}

@@ -1,28 +1,11 @@
 -- The notes that files issue in a vote pass wait once their transaction is settled: where its own pass is due its node is engaged, and nothing else of a turn issues a request.
-use Rattle.std.proofs.Common.{◌≡◌, inl, ℕ, Bool, true, false, List, [], ◌∷◌, fold, Option, Some, None, refl, sym, subst, ◌∙◌, if◌then◌else◌}
-use Rattle.qs_base.specs.Order.{same_tid}
-use Rattle.qs_base.specs.declared.identifiers.Member.{Member}
-use Rattle.qs_base.specs.declared.identifiers.NodeNo.{NodeNo}
-use Rattle.qs_base.specs.declared.identifiers.ServerNo.{ServerNo}
-use Rattle.qs_base.specs.declared.identifiers.Tid.{Tid}
-use Rattle.qs_ops.specs.Server.{vote_of}
-use Rattle.qs_ops.specs.declared.operation.Op.{Op}
-use Rattle.qs_node_servers.specs.Servers.{server_at}
-use Rattle.qs_node_step.specs.Deciding.{end_members}
-use Rattle.qs_node_step.specs.Requests.{issue_as, next_number}
-use Rattle.qs_node_step.specs.Settling.{is_pass_due, pass_rule, settle_tid, try}
-use Rattle.qs_node_step.specs.State.{Work, part_of}
-use Rattle.qs_node_step.specs.Voting.{due_votes, issue_note, owes_note, vote_frame, vote_next, vote_pass, vote_with}
-use Rattle.qs_tm.specs.Participant.{is_undecided}
-use Rattle.qs_tm.specs.declared.participant.Participant.{Participant}
-use Rattle.qs_world_refine.specs.Sound.{is_sound}
+use Rattle.qs_world_runs.proofs.Words.{◌≡◌, inl, ℕ, Bool, true, false, List, [], ◌∷◌, fold, Option, Some, None, refl, sym, subst, ◌∙◌, if◌then◌else◌, same_tid, Member, NodeNo, ServerNo, Tid, vote_of, Op, server_at, end_members, issue_as, is_pass_due, pass_rule, settle_tid, try, Work, due_votes, issue_note, owes_note, vote_frame, vote_next, vote_pass, vote_with, is_undecided, Participant, is_sound, same_is, AtEach, note_op, note_request}
+use Rattle.qs_node_step.specs.Requests.{next_number}
+use Rattle.qs_node_step.specs.State.{part_of}
 use Rattle.qs_world_refine.proofs.SoundHolds.{Holds, is_open, open_held}
-use Rattle.qs_world_refine.proofs.SoundKnown.{same_is}
 use Rattle.qs_world_refine.proofs.SoundNotices.{end_members_hold}
 use Rattle.qs_world_refine.proofs.SoundVotes.{pass_open, vote_next_holds}
-use Rattle.qs_world_lawful.specs.Given.{AtEach}
 use Rattle.qs_world_lawful.proofs.SameSetting.{ended_same}
-use Rattle.qs_world_runs.specs.PlacesGo.{note_op, note_request}
 use Rattle.qs_world_runs.proofs.AwaitedRules.{fold_on}
 use Rattle.qs_world_runs.proofs.AwaitedSettles.{rest_on, settle_on}
 use Rattle.qs_world_runs.proofs.AwaitedTurns.{next_vote_on}

@@ -1,28 +1,8 @@
 -- What its node issues to another one in a step waits there as the step ends, or is decided there: before the step nothing is entered, what issues finds its node engaged, and what waits waits on.
-use Rattle.std.proofs.Common.{◌≡◌, ◌⊎◌, inl, inr, ℕ, ◌==◌, true, false, List, [], ◌∷◌, fold, sym, subst}
-use Rattle.qs_base.specs.declared.identifiers.ClientNo.{ClientNo}
-use Rattle.qs_base.specs.declared.identifiers.Member.{Member}
-use Rattle.qs_base.specs.declared.identifiers.NodeNo.{NodeNo}
-use Rattle.qs_base.specs.declared.identifiers.Tid.{Tid}
-use Rattle.qs_engage.specs.Nodes.{same_node}
-use Rattle.qs_ops.specs.declared.operation.Op.{Op}
-use Rattle.qs_node_step.specs.Settling.{due_tids, settle}
-use Rattle.qs_node_step.specs.State.{NodeValue, Work, work_on}
-use Rattle.qs_node_step.specs.Step.{happen, step_work, wait_on, waiting_clients}
-use Rattle.qs_node_step.specs.declared.event.Event.{Event}
+use Rattle.qs_world_runs.proofs.Words.{◌≡◌, ◌⊎◌, inl, inr, ℕ, ◌==◌, true, false, List, [], ◌∷◌, fold, sym, subst, ClientNo, Member, NodeNo, Tid, same_node, Op, due_tids, settle, Work, work_on, happen, step_work, wait_on, waiting_clients, Event, Opening, World, is_sound, IsSteady, StepMay, step_may, steady_gives, AtEach, done_work, first_work, begin_incarnation_keeps, happen_same, begin_same, SoundStages, EachIssueWaits}
+use Rattle.qs_node_step.specs.State.{NodeValue}
 use Rattle.qs_node_step.specs.declared.event.Event.TheVariants as events
-use Rattle.qs_world.specs.World.{Opening, World}
-use Rattle.qs_world_refine.specs.Sound.{is_sound}
-use Rattle.qs_world_refine.specs.Steady.{IsSteady}
-use Rattle.qs_world_refine.proofs.MoveGoes.{StepMay, step_may}
-use Rattle.qs_world_refine.proofs.SteadyFrom.{steady_gives}
-use Rattle.qs_world_lawful.specs.Given.{AtEach}
-use Rattle.qs_world_lawful.specs.GivenStep.{done_work, first_work}
-use Rattle.qs_world_lawful.proofs.FactsTold.{begin_incarnation_keeps}
-use Rattle.qs_world_lawful.proofs.SameSettings.{happen_same, wait_same}
-use Rattle.qs_world_lawful.proofs.SameSettingTold.{begin_same}
-use Rattle.qs_world_runs.specs.Agrees.{SoundStages}
-use Rattle.qs_world_runs.specs.Awaiting.{EachIssueWaits}
+use Rattle.qs_world_lawful.proofs.SameSettings.{wait_same}
 use Rattle.qs_world_runs.proofs.AgreesPasses.{stages_sound}
 use Rattle.qs_world_runs.proofs.AwaitedRules.{fold_on, then_on}
 use Rattle.qs_world_runs.proofs.AwaitedSettles.{settles_on}

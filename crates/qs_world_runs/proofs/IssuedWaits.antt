@@ -1,29 +1,15 @@
 -- What a rule issues to another node waits once it is done, where its node is engaged as it issues; and what was entered before waits on.
-use Rattle.std.proofs.Common.{◌≡◌, ◌⊎◌, inl, inr, ℕ, ◌&&◌, not, is_some, Bool, true, false, List, [], ◌∷◌, ◌++◌, Option, Some, None, refl, sym, ap, subst, if◌then◌else◌}
-use Rattle.qs_base.specs.declared.identifiers.Member.{Member}
-use Rattle.qs_base.specs.declared.identifiers.Tid.{Tid}
-use Rattle.qs_engage.specs.Nodes.{same_node}
+use Rattle.qs_world_runs.proofs.Words.{◌≡◌, ◌⊎◌, inl, inr, ℕ, ◌&&◌, not, is_some, Bool, true, false, List, [], ◌∷◌, ◌++◌, Option, Some, None, refl, sym, ap, subst, if◌then◌else◌, Member, Tid, same_node, Delivery, Act, Op, Message, is_other, member_here, send, ask_on, enter_issue, is_asked, issue_as, issue_away, issue_here, label_of, with_local, Work, here, with_manager, with_queues, Setting, Outstanding, Participant, is_undecided, is_engaged, Among, IsWaiting}
 use Rattle.qs_ipc.specs.Ipc as ipc
 use Rattle.qs_ipc.specs.Queue.{is_for}
-use Rattle.qs_ipc.specs.declared.delivery.Delivery.{Delivery}
-use Rattle.qs_book_journal.specs.declared.entry.Act.{Act}
 use Rattle.qs_book_journal.specs.declared.entry.Act.TheVariants as acts
-use Rattle.qs_ops.specs.declared.operation.Op.{Op}
-use Rattle.qs_packet.specs.declared.message.Message.{Message}
 use Rattle.qs_packet.specs.declared.message.Message.TheVariants as messages
-use Rattle.qs_node_step.specs.Bringing.{is_other, member_here, send}
-use Rattle.qs_node_step.specs.Requests.{ask_on, enter_issue, is_asked, issue_as, issue_away, issue_here, label_of, with_local}
-use Rattle.qs_node_step.specs.State.{Work, here, part_of, with_manager, with_queues}
-use Rattle.qs_node_step.specs.declared.setting.Setting.{Setting}
+use Rattle.qs_node_step.specs.State.{part_of}
 use Rattle.qs_tm.specs.Manager as tm
-use Rattle.qs_tm.specs.declared.participant.Outstanding.{Outstanding}
-use Rattle.qs_tm.specs.declared.participant.Participant.{Participant}
-use Rattle.qs_tm.specs.Participant.{is_undecided}
-use Rattle.qs_world_refine.specs.Sound.{is_engaged}
 use Rattle.qs_world_refine.proofs.HomeAborts.{none_is}
 use Rattle.qs_world_refine.proofs.SoundHolds.{is_held, is_open, told_part}
 use Rattle.qs_world_refine.proofs.SoundParts.{and_both}
-use Rattle.qs_world_runs.specs.Awaited.{Among, HoldsIt, IsWaiting}
+use Rattle.qs_world_runs.specs.Awaited.{HoldsIt}
 use Rattle.qs_world_runs.proofs.AwaitedIssued.{issues_wait}
 use Rattle.qs_world_runs.proofs.AwaitedRules.{On}
 use Rattle.qs_world_runs.proofs.IssuedNone.{Has, IssuesNone, among_either, the_issue}

@@ -1,37 +1,11 @@
 -- All that stands together of a world stands after a whole step: what the machines and the nodes are known to keep, and what is owed.
-use Rattle.std.proofs.Common.{◌≡◌, ℕ, ◌≤◌, ◌<◌, ◌==◌, Bool, true, false, List, ◌++◌, Option, refl, sym, ap, subst, ◌∙◌, arith, if◌then◌else◌, [], None}
-use Rattle.std.proofs.lemmas.Bool.{eqb-true}
-use Rattle.std.proofs.lemmas.List.Sums.{fold-append}
-use Rattle.std.proofs.lemmas.Bool.Decides.{nat_tests}
-use Rattle.qs_book_journal.specs.declared.entry.Entry.{Entry}
-use Rattle.qs_base.specs.declared.identifiers.Tid.{Tid}
-use Rattle.qs_book_machine.specs.Book.{BookValue, find_transaction}
-use Rattle.qs_book_machine.specs.Lawful.{IsLawful, book_after}
-use Rattle.qs_book_machine.specs.Restart.{is_among}
-use Rattle.qs_record.specs.declared.record.Record.{Record}
-use Rattle.qs_restart.specs.Recovery.{Recovery, found_record, nothing_said, recovery}
+use Rattle.qs_world_runs.proofs.Words.{◌≡◌, ℕ, ◌≤◌, ◌<◌, ◌==◌, Bool, true, false, List, ◌++◌, Option, refl, sym, ap, subst, ◌∙◌, arith, if◌then◌else◌, [], None, eqb-true, fold-append, nat_tests, Entry, Tid, BookValue, find_transaction, book_after, is_among, Record, Recovery, found_record, nothing_said, recovery, after_step, effects_of, Effects, Event, book_of, Move, Source, Step, log_after, may_move, moved, step_with, stepped_host, taken_by, Host, Opening, World, up_taken, up_all}
+use Rattle.qs_world_runs.proofs.Words.{each_begun_shown, move_shown, HoldsBeside, HasNodeFacts, HoldsChannels, HoldsWays, HoldsScripts, HoldsWorld, MakesStep, nodes_in, HomesAt, HomesHave, HoldsRunning, Joined, ClocksAt, LoggedAt, OwnersAt, RunningAt, book_in, ClientsAt, Owes, OwesAt, WholeSteps, AfterStep, StaysUnanimousThen}
+use Rattle.qs_book_machine.specs.Lawful.{IsLawful}
 use Rattle.qs_node_step.specs.State.{NodeValue}
-use Rattle.qs_node_step.specs.Step.{after_step, effects_of}
-use Rattle.qs_node_step.specs.declared.event.Effects.{Effects}
-use Rattle.qs_node_step.specs.declared.event.Event.{Event}
-use Rattle.qs_world.specs.Histories.{book_of}
-use Rattle.qs_world.specs.Moves.{Move, Source, Step, log_after, may_move, moved, step_with, stepped_host, taken_by}
-use Rattle.qs_world.specs.World.{Host, Opening, World}
-use Rattle.qs_world_refine.proofs.Moving.{up_taken}
-use Rattle.qs_world_refine.proofs.Posted.{up_all}
-use Rattle.qs_world_refine.proofs.ShownBegins.{each_begun_shown}
-use Rattle.qs_world_refine.proofs.ShownMoves.{move_shown}
-use Rattle.qs_world_lawful.specs.Beside.{HoldsBeside}
 use Rattle.qs_world_lawful.specs.Face.{waiting_at}
-use Rattle.qs_world_lawful.specs.NodeFacts.{HasNodeFacts}
-use Rattle.qs_world_lawful.specs.Parcels.{HoldsChannels, HoldsWays}
-use Rattle.qs_world_lawful.specs.Scripts.{HoldsScripts}
-use Rattle.qs_world_lawful.specs.Worlds.{HoldsWorld}
 use Rattle.qs_world_lawful.proofs.OpenedCommits.{stays_among}
-use Rattle.qs_world_runs.specs.Agrees.{MakesStep, nodes_in}
-use Rattle.qs_world_runs.specs.Joined.{ChannelsAt, FactsAt, HeldAt, HomesAt, HomesHave, HoldsRunning, Joined, ClocksAt, LoggedAt, OwnersAt, RunningAt, ScriptsAt, WaysAt, book_in, ClientsAt, KeepsBackUnmet, QueuedAt}
-use Rattle.qs_world_runs.specs.Owing.{Owes, OwesAt}
-use Rattle.qs_world_runs.specs.JoinedLaws.{WholeSteps, AfterStep, StaysUnanimousThen}
+use Rattle.qs_world_runs.specs.Joined.{ChannelsAt, FactsAt, HeldAt, ScriptsAt, WaysAt, KeepsBackUnmet, QueuedAt}
 use Rattle.qs_world_runs.proofs.BornMoves.{born_moved}
 use Rattle.qs_world_runs.proofs.JoinedFacts.{steps_facts}
 use Rattle.qs_world_runs.proofs.JoinedHeld as held_proofs

@@ -1,9 +1,5 @@
 -- What stands together with what goes on along a run stands together with a part of that.
-use Rattle.qs_world.specs.World.{Opening, World}
-use Rattle.qs_world_runs.specs.AlongRun.{AlongRun}
-use Rattle.qs_world_runs.specs.Awaiting.{AwaitedAt}
-use Rattle.qs_world_runs.specs.Joined.{Joined}
-use Rattle.qs_world_runs.specs.JoinedPlaces.{PlacesAt}
+use Rattle.qs_world_runs.proofs.Words.{Opening, World, AlongRun, AwaitedAt, Joined, PlacesAt}
 
 pub joined_as : (P Q : Opening → World → Type 0) (o : Opening) (world : World) → (P o world → Q o world) → Joined P o world → Joined Q o world
 joined_as P Q o world less j = record {

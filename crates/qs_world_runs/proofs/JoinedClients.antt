@@ -1,44 +1,20 @@
 -- Through a step, what is in hand is of clients of the stepping node: so each transaction that begins has an owner, no client is answered that
 -- has a command in hand elsewhere, and no entry is a restart.
-use Rattle.std.proofs.Common.{◌≡◌, ℕ, ◌+◌, ◌<◌, ◌==◌, ◌&&◌, Bool, true, false, List, Option, Some, None, Equal, refl, sym, ap, subst, ◌∙◌, arith, nat_lt, is_some, if◌then◌else◌}
-use Rattle.std.specs.Prelude.{slice_get}
-use Rattle.std.specs.BTreeMap.{insert_entry, is_at}
-use Rattle.std.specs.Map.{lookup}
-use Rattle.std.proofs.lemmas.Bool.{eqb-true}
-use Rattle.std.proofs.lemmas.Bool.Decides.{nat_tests}
-use Rattle.std.proofs.lemmas.Cmp.{nat_cmp_total, tied_itself}
+use Rattle.qs_world_runs.proofs.Words.{◌≡◌, ℕ, ◌+◌, ◌<◌, ◌==◌, ◌&&◌, Bool, true, false, List, Option, Some, None, Equal, refl, sym, ap, subst, ◌∙◌, arith, nat_lt, is_some, if◌then◌else◌, slice_get, insert_entry, is_at, lookup, eqb-true, nat_tests, nat_cmp_total, tied_itself, ClientNo, Tid, Act, ScriptLine, IsRising, BookValue, client_cmp, effects_of, step_work, ClientAnswer, Event, OpenCommand, Clock, Commanded, Handed, Noticed, Queues, Source, client_count, command_of, event_of, handed_by}
+use Rattle.qs_world_runs.proofs.Words.{IsOpening, labels_begun, next_line, Opening, World, from_node, from_notice, AnswersElsewhere, IsOfStep, Every, HoldsScripts, client_exact, every_on, IsOfOpen, with_event, ClientsAt, IsOwnClient, fresh_command, trace_of, some_same, eqb-self, same_Some}
 use Rattle.std.proofs.lemmas.Map.Lookups.{exact_unsigned}
-use Rattle.qs_base.specs.declared.identifiers.ClientNo.{ClientNo}
-use Rattle.qs_base.specs.declared.identifiers.Tid.{Tid}
 use Rattle.qs_session_channels.proofs.Lists.{get_drop}
-use Rattle.qs_book_journal.specs.declared.entry.Act.{Act}
 use Rattle.qs_book_journal.specs.declared.entry.Act.TheVariants as acts
-use Rattle.qs_book_journal.specs.declared.script_line.ScriptLine.{ScriptLine}
 use Rattle.qs_book_laws.proofs.Maps.{lookup_put, lookup_put_apart}
-use Rattle.qs_book_laws.proofs.Rising.{IsRising}
-use Rattle.qs_book_machine.specs.Book.{BookValue}
-use Rattle.qs_node_step.specs.State.{NodeValue, client_cmp}
-use Rattle.qs_node_step.specs.Step.{effects_of, step_work}
-use Rattle.qs_node_step.specs.declared.event.ClientAnswer.{ClientAnswer}
-use Rattle.qs_node_step.specs.declared.event.Event.{Event}
+use Rattle.qs_node_step.specs.State.{NodeValue}
 use Rattle.qs_node_step.specs.declared.event.Event.TheVariants as events
-use Rattle.qs_node_step.specs.declared.state.OpenCommand.{OpenCommand}
-use Rattle.qs_world.specs.Moves.{Clock, Commanded, Handed, Noticed, Queues, Source, client_count, command_from, command_of, event_of, handed_by}
-use Rattle.qs_world.specs.Openings.{IsOpening, is_line, labels_begun}
-use Rattle.qs_world.specs.Posting.{next_line}
-use Rattle.qs_world.specs.World.{Opening, World}
-use Rattle.qs_world_refine.proofs.EachMay.{all_get, from_node, from_notice}
+use Rattle.qs_world.specs.Moves.{command_from}
+use Rattle.qs_world.specs.Openings.{is_line}
+use Rattle.qs_world_refine.proofs.EachMay.{all_get}
 use Rattle.qs_world_refine.proofs.SoundParts.{and_both}
-use Rattle.qs_world_lawful.specs.Aside.{AnswersElsewhere, IsOfStep}
-use Rattle.qs_world_lawful.specs.Logs.{Every}
-use Rattle.qs_world_lawful.specs.Scripts.{HoldsScripts}
-use Rattle.qs_world_lawful.proofs.Answers.{client_exact}
 use Rattle.qs_world_lawful.proofs.GivenByWorld.{line_comes}
-use Rattle.qs_world_lawful.proofs.LogFrames.{every_on}
-use Rattle.qs_world_runs.specs.Answering.{Answering, BeginsOpen, Commands, IsFree, IsOfOpen, with_event}
-use Rattle.qs_world_runs.specs.Joined.{ClientsAt, IsOwnClient}
+use Rattle.qs_world_runs.specs.Answering.{Answering, BeginsOpen, Commands, IsFree}
 use Rattle.qs_world_runs.specs.JoinedLaws.{HasOwner}
-use Rattle.qs_world_runs.specs.Traces.{fresh_command, trace_of}
 use Rattle.qs_world_runs.proofs.Answered.{step_answers}
 use Rattle.qs_world_runs.proofs.JoinedFacts.{formed}
 
@@ -68,9 +44,6 @@ module _ (o : Opening) (opens : IsOpening o) (book : BookValue) (world : World) 
   from_command : (k : ℕ) → command_from world n k ≡ Some event → (line : ScriptLine) × (event ≡ command_of line) × LineCame k line
   from_command k is = by (nat_lt k client_count && ((world.clients k).at == n)) refl is
     where
-      one : (a b : Event) → Some a ≡ Some b → a ≡ b
-      one a b same = cc same
-
       came : (nat_lt k client_count ≡ true) × (((world.clients k).at == n) ≡ true) → (line : ScriptLine) → next_line (world.clients k) ≡ Some line → LineCame k line
       came tests line next = record {
         small = tests.0;
@@ -91,7 +64,7 @@ module _ (o : Opening) (opens : IsOpening o) (book : BookValue) (world : World) 
 
       of : (nat_lt k client_count ≡ true) × (((world.clients k).at == n) ≡ true) → (l : Option ScriptLine) → next_line (world.clients k) ≡ l → (elim l [ None ↦ None | Some line ↦ Some (command_of line) ]) ≡ Some event → (line : ScriptLine) × (event ≡ command_of line) × LineCame k line
       of tests None next so = absurd (cc so)
-      of tests (Some line) next so = (line, sym (one (command_of line) event so), came tests line next)
+      of tests (Some line) next so = (line, sym (same_Some (command_of line) event so), came tests line next)
 
       by : (b : Bool) → (nat_lt k client_count && ((world.clients k).at == n)) ≡ b → (if b then elim (next_line (world.clients k)) [ None ↦ None | Some line ↦ Some (command_of line) ] else None) ≡ Some event → (line : ScriptLine) × (event ≡ command_of line) × LineCame k line
       by true tests so = of (and_both (nat_lt k client_count) ((world.clients k).at == n) tests) (next_line (world.clients k)) refl so
@@ -121,9 +94,6 @@ module _ (o : Opening) (opens : IsOpening o) (book : BookValue) (world : World) 
       let hand = (scripts.clients client.0 its.small).in_hand n in_run up old there in
       record { own = its; first = hand.1.1; handed = handed_still s client.0 hand.1.0 }
 
-  itself : (k : ℕ) → (k == k) ≡ true
-  itself k = grind (arith, nat_tests)
-
   -- the command that comes, or one of before
   commanded : (k : ℕ) → command_from world n k ≡ Some event → (client : ClientNo) (old : OpenCommand) → lookup (is_at (client_cmp client)) (with_event event node.commands) ≡ Some old → WasInHand (Commanded k) client old
   commanded k is client old there = let p = from_command k is in of p.0 p.2 (subst (λ (e : Event). lookup (is_at (client_cmp client)) (with_event e node.commands) ≡ Some old) p.1 there)
@@ -134,16 +104,13 @@ module _ (o : Opening) (opens : IsOpening o) (book : BookValue) (world : World) 
           exact : (x : ClientNo) → client_cmp line.client x ≡ Equal → line.client ≡ x
           exact x e = ap (λ (i : ℕ). record { 0 = i }) (exact_unsigned line.client.0 x.0 e)
 
-          one : {a b : OpenCommand} → Some a ≡ Some b → a ≡ b
-          one same = cc same
-
           by : (b : Bool) → is_at (client_cmp client) line.client ≡ b → WasInHand (Commanded k) client old
           by false far = before (Commanded k) client old (sym (lookup_put_apart client_cmp line.client (fresh_command line) exact (is_at (client_cmp client)) far node.commands) ∙ there)
           by true near = subst (λ (c : ClientNo). WasInHand (Commanded k) c old) (sym (client_exact client line.client near ∙ came.client)) (record {
             own = record { small = came.small; at = came.at };
-            first = came.first ∙ ap (λ (c : OpenCommand). Some c.line) (one (sym (lookup_put client_cmp line.client (fresh_command line) (tied_itself nat_cmp_total line.client.0) node.commands)
+            first = came.first ∙ ap (λ (c : OpenCommand). Some c.line) (some_same (sym (lookup_put client_cmp line.client (fresh_command line) (tied_itself nat_cmp_total line.client.0) node.commands)
                 ∙ subst (λ (c : ClientNo). lookup (is_at (client_cmp c)) (insert_entry client_cmp node.commands line.client (fresh_command line)) ≡ Some old) (client_exact client line.client near) there));
-            handed = handed (k == k) (itself k);
+            handed = handed (k == k) (eqb-self k);
           })
             where
               handed : (b : Bool) → b ≡ true → (if b then record (world.clients k) { is_handed = true } else world.clients k).is_handed ≡ true
@@ -196,7 +163,7 @@ module _ (o : Opening) (opens : IsOpening o) (book : BookValue) (world : World) 
     where
       none : (client : ClientNo) → IsOwnClient world n client → (c : Option OpenCommand) → lookup (is_at (client_cmp client)) (world.hosts k).node.commands ≡ c → c ≡ None
       none client own None is = refl
-      none client own (Some command) is = absurd (let on : (k == n) ≡ true = ap (λ (i : ℕ). i == n) (sym (clients k k_low client command is).at ∙ own.at) ∙ itself n in let both : true ≡ false = sym on ∙ far in cc (both))
+      none client own (Some command) is = absurd (let on : (k == n) ≡ true = ap (λ (i : ℕ). i == n) (sym (clients k k_low client command is).at ∙ own.at) ∙ eqb-self n in let both : true ≡ false = sym on ∙ far in cc (both))
 
       aside : (act : Act) → IsOfOpen (with_event event node.commands) said act → AnswersElsewhere (world.hosts k).node act
       aside (acts.Answer client line answer) of = none client (in_hand client of.old of.there).own (lookup (is_at (client_cmp client)) (world.hosts k).node.commands) refl

@@ -1,33 +1,18 @@
 -- The clock of a node shows its stamp at most: it begins at nothing, and each tick has a later stamp; so a tick that comes has room.
-use Rattle.std.proofs.Common.{◌≡◌, ℕ, ◌+◌, ◌≤◌, ◌<◌, ◌^◌, ◌&&◌, true, ◌++◌, refl, sym, subst, arith, nat_le, nat_lt}
-use Rattle.std.proofs.lemmas.Bool.Decides.{nat_tests}
-use Rattle.std.specs.Global.{Global}
-use Rattle.qs_restart.specs.declared.recovered.Recovered.{Recovered}
-use Rattle.qs_node_step.specs.Opening.{new_manager, opened_manager}
-use Rattle.qs_node_step.specs.Step.{after_step}
-use Rattle.qs_node_step.specs.declared.event.Event.{Event}
-use Rattle.qs_node_step.specs.declared.setting.Setting.{Setting}
-use Rattle.qs_world.specs.Moves.{Source, is_in_order, is_later}
-use Rattle.qs_world.specs.World.{Opening, World}
+use Rattle.qs_world_runs.proofs.Words.{◌≡◌, ℕ, ◌+◌, ◌≤◌, ◌<◌, ◌^◌, ◌&&◌, true, ◌++◌, refl, sym, subst, arith, nat_le, nat_lt, nat_tests, Global, Recovered, new_manager, after_step, Event, Setting, Source, is_later, Opening, World, first_work, MakesStep, HoldsRunning, Joined, book_in, ltb-true}
+use Rattle.qs_node_step.specs.Opening.{opened_manager}
+use Rattle.qs_world.specs.Moves.{is_in_order}
 use Rattle.qs_world_refine.proofs.SoundParts.{and_both}
-use Rattle.qs_world_lawful.specs.GivenStep.{first_work}
-use Rattle.qs_world_runs.specs.Agrees.{MakesStep}
-use Rattle.qs_world_runs.specs.Joined.{HoldsRunning, Joined, book_in}
 use Rattle.qs_world_runs.proofs.AgreesEach.{low, up}
 use Rattle.qs_world_runs.proofs.BareTaken.{all_bare}
 use Rattle.qs_world_runs.proofs.StaysWorlds.{first_on_time, steps_tick_once}
+use Rattle.std.proofs.lemmas.Bool.{leb-true}
 
 pub opens_on_time : (alloc : Global) (setting : Setting) (found : Recovered) → (opened_manager alloc setting found).ticks ≡ 0
 opens_on_time alloc setting found = (all_bare (found.in_doubt ++ found.untold) (new_manager alloc setting) (record { parts = λ tid part known. absurd (cc known); ticks = refl })).ticks
 
-pub by_order : (t old new : ℕ) → t ≤ old → old ≤ new → t ≤ new
-by_order t old new a b = grind (arith, a, b)
-
 pub in_order_stamp : (world : World) (n stamp : ℕ) → is_in_order world n stamp ≡ true → (world.hosts n).stamp ≤ stamp
-in_order_stamp world n stamp is = least (world.hosts n).stamp stamp (and_both _ (nat_le (world.hosts n).stamp stamp) (and_both (nat_lt n world.size && _) _ is).1).1
-  where
-    least : (a b : ℕ) → nat_le a b ≡ true → a ≤ b
-    least a b e = grind (arith, nat_tests, e)
+in_order_stamp world n stamp is = leb-true (world.hosts n).stamp stamp (and_both _ (nat_le (world.hosts n).stamp stamp) (and_both (nat_lt n world.size && _) _ is).1).1
 
 module _ (P : Opening → World → Type 0) (o : Opening) (world : World) (j : Joined P o world) (n stamp free : ℕ) (source : Source) (event : Event) (makes : MakesStep world n stamp source event) where
   its_low : n < world.size
@@ -40,10 +25,7 @@ module _ (P : Opening → World → Type 0) (o : Opening) (world : World) (j : J
   later = (and_both (is_later world n stamp) _ (and_both (world.channels.up n) _ makes.may).1).0
 
   less : (world.hosts n).stamp < stamp
-  less = of (world.hosts n).stamp stamp (and_both (is_in_order world n stamp) (nat_lt (world.hosts n).stamp stamp) later).1
-    where
-      of : (a b : ℕ) → nat_lt a b ≡ true → a < b
-      of a b e = grind (arith, nat_tests, e)
+  less = ltb-true (world.hosts n).stamp stamp (and_both (is_in_order world n stamp) (nat_lt (world.hosts n).stamp stamp) later).1
 
   pub step_on_time : (after_step (world.hosts n).node event free).manager.ticks ≤ stamp
   step_on_time = of (after_step (world.hosts n).node event free).manager.ticks (world.hosts n).node.manager.ticks (world.hosts n).stamp stamp

@@ -1,48 +1,22 @@
 -- All that stands together of a world stands after a crash, whatever it leaves in the log.
-use Rattle.std.proofs.Common.{◌≡◌, ℕ, ◌≤◌, ◌<◌, ◌==◌, Bool, true, false, List, [], ◌∷◌, Some, None, refl, sym, ap, subst, ◌∙◌, arith, if◌then◌else◌}
-use Rattle.std.specs.BTreeMap.{is_at}
-use Rattle.std.specs.Map.{lookup}
-use Rattle.std.specs.Prelude.{slice_get}
-use Rattle.std.proofs.lemmas.Bool.{eqb-true}
-use Rattle.std.proofs.lemmas.Bool.Decides.{nat_tests}
+use Rattle.qs_world_runs.proofs.Words.{◌≡◌, ℕ, ◌≤◌, ◌<◌, ◌==◌, Bool, true, false, List, [], ◌∷◌, Some, None, refl, sym, ap, subst, ◌∙◌, if◌then◌else◌, is_at, lookup, slice_get, eqb-true, eqb-false, CrashCause, Entry, Tid, BookValue, find_transaction, is_among, TransactionValue, Record, recovery, client_cmp, book_of, opened_from, Move, may_move, moved, stopped, stopped_host, entry_of, Client, Opening, World, node_stopped, is_committed_at, HasNodeFacts, HoldsWays, HoldsScripts, HoldsNodeAt}
+use Rattle.qs_world_runs.proofs.Words.{HoldsWorld, opens_soundly, opened_numbered, channels_moved, HomesAt, HoldsRunning, Joined, ClocksAt, LoggedAt, OwnersAt, RunningAt, book_in, Owes, OwesAt, AfterStep, WholeSteps, StaysUnanimousThen, le_le}
 use Rattle.qs_session_channels.specs.Channels as channel
 use Rattle.qs_book_journal.specs.declared.entry.Act.TheVariants as acts
-use Rattle.qs_book_journal.specs.declared.entry.CrashCause.{CrashCause}
-use Rattle.qs_book_journal.specs.declared.entry.Entry.{Entry}
-use Rattle.qs_base.specs.declared.identifiers.Tid.{Tid}
-use Rattle.qs_book_machine.specs.Book.{BookValue, find_transaction}
 use Rattle.qs_book_machine.specs.Lawful.{IsLawful}
-use Rattle.qs_book_machine.specs.Restart.{is_among}
-use Rattle.qs_book_machine.specs.Transaction.{TransactionValue}
-use Rattle.qs_record.specs.declared.record.Record.{Record}
-use Rattle.qs_restart.specs.Recovery.{recovery}
-use Rattle.qs_node_step.specs.State.{NodeValue, client_cmp}
-use Rattle.qs_world.specs.Histories.{book_of, opened_from}
-use Rattle.qs_world.specs.Moves.{Move, is_in_order, may_move, moved, stopped, stopped_host}
-use Rattle.qs_world.specs.Posting.{entry_of}
-use Rattle.qs_world.specs.World.{Client, Opening, World}
-use Rattle.qs_world_refine.proofs.StepAll.{node_stopped}
-use Rattle.qs_world_lawful.specs.Beside.{HasOwner, is_committed_at}
+use Rattle.qs_node_step.specs.State.{NodeValue}
+use Rattle.qs_world.specs.Moves.{is_in_order}
+use Rattle.qs_world_lawful.specs.Beside.{HasOwner}
 use Rattle.qs_world_lawful.specs.Face.{waiting_at}
-use Rattle.qs_world_lawful.specs.NodeFacts.{HasNodeFacts}
-use Rattle.qs_world_lawful.specs.Parcels.{HoldsWays}
-use Rattle.qs_world_lawful.specs.Scripts.{HoldsScripts}
 use Rattle.qs_world_lawful.specs.WorldLaws.{StopsWell}
-use Rattle.qs_world_lawful.specs.Worlds.{HoldsNodeAt, HoldsWorld}
 use Rattle.qs_world_lawful.proofs.AsideBesides.{keeps_others_beside}
-use Rattle.qs_world_lawful.proofs.CoherentOpenings.{opens_soundly}
-use Rattle.qs_world_lawful.proofs.NumberedLogs.{opened_numbered}
-use Rattle.qs_world_lawful.proofs.ParcelsKept.{channels_moved}
 use Rattle.qs_world_lawful.proofs.ScriptsLike.{crash_scripts}
 use Rattle.qs_world_lawful.proofs.WaysOn.{crash_ways}
-use Rattle.qs_world_runs.specs.Joined.{HomesAt, HoldsRunning, Joined, ClocksAt, LoggedAt, OwnersAt, RunningAt, book_in}
-use Rattle.qs_world_runs.specs.Owing.{Owes, OwesAt}
-use Rattle.qs_world_runs.specs.JoinedLaws.{AfterStep, WholeSteps, StaysUnanimousThen}
 use Rattle.qs_world_runs.proofs.JoinedHeld as held_proofs
 use Rattle.qs_world_runs.proofs.JoinedParts.{book_on, channels_later, lawful_on}
 use Rattle.qs_world_runs.proofs.JoinedWays.{lasts_now}
 use Rattle.qs_world_runs.proofs.KeptBack.{none_before}
-use Rattle.qs_world_runs.proofs.JoinedClocks.{by_order, in_order_stamp}
+use Rattle.qs_world_runs.proofs.JoinedClocks.{in_order_stamp}
 use Rattle.qs_world_runs.proofs.OwingElsewhere.{by_one, owes_on}
 use Rattle.qs_world_runs.proofs.JoinedAfter.{Known, then_joined}
 
@@ -76,16 +50,13 @@ module _ (P : Opening → World → Type 0) (steps : WholeSteps P) (unanimous : 
         by true near off = absurd (cc off)
         by false far runs = subst (λ (m : NodeValue). HoldsRunning (book_in o after) m) (sym (node_stopped world n stamp cause log k)) (record {
           beside = keeps_others_beside (opened_from o 0 o.size) world.journal (entry ∷ []) (opens_soundly o j.opens) (opened_numbered o 0 o.size) crash_lawful (world.hosts k).node
-              (record { far = λ at. other k n far (sym (at ∙ its.node)); of_step = tt; answers = tt }, tt) ((λ tid label client begins. absurd (cc begins)), tt)
+              (record { far = λ at. eqb-false k n far (sym (at ∙ its.node)); of_step = tt; answers = tt }, tt) ((λ tid label client begins. absurd (cc begins)), tt)
               (λ state there. held_proofs.runs_at book world k its runs state (subst (λ (i : ℕ). slice_get book.nodes i ≡ Some state) its.node there)) (j.running k low runs).beside;
           young = (j.running k low runs).young;
         })
           where
             its : HoldsNodeAt book world k
             its = j.held.nodes k low
-
-            other : (a b : ℕ) → (a == b) ≡ false → a ≡ b → ⊥
-            other a b off same = let here : (a == b) ≡ true = grind (arith, nat_tests, same) in let both : true ≡ false = sym here ∙ off in cc (both)
 
     still : (b : Bool) (client : Client) → (if b then record client { is_handed = false } else client).at ≡ client.at
     still true client = refl
@@ -108,7 +79,7 @@ module _ (P : Opening → World → Type 0) (steps : WholeSteps P) (unanimous : 
     crash_clocks k low = subst (λ (m : NodeValue). m.manager.ticks ≤ (after.hosts k).stamp) (sym (node_stopped world n stamp cause log k)) (by (k == n) refl)
       where
         by : (b : Bool) → (k == n) ≡ b → (world.hosts k).node.manager.ticks ≤ (if b then stopped_host stamp log (world.hosts n) else world.hosts k).stamp
-        by true near = subst (λ (i : ℕ). (world.hosts i).node.manager.ticks ≤ stamp) (sym (eqb-true k n near)) (by_order (world.hosts n).node.manager.ticks (world.hosts n).stamp stamp (j.clocks n (subst (λ (i : ℕ). i < world.size) (eqb-true k n near) low)) (in_order_stamp world n stamp ordered))
+        by true near = subst (λ (i : ℕ). (world.hosts i).node.manager.ticks ≤ stamp) (sym (eqb-true k n near)) (le_le (world.hosts n).node.manager.ticks (world.hosts n).stamp stamp (j.clocks n (subst (λ (i : ℕ). i < world.size) (eqb-true k n near) low)) (in_order_stamp world n stamp ordered))
         by false far = j.clocks k low
 
     crash_owing : OwesAt after

@@ -1,26 +1,15 @@
 -- What holds of each node by itself holds as a run begins, and after each move, whether the node runs or not.
-use Rattle.std.proofs.Common.{◌≡◌, ℕ, ◌<◌, ◌==◌, ◌&&◌, Bool, true, false, Option, Some, None, refl, sym, ap, subst, ◌∙◌, arith, nat_lt, nat_le, zero, suc, if◌then◌else◌}
-use Rattle.std.specs.List.{list_all}
-use Rattle.std.proofs.lemmas.Bool.{eqb-true}
-use Rattle.std.proofs.lemmas.Bool.Decides.{nat_tests}
-use Rattle.qs_node_kept.specs.Keeping.{no_kept}
+use Rattle.qs_world_runs.proofs.Words.{◌≡◌, ℕ, ◌<◌, ◌==◌, ◌&&◌, Bool, true, false, Option, Some, None, refl, sym, ap, subst, ◌∙◌, arith, nat_lt, nat_le, zero, suc, if◌then◌else◌, list_all, eqb-true, nat_tests, no_kept, ScriptLine, recovered_of, after_step, Event, Setting, Clock, Commanded, Handed, Noticed, Queues, Source, command_of, event_of, IsOpening, are_rising, each_below, is_age, is_audit, labels_begun, next_line, next_parcel, Opening, Parcel, World, known_of, start, FitsEvent}
+use Rattle.qs_world_runs.proofs.Words.{HasNodeFacts, HoldsScripts, same_Some}
 use Rattle.qs_node_kept.specs.declared.kept.Kept.{Kept}
-use Rattle.qs_book_journal.specs.declared.script_line.ScriptLine.{ScriptLine}
-use Rattle.qs_node_step.specs.Opening.{recovered_of}
 use Rattle.qs_node_step.specs.State.{NodeValue}
-use Rattle.qs_node_step.specs.Step.{after_step}
-use Rattle.qs_node_step.specs.declared.event.Event.{Event}
 use Rattle.qs_node_step.specs.declared.event.Event.TheVariants as events
-use Rattle.qs_node_step.specs.declared.setting.Setting.{Setting}
 use Rattle.qs_world.specs.Moves as moves
-use Rattle.qs_world.specs.Moves.{Clock, Commanded, Handed, Noticed, Queues, Source, command_of, event_of, reopened}
-use Rattle.qs_world.specs.Openings.{IsOpening, are_rising, each_below, is_age, is_audit, is_format, is_line, is_script, is_setting, labels_begun}
-use Rattle.qs_world.specs.Posting.{next_line, next_parcel}
-use Rattle.qs_world.specs.World.{Opening, Parcel, World, known_of, start}
+use Rattle.qs_world.specs.Moves.{reopened}
+use Rattle.qs_world.specs.Openings.{is_format, is_line, is_script, is_setting}
 use Rattle.qs_world_refine.proofs.SoundParts.{and_both}
 use Rattle.qs_world_lawful.specs.Coming.{ComesLine}
-use Rattle.qs_world_lawful.specs.NodeFacts.{AreHomed, FitsEvent, HasNodeFacts, IsSetIn}
-use Rattle.qs_world_lawful.specs.Scripts.{HoldsScripts}
+use Rattle.qs_world_lawful.specs.NodeFacts.{AreHomed, IsSetIn}
 use Rattle.qs_world_lawful.proofs.FactsOpened.{opened_facts}
 use Rattle.qs_world_lawful.proofs.FactsStages.{step_keeps}
 use Rattle.qs_world_lawful.proofs.GivenByWorld.{line_comes}
@@ -82,14 +71,11 @@ module _ (o : Opening) (opens : IsOpening o) (book : Rattle.qs_book_machine.spec
   abbrev Fits : Event → Type 0
   Fits event = FitsEvent (world.hosts n).node.setting event
 
-  one : (a b : Event) → Some a ≡ Some b → a ≡ b
-  one a b same = cc same
-
   commanded : (k : ℕ) (event : Event) (b : Bool) → (nat_lt k 64 && ((world.clients k).at == n)) ≡ b → (line : Option ScriptLine) → next_line (world.clients k) ≡ line
       → (if b then elim line [ None ↦ None | Some l ↦ Some (command_of l) ] else None) ≡ Some event → Fits event
   commanded k event false test line next is = absurd (cc is)
   commanded k event true test None next is = absurd (cc is)
-  commanded k event true test (Some line) next is = subst Fits (one (command_of line) event is) (comes.small, comes.fits)
+  commanded k event true test (Some line) next is = subst Fits (same_Some (command_of line) event is) (comes.small, comes.fits)
     where
       tests : (nat_lt k 64 ≡ true) × (((world.clients k).at == n) ≡ true)
       tests = and_both (nat_lt k 64) ((world.clients k).at == n) test
@@ -106,14 +92,14 @@ module _ (o : Opening) (opens : IsOpening o) (book : Rattle.qs_book_machine.spec
       by (Some parcel) is = at (nat_lt parcel.stamp stamp) is
         where
           at : (b : Bool) → (if b then Some (events.Received (moves.node_no m) parcel.message) else None) ≡ Some event → Fits event
-          at true is = subst Fits (one (events.Received (moves.node_no m) parcel.message) event is) tt
+          at true is = subst Fits (same_Some (events.Received (moves.node_no m) parcel.message) event is) tt
           at false is = absurd (cc is)
-  event_fits_run Queues event is = subst Fits (one events.ServeAll event is) tt
-  event_fits_run Clock event is = subst Fits (one events.Tick event is) tt
+  event_fits_run Queues event is = subst Fits (same_Some events.ServeAll event is) tt
+  event_fits_run Clock event is = subst Fits (same_Some events.Tick event is) tt
   event_fits_run (Noticed m new) event is = by (nat_lt 0 (known_of world n m) && (nat_lt (known_of world n m) new && moves.has_begun world stamp m new)) is
     where
       by : (b : Bool) → (if b then Some (events.PeerRestarted (moves.node_no m) (known_of world n m) new) else None) ≡ Some event → Fits event
-      by true is = subst Fits (one (events.PeerRestarted (moves.node_no m) (known_of world n m) new) event is) tt
+      by true is = subst Fits (same_Some (events.PeerRestarted (moves.node_no m) (known_of world n m) new) event is) tt
       by false is = absurd (cc is)
 
   pub steps_facts : (source : Source) (event : Event) → event_of world n stamp source ≡ Some event → HasNodeFacts (world.hosts n).node → HasNodeFacts (after_step (world.hosts n).node event free)

@@ -1,35 +1,17 @@
 -- A step of a world in which all stands together is given all that it needs.
-use Rattle.std.proofs.Common.{◌≡◌, ℕ, ◌<◌, true, Some, refl, sym, subst, arith}
-use Rattle.std.proofs.lemmas.Bool.Decides.{nat_tests}
+use Rattle.qs_world_runs.proofs.Words.{◌≡◌, ℕ, ◌<◌, true, Some, refl, sym, subst, arith, nat_tests, serve_next, work_on, Event, opened_from, Clock, Commanded, Handed, Noticed, Queues, Source, event_of, is_later, Opening, World, from_client, from_node, from_notice, StepMay, step_may, HappensSo, ComesTo, AtEach, first_work, HoldsNodeAt, opens_soundly, begin_incarnation_keeps, in_runs, held_at, first_held, MakesStep, nodes_in, HoldsRunning, Joined, book_in}
 use Rattle.qs_ipc.specs.Ipc as ipc
-use Rattle.qs_node_step.specs.Serving.{serve_next}
-use Rattle.qs_node_step.specs.State.{NodeValue, work_on}
-use Rattle.qs_node_step.specs.declared.event.Event.{Event}
+use Rattle.qs_node_step.specs.State.{NodeValue}
 use Rattle.qs_node_step.specs.declared.event.Event.TheVariants as events
-use Rattle.qs_world.specs.Histories.{opened_from}
-use Rattle.qs_world.specs.Moves.{Clock, Commanded, Handed, Noticed, Queues, Source, event_of, is_in_order, is_later, may_serve}
-use Rattle.qs_world.specs.World.{Opening, World}
-use Rattle.qs_world_refine.proofs.EachMay.{from_client, from_node, from_notice}
-use Rattle.qs_world_refine.proofs.MoveGoes.{StepMay, step_may}
+use Rattle.qs_world.specs.Moves.{is_in_order, may_serve}
 use Rattle.qs_world_refine.proofs.SoundParts.{and_both}
 use Rattle.qs_world_lawful.specs.Agreed.{StepAgrees}
-use Rattle.qs_world_lawful.specs.BesideStep.{HappensSo}
-use Rattle.qs_world_lawful.specs.Coming.{ComesTo}
-use Rattle.qs_world_lawful.specs.Given.{AtEach}
-use Rattle.qs_world_lawful.specs.GivenStep.{MayStep, first_work}
+use Rattle.qs_world_lawful.specs.GivenStep.{MayStep}
 use Rattle.qs_world_lawful.specs.Holds.{Holds}
 use Rattle.qs_world_lawful.specs.Standing.{CanCount}
 use Rattle.qs_world_lawful.specs.StepOn.{StepOn}
-use Rattle.qs_world_lawful.specs.Worlds.{HoldsNodeAt}
 use Rattle.qs_world_lawful.proofs.BesideWhole.{may_step_on}
-use Rattle.qs_world_lawful.proofs.CoherentOpenings.{opens_soundly}
-use Rattle.qs_world_lawful.proofs.FactsTold.{begin_incarnation_keeps}
 use Rattle.qs_world_lawful.proofs.GivenEvents.{event_comes}
-use Rattle.qs_world_lawful.proofs.LastsAlways.{in_runs}
-use Rattle.qs_world_lawful.proofs.Still.{held_at}
-use Rattle.qs_world_lawful.proofs.WholeStep.{first_held}
-use Rattle.qs_world_runs.specs.Agrees.{MakesStep, nodes_in}
-use Rattle.qs_world_runs.specs.Joined.{HoldsRunning, Joined, book_in}
 use Rattle.qs_world_runs.specs.StepLaws.{CountsHaveRoom}
 use Rattle.qs_world_runs.proofs.AgreesEach.{steady}
 use Rattle.qs_world_runs.proofs.AgreesPasses.{stages_sound}

@@ -1,46 +1,23 @@
 -- What a node owes that restarted, the machine finds gone: the node did run in the incarnation that is known of it, restarted into a later one, and what it owes stands open.
-use Rattle.std.proofs.Common.{◌≡◌, ℕ, ◌<◌, ◌==◌, ◌&&◌, ◌||◌, Bool, true, false, List, [], ◌∷◌, append-nil, Option, Some, None, is_some, refl, sym, ap, subst, ◌∙◌, arith}
-use Rattle.std.proofs.lemmas.Bool.Decides.{nat_tests}
-use Rattle.std.specs.List.{list_any}
-use Rattle.qs_base.specs.declared.identifiers.NodeNo.{NodeNo}
-use Rattle.qs_base.specs.declared.identifiers.Tid.{Tid}
+use Rattle.qs_world_runs.proofs.Words.{◌≡◌, ℕ, ◌<◌, ◌==◌, ◌&&◌, ◌||◌, Bool, true, false, List, [], ◌∷◌, append-nil, Option, Some, None, is_some, refl, sym, ap, subst, ◌∙◌, arith, nat_tests, list_any, NodeNo, Tid, Act, Entry, BookValue, find_transaction, inc_at, TransactionValue, Opened, notice_tid, Work, with_queues, work_on, book_of, opened_from, Clock, Commanded, Handed, Noticed, Queues, Source, event_of, Opening, World, FromNotice, from_client, from_node, from_notice, StepMay, step_may}
+use Rattle.qs_world_runs.proofs.Words.{InRun, IsTrueCause, HappensSo, HoldsWork, entries_so_far, AtEach, first_work, HoldsNodeAt, opens_soundly, first_held, MakesStep, HoldsRunning, Joined, book_in}
 use Rattle.qs_ipc.specs.Ipc as ipc
-use Rattle.qs_book_journal.specs.declared.entry.Act.{Act}
 use Rattle.qs_book_journal.specs.declared.entry.Act.TheVariants as acts
-use Rattle.qs_book_journal.specs.declared.entry.Entry.{Entry}
 use Rattle.qs_book_laws.proofs.GoneByEntries.{is_gone_whenever}
 use Rattle.qs_book_laws.specs.Gone.{is_restart_beyond, is_restart_into, ran_as, restarts_beyond, restarts_into, stands_open}
-use Rattle.qs_book_machine.specs.Book.{BookValue, find_transaction, inc_at}
 use Rattle.qs_book_machine.specs.Clauses.{is_gone_cause}
 use Rattle.qs_book_machine.specs.Nodes as machine
-use Rattle.qs_book_machine.specs.Transaction.{TransactionValue}
-use Rattle.qs_book_machine.specs.declared.opened.Opened.{Opened}
 use Rattle.qs_ops.specs.declared.answer.Cause.TheVariants as causes
 use Rattle.qs_packet.specs.declared.message.Message.TheVariants as messages
-use Rattle.qs_node_step.specs.Restarts.{notice_tid}
-use Rattle.qs_node_step.specs.State.{NodeValue, Work, with_queues, work_on}
+use Rattle.qs_node_step.specs.State.{NodeValue}
 use Rattle.qs_node_step.specs.declared.event.Event.TheVariants as events
 use Rattle.qs_tm.specs.Manager as tm
-use Rattle.qs_world.specs.Histories.{book_of, opened_from}
-use Rattle.qs_world.specs.Moves.{Clock, Commanded, Handed, Noticed, Queues, Source, event_of, node_no}
-use Rattle.qs_world.specs.World.{Opening, World}
-use Rattle.qs_world_refine.proofs.EachMay.{FromNotice, from_client, from_node, from_notice}
-use Rattle.qs_world_refine.proofs.MoveGoes.{StepMay, step_may}
-use Rattle.qs_world_lawful.specs.Amid.{InRun}
-use Rattle.qs_world_lawful.specs.Beside.{IsTrueCause}
-use Rattle.qs_world_lawful.specs.BesideStep.{HappensSo, IsGone}
-use Rattle.qs_world_lawful.specs.Entering.{HoldsWork, entries_so_far}
-use Rattle.qs_world_lawful.specs.Given.{AtEach}
-use Rattle.qs_world_lawful.specs.GivenStep.{first_work}
+use Rattle.qs_world.specs.Moves.{node_no}
+use Rattle.qs_world_lawful.specs.BesideStep.{IsGone}
 use Rattle.qs_world_lawful.specs.Holds.{Holds}
-use Rattle.qs_world_lawful.specs.Worlds.{HoldsNodeAt}
 use Rattle.qs_world_lawful.proofs.BesideGoes.{said_on}
-use Rattle.qs_world_lawful.proofs.CoherentOpenings.{opens_soundly}
 use Rattle.qs_world_lawful.proofs.PeerRestarts.{by_marks, by_tid}
-use Rattle.qs_world_lawful.proofs.WholeStep.{first_held}
-use Rattle.qs_world_runs.specs.Agrees.{MakesStep}
 use Rattle.qs_world_runs.specs.Born.{HasRun}
-use Rattle.qs_world_runs.specs.Joined.{HoldsRunning, Joined, book_in}
 use Rattle.qs_world_runs.proofs.AgreesEach.{steady}
 use Rattle.qs_world_runs.proofs.LaterOwned.{opened_inc}
 use Rattle.qs_world_runs.proofs.OwingEntries.{owed_open}

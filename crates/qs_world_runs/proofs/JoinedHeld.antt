@@ -1,60 +1,29 @@
 -- After a whole step the machine has the whole world: its own node by the step, the others as the step leaves them.
-use Rattle.std.proofs.Common.{◌≡◌, ℕ, ◌<◌, ◌==◌, Bool, true, false, List, [], ◌∷◌, ◌++◌, Option, Some, None, refl, sym, ap, subst, ◌∙◌, arith, nat_lt, if◌then◌else◌}
-use Rattle.std.proofs.lemmas.Bool.{eqb-true}
-use Rattle.std.proofs.lemmas.Bool.Decides.{nat_tests}
-use Rattle.std.specs.Prelude.{slice_get}
+use Rattle.qs_world_runs.proofs.Words.{◌≡◌, ℕ, ◌<◌, ◌==◌, Bool, true, false, List, [], ◌∷◌, ◌++◌, Option, Some, None, refl, sym, ap, subst, ◌∙◌, arith, nat_lt, if◌then◌else◌, eqb-true, nat_tests, slice_get, Act, Entry, ran_run, after_both, BookValue, book_after, Message, Recovery, recovery, after_step, effects_of, Event, Sending, Setting, book_of, opened_from, Clock, Commanded, Handed, Noticed, Queues, Source, event_of, hand_next, log_after, step_with, stepped_host, taken_by, waiting_after}
+use Rattle.qs_world_runs.proofs.Words.{entries_of, next_parcel, Host, Opening, Parcel, World, inc_of, from_client, from_node, from_notice, inc_taken, up_taken, inc_all, up_all, steady_gives, InRun, AnswersElsewhere, IsAside, IsOfStep, HoldsBeside, IsTrueEvent, Every, HoldsChannels, IsParcel, HoldsSaid, HoldsNodeAt, HoldsNodeOf, HoldsWorld, opens_soundly, every_on, opened_numbered, channels_moved, step_same, still_held, of_some, MakesStep, HoldsRunning, Joined, book_in, AfterStep, WholeSteps}
+use Rattle.qs_world_runs.proofs.Words.{StaysUnanimousThen, book_then, entries_in, same_Some}
 use Rattle.qs_session_channels.specs.Channels as channel
-use Rattle.qs_book_journal.specs.declared.entry.Act.{Act}
-use Rattle.qs_book_journal.specs.declared.entry.Entry.{Entry}
-use Rattle.qs_book_laws.proofs.InRun.{ran_run}
-use Rattle.qs_book_laws.proofs.Steps.{after_both}
-use Rattle.qs_book_machine.specs.Book.{BookValue}
-use Rattle.qs_book_machine.specs.Lawful.{IsLawful, book_after}
+use Rattle.qs_book_machine.specs.Lawful.{IsLawful}
 use Rattle.qs_book_machine.specs.Nodes as machine
-use Rattle.qs_packet.specs.declared.message.Message.{Message}
 use Rattle.qs_packet.specs.declared.message.Message.TheVariants as messages
-use Rattle.qs_restart.specs.Recovery.{Recovery, recovery}
 use Rattle.qs_node_step.specs.State.{NodeValue}
-use Rattle.qs_node_step.specs.Step.{after_step, effects_of}
-use Rattle.qs_node_step.specs.declared.event.Event.{Event}
-use Rattle.qs_node_step.specs.declared.event.Sending.{Sending}
 use Rattle.qs_node_step.specs.declared.event.Event.TheVariants as events
-use Rattle.qs_node_step.specs.declared.setting.Setting.{Setting}
-use Rattle.qs_world.specs.Histories.{book_of, opened_from}
-use Rattle.qs_world.specs.Moves.{Clock, Commanded, Handed, Noticed, Queues, Source, event_of, hand_next, is_in_order, log_after, stamp_limit, step_with, stepped_host, taken_by, waiting_after}
-use Rattle.qs_world.specs.Posting.{entries_of, next_parcel}
-use Rattle.qs_world.specs.World.{Host, Opening, Parcel, World, inc_of}
-use Rattle.qs_world_refine.proofs.EachMay.{from_client, from_node, from_notice}
-use Rattle.qs_world_refine.proofs.Moving.{inc_taken, up_taken}
-use Rattle.qs_world_refine.proofs.Posted.{inc_all, up_all}
-use Rattle.qs_world_refine.proofs.SteadyFrom.{steady_gives}
-use Rattle.qs_world_lawful.specs.Amid.{InRun, IsSent}
-use Rattle.qs_world_lawful.specs.Aside.{AnswersElsewhere, IsAside, IsOfStep, StaysUnanimous}
-use Rattle.qs_world_lawful.specs.Beside.{HoldsBeside}
+use Rattle.qs_world.specs.Moves.{is_in_order, stamp_limit}
+use Rattle.qs_world_lawful.specs.Amid.{IsSent}
+use Rattle.qs_world_lawful.specs.Aside.{StaysUnanimous}
 use Rattle.qs_world_lawful.specs.Holds.{Holds, is_next}
-use Rattle.qs_world_lawful.specs.Logged.{HoldsHost, IsTrueEvent}
-use Rattle.qs_world_lawful.specs.Logs.{Every}
-use Rattle.qs_world_lawful.specs.Parcels.{HoldsChannels, IsBetween, IsParcel, IsSaid}
-use Rattle.qs_world_lawful.specs.Said.{HoldsSaid}
+use Rattle.qs_world_lawful.specs.Logged.{HoldsHost}
+use Rattle.qs_world_lawful.specs.Parcels.{IsBetween, IsSaid}
 use Rattle.qs_world_lawful.specs.SayingSteps.{SaysBetween}
-use Rattle.qs_world_lawful.specs.Worlds.{HoldsNodeAt, HoldsNodeOf, HoldsWorld}
 use Rattle.qs_world_lawful.proofs.AsideBesides.{keeps_others_beside}
 use Rattle.qs_world_lawful.proofs.AsideIssued.{issued_held}
 use Rattle.qs_world_lawful.proofs.AsideWhole.{keeps_others}
 use Rattle.qs_world_lawful.proofs.BesideSent.{channels_on, sent_parcel}
-use Rattle.qs_world_lawful.proofs.CoherentOpenings.{opens_soundly}
 use Rattle.qs_world_lawful.proofs.GivenByWorld.{message_between, message_comes}
-use Rattle.qs_world_lawful.proofs.LogFrames.{every_on}
 use Rattle.qs_world_lawful.proofs.LogLaws.{step_keeps}
-use Rattle.qs_world_lawful.proofs.NumberedLogs.{opened_numbered}
-use Rattle.qs_world_lawful.proofs.ParcelsKept.{channels_moved, channels_posted}
-use Rattle.qs_world_lawful.proofs.SameSettings.{step_same}
-use Rattle.qs_world_lawful.proofs.Still.{still_held}
+use Rattle.qs_world_lawful.proofs.ParcelsKept.{channels_posted}
 use Rattle.qs_world_lawful.proofs.StopsWhole.{back_by, next_by}
-use Rattle.qs_world_lawful.proofs.Truths.{of_some}
-use Rattle.qs_world_runs.specs.Agrees.{MakesStep}
-use Rattle.qs_world_runs.specs.Joined.{HoldsRunning, Joined, book_in}
-use Rattle.qs_world_runs.specs.JoinedLaws.{AfterStep, HasOwner, WholeSteps, StaysUnanimousThen, book_then, entries_in}
+use Rattle.qs_world_runs.specs.JoinedLaws.{HasOwner}
 use Rattle.qs_world_runs.proofs.ClientsGo.{answers_aside, begins_owned, of_steps}
 use Rattle.qs_world_runs.proofs.JoinedKept.{step_clients}
 use Rattle.qs_world_runs.proofs.JoinedSaid.{step_said}
@@ -80,10 +49,7 @@ all_entries Q n stamp (act ∷ acts) all = (all.0, all_entries Q n stamp acts al
 
 -- the machine has a node up that runs
 pub runs_at : (book : BookValue) (world : World) (k : ℕ) → HoldsNodeAt book world k → world.channels.up k ≡ true → (state : machine.NodeValue) → slice_get book.nodes k ≡ Some state → state.up ≡ true
-runs_at book world k its on state there = ap (λ (s : machine.NodeValue). s.up) (one state its.state (sym there ∙ its.there)) ∙ (its.up_is ∙ on)
-  where
-    one : (a b : machine.NodeValue) → Some a ≡ Some b → a ≡ b
-    one a b same = cc same
+runs_at book world k its on state there = ap (λ (s : machine.NodeValue). s.up) (same_Some state its.state (sym there ∙ its.there)) ∙ (its.up_is ∙ on)
 
 module _ (P : Opening → World → Type 0) (steps : WholeSteps P) (unanimous : AfterStep P StaysUnanimousThen) (o : Opening) (world : World) (j : Joined P o world) (n stamp free : ℕ) (source : Source) (event : Event) (makes : MakesStep world n stamp source event) where
   abbrev node : NodeValue
@@ -133,9 +99,6 @@ module _ (P : Opening → World → Type 0) (steps : WholeSteps P) (unanimous : 
   pub true_event : IsTrueEvent old event
   true_event = by source makes.comes
     where
-      one : (a b : Event) → Some a ≡ Some b → a ≡ b
-      one a b same = cc same
-
       true_message : (m : ℕ) (message : Message) → IsSaid old message → IsTrueEvent old (events.Received (record { 0 = m }) message)
       true_message m (messages.Tell tid outcome) says = says
       true_message m messages.Hello says = tt
@@ -152,8 +115,8 @@ module _ (P : Opening → World → Type 0) (steps : WholeSteps P) (unanimous : 
       by (Commanded k) comes = let from = from_client world n k event (steady_gives world j.shown.steady j.shown.listed) comes in subst (IsTrueEvent old) (sym from.is) tt
       by (Handed m) comes = let from = from_node world n stamp m event comes in let between : IsBetween world.size m n = message_between old world n m j.channels from.parcel from.found in
           subst (IsTrueEvent old) (sym from.is) (true_message m from.parcel.message (message_comes old world n m j.channels (j.ways m n between.from between.to between.other) at.node at.run from.parcel from.found).says)
-      by Queues comes = subst (IsTrueEvent old) (one events.ServeAll event comes) tt
-      by Clock comes = subst (IsTrueEvent old) (one events.Tick event comes) tt
+      by Queues comes = subst (IsTrueEvent old) (same_Some events.ServeAll event comes) tt
+      by Clock comes = subst (IsTrueEvent old) (same_Some events.Tick event comes) tt
       by (Noticed m new) comes = let from = from_notice world n stamp m new event comes in subst (IsTrueEvent old) (sym from.is) tt
 
   -- ---- its own node

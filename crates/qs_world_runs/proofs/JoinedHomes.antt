@@ -1,18 +1,11 @@
 -- What the machine has committed its home has, through each move: what a node enters decides nothing that began elsewhere.
-use Rattle.std.proofs.Common.{◌≡◌, ℕ, ◌==◌, ◌||◌, Bool, true, false, List, [], Some, refl, sym, ap, subst, ◌∙◌}
-use Rattle.std.proofs.lemmas.Bool.{eqb-true}
-use Rattle.qs_base.specs.declared.identifiers.Tid.{Tid}
-use Rattle.qs_book_journal.specs.declared.entry.Act.{Act}
-use Rattle.qs_book_machine.specs.Book.{BookValue, find_transaction}
-use Rattle.qs_book_machine.specs.Lawful.{IsLawful, book_after}
-use Rattle.qs_book_machine.specs.Transaction.{TransactionValue, is_commit}
-use Rattle.qs_node_step.specs.State.{NodeValue, Work, no_effects}
+use Rattle.qs_world_runs.proofs.Words.{◌≡◌, ℕ, ◌==◌, ◌||◌, Bool, true, false, List, [], Some, refl, sym, ap, subst, ◌∙◌, eqb-true, Tid, Act, BookValue, find_transaction, book_after, TransactionValue, is_commit, Work, entries_of, HoldsBeside, is_committed_at, HomesHave}
+use Rattle.qs_book_machine.specs.Lawful.{IsLawful}
+use Rattle.qs_node_step.specs.State.{NodeValue, no_effects}
 use Rattle.qs_tm.specs.Manager as tm
-use Rattle.qs_world.specs.Posting.{entries_of}
-use Rattle.qs_world_lawful.specs.Beside.{HoldsBeside, is_committed_at, is_done}
+use Rattle.qs_world_lawful.specs.Beside.{is_done}
 use Rattle.qs_world_lawful.specs.Standing.{HoldsHomes}
 use Rattle.qs_world_lawful.proofs.HomesStand.{homes_stand}
-use Rattle.qs_world_runs.specs.Joined.{HomesHave}
 
 -- a step of the node that does no more than enter these
 work_of : NodeValue → List Act → Work

@@ -1,22 +1,7 @@
 -- After a whole step of a world in which all stands together, what its node keeps for its clients is as the machine has it.
-use Rattle.std.proofs.Common.{◌≡◌, ℕ, ◌<◌, ◌==◌, Bool, true, Some, refl, ap, subst, ◌∙◌, arith, if◌then◌else◌}
-use Rattle.std.proofs.lemmas.Bool.Decides.{nat_tests}
+use Rattle.qs_world_runs.proofs.Words.{◌≡◌, ℕ, ◌<◌, ◌==◌, Bool, true, Some, refl, ap, subst, ◌∙◌, arith, if◌then◌else◌, nat_tests, after_step, effects_of, Event, Setting, Source, Step, step_with, stepped_host, Host, Opening, World, inc_of, IsShownWorld, stage_of, IsTidyNode, each_begun_shown, move_shown, step_same, MakesStep, Joined, WholeSteps, book_then}
 use Rattle.qs_node_step.specs.State.{NodeValue}
-use Rattle.qs_node_step.specs.Step.{after_step, effects_of}
-use Rattle.qs_node_step.specs.declared.event.Event.{Event}
-use Rattle.qs_node_step.specs.declared.setting.Setting.{Setting}
-use Rattle.qs_world.specs.Moves.{Source, Step, step_with, stepped_host}
-use Rattle.qs_world.specs.World.{Host, Opening, World, inc_of}
-use Rattle.qs_world_refine.specs.ShownWorlds.{IsShownWorld}
-use Rattle.qs_world_refine.specs.Steadies.{stage_of}
-use Rattle.qs_world_refine.specs.Tidy.{IsTidyNode}
-use Rattle.qs_world_refine.proofs.ShownBegins.{each_begun_shown}
-use Rattle.qs_world_refine.proofs.ShownMoves.{move_shown}
 use Rattle.qs_world_lawful.specs.Worlds.{HoldsKept}
-use Rattle.qs_world_lawful.proofs.SameSettings.{step_same}
-use Rattle.qs_world_runs.specs.Agrees.{MakesStep}
-use Rattle.qs_world_runs.specs.Joined.{Joined}
-use Rattle.qs_world_runs.specs.JoinedLaws.{WholeSteps, book_then}
 use Rattle.qs_world_runs.proofs.JoinedSteps.{step_holds, step_kept, step_lawful, step_low}
 use Rattle.qs_world_runs.proofs.KeptAfter.{kept_so}
 use Rattle.qs_world_runs.proofs.LabelsMoves.{steps_labels}

@@ -1,19 +1,8 @@
 -- The Commits that a node's log had as it opened are the machine's, since its log has them for good.
-use Rattle.std.proofs.Common.{◌≡◌, inl, inr, ℕ, ◌||◌, Bool, true, false, List, [], ◌∷◌, Some, refl, sym, subst}
-use Rattle.std.specs.List.{list_any}
-use Rattle.std.specs.Prelude.{slice_get}
-use Rattle.qs_base.proofs.Same.{same_tid-true}
-use Rattle.qs_base.specs.Order.{same_tid}
-use Rattle.qs_base.specs.declared.identifiers.Tid.{Tid}
-use Rattle.qs_book_machine.specs.Book.{BookValue}
+use Rattle.qs_world_runs.proofs.Words.{◌≡◌, inl, inr, ℕ, ◌||◌, Bool, true, false, List, [], ◌∷◌, Some, refl, sym, subst, list_any, slice_get, same_tid-true, same_tid, Tid, BookValue, recovery, Host, Lasts, HasCommitted, Every, HoldsUp}
 use Rattle.qs_book_machine.specs.Nodes as machine
-use Rattle.qs_restart.specs.Recovery.{recovery}
-use Rattle.qs_world.specs.World.{Host}
 use Rattle.qs_world_lawful.specs.BesideStep.{AreCommitted}
-use Rattle.qs_world_lawful.specs.Lasting.{Lasts}
-use Rattle.qs_world_lawful.specs.Logged.{HasCommitted, IsCommitMade}
-use Rattle.qs_world_lawful.specs.Logs.{Every}
-use Rattle.qs_world_lawful.specs.Worlds.{HoldsUp}
+use Rattle.qs_world_lawful.specs.Logged.{IsCommitMade}
 use Rattle.qs_world_runs.specs.Joined.{IsLogged}
 
 -- each Commit of the log is the machine's

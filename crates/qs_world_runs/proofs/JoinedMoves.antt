@@ -1,47 +1,22 @@
 -- All that stands together of a world stands after each move.
-use Rattle.std.proofs.Common.{◌≡◌, ℕ, ◌<◌, ◌≤◌, ◌==◌, ◌&&◌, not, Bool, true, false, [], ◌∷◌, Option, Some, None, refl, sym, ap, subst, ◌∙◌, arith, nat_lt, nat_le, if◌then◌else◌}
-use Rattle.std.proofs.lemmas.Bool.{eqb-true}
-use Rattle.std.proofs.lemmas.Bool.Decides.{nat_tests}
-use Rattle.std.specs.BTreeMap.{is_at}
-use Rattle.std.specs.Map.{lookup}
+use Rattle.qs_world_runs.proofs.Words.{◌≡◌, ℕ, ◌<◌, ◌≤◌, ◌==◌, ◌&&◌, not, Bool, true, false, [], ◌∷◌, Option, Some, None, refl, sym, ap, subst, ◌∙◌, arith, nat_lt, nat_le, if◌then◌else◌, eqb-true, nat_tests, is_at, lookup, BookValue, find_transaction, is_crash, book_after, is_among, recovery, recovered_of, client_cmp, effects_of, Event, book_of, opened_from, Cut, Meet, Move, Rise, Step, Stop, cut_log, cut_with, event_of, is_later, may_move, may_step, moved, risen_host, step_with, Opening}
+use Rattle.qs_world_runs.proofs.Words.{World, known_of, HoldsBeside, is_committed_at, Lasts, found_votes, HasNodeFacts, HoldsWays, HoldsScripts, rise_entry, HoldsWorld, opens_soundly, in_runs, channels_moved, rises_well, nodes_in, ClocksAt, HomesAt, HomesHave, HoldsRunning, Joined, LoggedAt, OwnersAt, RunningAt, book_in, ClientsAt, IsOwnClient, Owes, OwesAt, AfterStep, IsBetweenSteps, StaysUnanimousThen, WholeSteps, le_le, zero_least}
 use Rattle.qs_session_channels.specs.Channels as channel
 use Rattle.qs_book_journal.specs.declared.entry.Act.TheVariants as acts
-use Rattle.qs_book_machine.specs.Book.{BookValue, find_transaction}
-use Rattle.qs_book_machine.specs.Clauses.{is_crash}
-use Rattle.qs_book_machine.specs.Lawful.{IsLawful, book_after}
-use Rattle.qs_book_machine.specs.Restart.{is_among}
-use Rattle.qs_restart.specs.Recovery.{recovery}
-use Rattle.qs_node_step.specs.Opening.{recovered_of}
-use Rattle.qs_node_step.specs.State.{NodeValue, client_cmp}
-use Rattle.qs_node_step.specs.Step.{effects_of}
-use Rattle.qs_node_step.specs.declared.event.Event.{Event}
-use Rattle.qs_world.specs.Histories.{book_of, opened_from}
-use Rattle.qs_world.specs.Moves.{Cut, Meet, Move, Rise, Step, Stop, cut_log, cut_with, event_of, is_in_order, is_later, may_move, may_step, moved, reopened, risen_host, step_with}
-use Rattle.qs_world.specs.World.{Opening, World, known_of}
+use Rattle.qs_book_machine.specs.Lawful.{IsLawful}
+use Rattle.qs_node_step.specs.State.{NodeValue}
+use Rattle.qs_world.specs.Moves.{is_in_order, reopened}
 use Rattle.qs_world_refine.proofs.SoundParts.{and_both}
-use Rattle.qs_world_lawful.specs.Beside.{HoldsBeside, is_committed_at}
 use Rattle.qs_world_lawful.specs.Face.{waiting_at}
-use Rattle.qs_world_lawful.specs.Lasting.{Lasts}
-use Rattle.qs_world_lawful.specs.Logs.{found_votes}
-use Rattle.qs_world_lawful.specs.NodeFacts.{HasNodeFacts}
-use Rattle.qs_world_lawful.specs.Parcels.{HoldsWays}
-use Rattle.qs_world_lawful.specs.Scripts.{HoldsScripts}
-use Rattle.qs_world_lawful.specs.WorldLaws.{RisesWell, rise_entry}
-use Rattle.qs_world_lawful.specs.Worlds.{HoldsWorld}
-use Rattle.qs_world_lawful.proofs.CoherentOpenings.{opens_soundly}
-use Rattle.qs_world_lawful.proofs.LastsAlways.{in_runs}
+use Rattle.qs_world_lawful.specs.WorldLaws.{RisesWell}
 use Rattle.qs_world_lawful.proofs.Meeting.{meets}
 use Rattle.qs_world_lawful.proofs.MetWays.{meet_ways}
-use Rattle.qs_world_lawful.proofs.ParcelsKept.{channels_moved}
 use Rattle.qs_world_lawful.proofs.RisenScripts.{rise_scripts}
-use Rattle.qs_world_lawful.proofs.RisesWhole.{rises_well}
 use Rattle.qs_world_lawful.proofs.ScriptsLike.{meet_scripts}
 use Rattle.qs_world_lawful.proofs.StopsWhole.{by_cut, by_stop}
 use Rattle.qs_world_lawful.proofs.WaysOn.{rise_ways}
-use Rattle.qs_world_runs.specs.Agrees.{nodes_in}
-use Rattle.qs_world_runs.specs.Joined.{ClocksAt, FactsAt, HeldAt, HomesAt, HomesHave, HoldsRunning, Joined, LoggedAt, OwnersAt, RunningAt, book_in, ClientsAt, IsOwnClient, QueuedAt}
-use Rattle.qs_world_runs.specs.Owing.{Owes, OwesAt}
-use Rattle.qs_world_runs.specs.JoinedLaws.{AfterStep, IsBetweenSteps, Keeps, StaysUnanimousThen, WholeSteps}
+use Rattle.qs_world_runs.specs.Joined.{FactsAt, HeldAt, QueuedAt}
+use Rattle.qs_world_runs.specs.JoinedLaws.{Keeps}
 use Rattle.qs_world_runs.specs.CutBatches.{EachVoteOfStart}
 use Rattle.qs_world_runs.specs.JoinedRuns.{EachMoveJoined}
 use Rattle.qs_world_runs.specs.PlacesLaws.{GoesOn}
@@ -51,7 +26,7 @@ use Rattle.qs_world_runs.proofs.JoinedParts.{book_on, channels_later, lawful_on,
 use Rattle.qs_world_runs.proofs.JoinedWays.{lasts_now}
 use Rattle.qs_world_runs.proofs.KeptBack.{meet_unmet, none_before, rise_unmet}
 use Rattle.qs_world_runs.proofs.RisesBeside.{rise_keeps_beside}
-use Rattle.qs_world_runs.proofs.JoinedClocks.{by_order, in_order_stamp, opens_on_time}
+use Rattle.qs_world_runs.proofs.JoinedClocks.{in_order_stamp, opens_on_time}
 use Rattle.qs_world_runs.proofs.RisesRunning.{rises_running}
 use Rattle.qs_world_runs.proofs.OwingElsewhere.{by_one, owes_on}
 use Rattle.qs_world_runs.proofs.OwingFresh.{opens_owing}
@@ -162,11 +137,8 @@ module _ (P : Opening → World → Type 0) (between : Keeps P IsBetweenSteps P)
     rise_clocks : ClocksAt risen_world
     rise_clocks k low = by (k == n) refl
       where
-        least : (t s : ℕ) → t ≡ 0 → t ≤ s
-        least t s is = grind (arith, is)
-
         by : (b : Bool) → (k == n) ≡ b → (if b then risen_host stamp inc (recovered_of (world.hosts n).log) (world.hosts n) else world.hosts k).node.manager.ticks ≤ (if b then risen_host stamp inc (recovered_of (world.hosts n).log) (world.hosts n) else world.hosts k).stamp
-        by true near = least _ stamp (opens_on_time (world.hosts n).node.manager.alloc (record (world.hosts n).node.setting { inc = inc }) (recovered_of (world.hosts n).log))
+        by true near = zero_least _ stamp (opens_on_time (world.hosts n).node.manager.alloc (record (world.hosts n).node.setting { inc = inc }) (recovered_of (world.hosts n).log))
         by false far = j.clocks k low
 
     rise_owing : OwesAt risen_world
@@ -230,7 +202,7 @@ module _ (P : Opening → World → Type 0) (between : Keeps P IsBetweenSteps P)
     met_clocks k low = by (k == n) refl
       where
         by : (b : Bool) → (k == n) ≡ b → (if b then record (world.hosts n) { stamp = stamp } else world.hosts k).node.manager.ticks ≤ (if b then record (world.hosts n) { stamp = stamp } else world.hosts k).stamp
-        by true near = by_order (world.hosts n).node.manager.ticks (world.hosts n).stamp stamp (j.clocks n (subst (λ (i : ℕ). i < world.size) (eqb-true k n near) low))
+        by true near = le_le (world.hosts n).node.manager.ticks (world.hosts n).stamp stamp (j.clocks n (subst (λ (i : ℕ). i < world.size) (eqb-true k n near) low))
             (in_order_stamp world n stamp (and_both (is_in_order world n stamp) _ (and_both (is_later world n stamp) _ (and_both (world.channels.up n) _ may).1).0).0)
         by false far = j.clocks k low
 

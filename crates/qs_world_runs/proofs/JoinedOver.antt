@@ -1,16 +1,7 @@
 -- All stands together as a run begins, and over the run; so the run's history is lawful.
-use Rattle.std.proofs.Common.{◌≡◌, ℕ, ◌<◌, ◌≤◌, ◌==◌, true, List, [], ◌∷◌, refl, sym, subst, arith}
-use Rattle.std.proofs.lemmas.Bool.Decides.{nat_tests}
-use Rattle.qs_node_kept.specs.Keeping.{no_kept}
-use Rattle.qs_node_step.specs.Opening.{recovered_of}
-use Rattle.qs_world.specs.Histories.{book_of}
-use Rattle.qs_world.specs.Moves.{Move, moved}
-use Rattle.qs_world.specs.Runs.{Run}
-use Rattle.qs_world.specs.World.{Opening, World, start}
+use Rattle.qs_world_runs.proofs.Words.{◌≡◌, ℕ, ◌<◌, ◌≤◌, List, [], ◌∷◌, refl, sym, subst, arith, nat_tests, no_kept, recovered_of, book_of, Move, moved, Run, Opening, World, start, world_held, Joined, eqb-self, zero_le}
 use Rattle.qs_world_refine.proofs.EveryRunShown.{every_run_shown}
 use Rattle.qs_world_lawful.proofs.OpenedScripts.{opens_scripts, opens_ways}
-use Rattle.qs_world_lawful.proofs.OpenedWorld.{world_held}
-use Rattle.qs_world_runs.specs.Joined.{Joined}
 use Rattle.qs_world_runs.specs.JoinedRuns.{EachOpensJoined, EachRunJoined, EachRunLawful}
 use Rattle.qs_world_runs.specs.PlacesLaws.{GoesOn}
 use Rattle.qs_world_runs.proofs.BornMoves.{born_start}
@@ -33,14 +24,14 @@ each_opens_joined P goes o opens = record {
   running = opens_running o opens;
   facts = λ n low. opens_facts o opens n low;
   homes = λ tid tx found committed in_run. let low : tid.home.0 < o.size = grind (arith, nat_tests, in_run) in
-      own_has (book_of o) ((start o).hosts tid.home.0).node tid.home.0 ((world_held o opens).nodes tid.home.0 low).node (opens_running o opens tid.home.0 low refl).beside tid tx found committed (itself tid.home.0);
+      own_has (book_of o) ((start o).hosts tid.home.0).node tid.home.0 ((world_held o opens).nodes tid.home.0 low).node (opens_running o opens tid.home.0 low refl).beside tid tx found committed (eqb-self tid.home.0);
   owners = opens_owned o opens;
   logged = λ n low tid among. among;
   clocks = λ n low. none ((start o).hosts n).node.manager.ticks (opens_on_time o.alloc (o.settings n) (recovered_of (o.logs n)));
   labels = labels_start o;
   born = born_start o;
   rooms = rooms_start o opens;
-  channels = record { posted = λ n m i j. tt; waits = λ n m. tt; known = λ n m. least ((start o).channels.inc m) };
+  channels = record { posted = λ n m i j. tt; waits = λ n m. tt; known = λ n m. zero_le ((start o).channels.inc m) };
   unmet = λ n m some. refl;
   queued = λ n low tid server none. refl;
   ways = opens_ways o opens;
@@ -50,14 +41,8 @@ each_opens_joined P goes o opens = record {
   places = goes.opens o opens;
 }
   where
-    itself : (k : ℕ) → (k == k) ≡ true
-    itself k = grind (arith, nat_tests)
-
     none : (t : ℕ) → t ≡ 0 → t ≤ 0
     none t is = grind (arith, is)
-
-    least : (k : ℕ) → 0 ≤ k
-    least k = grind (arith)
 
 module _ (P : Opening → World → Type 0) (goes : GoesOn P) where
   over : (o : Opening) (moves : List Move) (old new : World) → Joined P o old → Run old moves new → Joined P o new

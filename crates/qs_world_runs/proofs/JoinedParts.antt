@@ -1,19 +1,8 @@
 -- What a world's journal, size and channels are after a move, and that channels hold what is so and are sound.
-use Rattle.std.proofs.Common.{◌≡◌, inl, inr, ℕ, ◌+◌, ◌≤◌, List, [], ◌∷◌, ◌++◌, length, length-append, sym, ap, subst, ◌∙◌, arith}
-use Rattle.qs_session_channels.specs.Channels.{Channels}
-use Rattle.qs_book_journal.specs.declared.entry.Entry.{Entry}
-use Rattle.qs_book_machine.specs.Book.{BookValue}
-use Rattle.qs_book_machine.specs.Lawful.{IsLawful, book_after, effect}
-use Rattle.qs_book_laws.proofs.Steps.{after_both, lawful_front, lawful_rest}
-use Rattle.qs_world.specs.Histories.{book_of, opened_from}
-use Rattle.qs_world.specs.Openings.{IsOpening}
-use Rattle.qs_world.specs.World.{Opening, Parcel, World}
+use Rattle.qs_world_runs.proofs.Words.{◌≡◌, inl, inr, ℕ, ◌+◌, ◌≤◌, List, [], ◌∷◌, ◌++◌, length, length-append, sym, ap, subst, ◌∙◌, arith, Channels, Entry, BookValue, book_after, effect, after_both, lawful_front, lawful_rest, book_of, opened_from, IsOpening, Opening, Parcel, World, HoldsChannels, AreSound, opens_soundly, book_in}
+use Rattle.qs_book_machine.specs.Lawful.{IsLawful}
 use Rattle.qs_world_refine.specs.MoveLaws.{IsSeated}
-use Rattle.qs_world_lawful.specs.Parcels.{HoldsChannels}
-use Rattle.qs_world_lawful.specs.WayLaws.{AreSound}
-use Rattle.qs_world_lawful.proofs.CoherentOpenings.{opens_soundly}
 use Rattle.qs_world_lawful.proofs.SaidStays.{channels_stay}
-use Rattle.qs_world_runs.specs.Joined.{book_in}
 
 -- ---- a history in two parts
 

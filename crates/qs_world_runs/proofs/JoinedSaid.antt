@@ -1,21 +1,8 @@
 -- After a whole step of a node its log says of contents and changes what the machine has, with the records that wait for the next force and on the disk.
-use Rattle.std.proofs.Common.{◌≡◌, ℕ, ◌<◌, true, sym, ap, ◌∙◌, arith, length, nat_lt}
-use Rattle.std.proofs.lemmas.Bool.Decides.{nat_tests}
+use Rattle.qs_world_runs.proofs.Words.{◌≡◌, ℕ, ◌<◌, true, sym, ap, ◌∙◌, length, nat_lt, effects_of, Event, opened_from, Source, log_after, waiting_after, Opening, World, IsTrueEvent, HoldsNodeAt, opens_soundly, opened_numbered, MakesStep, nodes_in, Joined, book_in, WholeSteps, book_then, lt-ltb}
 use Rattle.qs_node_step.specs.State.{NodeValue}
-use Rattle.qs_node_step.specs.Step.{effects_of}
-use Rattle.qs_node_step.specs.declared.event.Event.{Event}
-use Rattle.qs_world.specs.Histories.{opened_from}
-use Rattle.qs_world.specs.Moves.{Source, log_after, waiting_after}
-use Rattle.qs_world.specs.World.{Opening, World}
-use Rattle.qs_world_lawful.specs.Logged.{IsTrueEvent}
 use Rattle.qs_world_lawful.specs.SayingSteps.{SaysBetween}
-use Rattle.qs_world_lawful.specs.Worlds.{HoldsNodeAt}
-use Rattle.qs_world_lawful.proofs.CoherentOpenings.{opens_soundly}
-use Rattle.qs_world_lawful.proofs.NumberedLogs.{opened_numbered}
 use Rattle.qs_world_lawful.proofs.SaidWhole.{step_says}
-use Rattle.qs_world_runs.specs.Agrees.{MakesStep, nodes_in}
-use Rattle.qs_world_runs.specs.Joined.{Joined, book_in}
-use Rattle.qs_world_runs.specs.JoinedLaws.{WholeSteps, book_then}
 use Rattle.qs_world_runs.proofs.JoinedSteps.{step_given, step_low, step_up}
 use Rattle.qs_world_runs.proofs.SaidTells.{opened_length, tells_so}
 
@@ -33,10 +20,7 @@ module _ (P : Opening → World → Type 0) (steps : WholeSteps P) (o : Opening)
   at = j.held.nodes n low
 
   in_run : nat_lt n (length (opened_from o 0 o.size)) ≡ true
-  in_run = ap (λ (k : ℕ). nat_lt n k) (opened_length o 0 o.size ∙ sym j.size) ∙ below n world.size low
-    where
-      below : (a b : ℕ) → a < b → nat_lt a b ≡ true
-      below a b less = grind (arith, nat_tests, less)
+  in_run = ap (λ (k : ℕ). nat_lt n k) (opened_length o 0 o.size ∙ sym j.size) ∙ lt-ltb n world.size low
 
   pub step_said : SaysBetween n (book_then o world n stamp free event) (log_after (world.hosts n) (effects_of node event free)) (waiting_after (world.hosts n) (effects_of node event free))
   step_said = step_says (opened_from o 0 o.size) world.journal (opens_soundly o j.opens) (opened_numbered o 0 o.size) j.lawful stamp world.size (nodes_in world) n (world.hosts n) event free

@@ -1,42 +1,19 @@
 -- After a step the machine has the scripts of all clients: a client that is answered goes on to its next line, and what is in hand at the node
 -- is its client's first line.
-use Rattle.std.proofs.Common.{◌≡◌, ℕ, ◌<◌, ◌==◌, Bool, true, false, List, [], ◌∷◌, drop, suc, Some, refl, sym, ap, subst, ◌∙◌, arith, nat_lt, if◌then◌else◌}
-use Rattle.std.specs.Prelude.{slice_get}
-use Rattle.std.specs.BTreeMap.{is_at}
-use Rattle.std.specs.List.{list_any}
-use Rattle.std.specs.Map.{lookup}
-use Rattle.std.proofs.lemmas.Bool.{eqb-true}
-use Rattle.std.proofs.lemmas.Bool.Decides.{nat_tests}
-use Rattle.qs_base.specs.declared.identifiers.ClientNo.{ClientNo}
-use Rattle.qs_book_journal.specs.declared.entry.Act.{Act}
+use Rattle.qs_world_runs.proofs.Words.{◌≡◌, ℕ, ◌<◌, ◌==◌, Bool, true, false, List, [], ◌∷◌, drop, suc, Some, refl, sym, ap, subst, ◌∙◌, arith, nat_lt, if◌then◌else◌, slice_get, is_at, list_any, lookup, eqb-true, ltb-true, nat_tests, ClientNo, Act, ScriptLine, IsRising, BookValue, book_after, client_cmp, after_step, effects_of, ClientAnswer, Event, OpenCommand, Source, client_count, event_of, handed_by, step_with, stepped_host, taken_by, IsOpening, are_rising, labels_begun, same_label}
+use Rattle.qs_world_runs.proofs.Words.{entries_of, Client, Opening, World, up_taken, up_all, Every, HoldsScripts, every_on, right_true, IsOfOpen, with_event, ClientsAt, IsOwnClient, equal_apart}
 use Rattle.qs_book_journal.specs.declared.entry.Act.TheVariants as acts
-use Rattle.qs_book_journal.specs.declared.script_line.ScriptLine.{ScriptLine}
-use Rattle.qs_book_laws.proofs.Rising.{IsRising}
-use Rattle.qs_book_machine.specs.Book.{BookValue}
-use Rattle.qs_book_machine.specs.Lawful.{book_after}
-use Rattle.qs_node_step.specs.State.{NodeValue, client_cmp}
-use Rattle.qs_node_step.specs.Step.{after_step, effects_of}
-use Rattle.qs_node_step.specs.declared.event.ClientAnswer.{ClientAnswer}
-use Rattle.qs_node_step.specs.declared.event.Event.{Event}
-use Rattle.qs_node_step.specs.declared.state.OpenCommand.{OpenCommand}
-use Rattle.qs_world.specs.Moves.{Source, client_count, event_of, handed_by, step_with, stepped_host, taken_by}
-use Rattle.qs_world.specs.Openings.{IsOpening, are_apart, are_rising, labels_begun, same_label}
-use Rattle.qs_world.specs.Posting.{answered, entries_of, is_answer_to}
-use Rattle.qs_world.specs.World.{Client, Opening, World}
-use Rattle.qs_world_refine.proofs.Moving.{up_taken}
-use Rattle.qs_world_refine.proofs.Posted.{up_all}
-use Rattle.qs_world_lawful.specs.Logs.{Every}
-use Rattle.qs_world_lawful.specs.Scripts.{AreBehind, HoldsClient, HoldsScripts, IsFresh, IsInHand, IsRest}
+use Rattle.qs_node_step.specs.State.{NodeValue}
+use Rattle.qs_world.specs.Openings.{are_apart}
+use Rattle.qs_world.specs.Posting.{answered, is_answer_to}
+use Rattle.qs_world_lawful.specs.Scripts.{AreBehind, HoldsClient, IsFresh, IsInHand, IsRest}
 use Rattle.qs_world_lawful.specs.WayLaws.{BeginsNone, HoldsScript, IsOther, IsSilentTo, LeavesScript}
-use Rattle.qs_world_lawful.proofs.LogFrames.{every_on}
 use Rattle.qs_world_lawful.proofs.OtherScripts.{scripts_left}
-use Rattle.qs_world_lawful.proofs.Truths.{right_true}
-use Rattle.qs_world_runs.specs.Answering.{BeginsOpen, IsOfOpen, IsOpenStill, WasOpen, with_event}
-use Rattle.qs_world_runs.specs.Joined.{ClientsAt, IsOwnClient}
+use Rattle.qs_world_runs.specs.Answering.{BeginsOpen, IsOpenStill, WasOpen}
 use Rattle.qs_world_runs.proofs.JoinedClients as step
 use Rattle.qs_world_runs.proofs.LabelsApart.{IsBehind, apart_left, behind_of, earlier_other, own_other, pairs}
 use Rattle.qs_world_runs.proofs.ScriptsAnswered.{AnswersAs, IsPast, Passes, all_passed, behind_past, past_of}
-use Rattle.qs_world_runs.proofs.LinesLeft.{at_handed, begun_first, behind_first, drop_more, earlier, first_of, later, lines_handed, same_turned}
+use Rattle.qs_world_runs.proofs.LinesLeft.{at_handed, begun_first, behind_first, drop_more, first_of, later, lines_handed, same_turned}
 
 module _ (o : Opening) (opens : IsOpening o) (book : BookValue) (world : World) (n stamp free : ℕ) (source : Source) (event : Event) (comes : event_of world n stamp source ≡ Some event)
     (scripts : HoldsScripts o book world) (clients : ClientsAt world) (sized : world.size ≡ o.size) (low : n < world.size) (up : world.channels.up n ≡ true)
@@ -100,7 +77,7 @@ module _ (o : Opening) (opens : IsOpening o) (book : BookValue) (world : World) 
 
       by : (c : Bool) → nat_lt client.0 k ≡ c → Every (IsOther label) (left k)
       by true is = each_turned label (left k) (subst (λ (xs : List (List ℕ)). Every (λ (x : List ℕ). Every (λ (y : List ℕ). same_label x y ≡ false) (left k)) xs) (begun client label b)
-          (earlier_other client_count left scripts.apart client.0 k (earlier client.0 k is) (below k small))).0
+          (earlier_other client_count left scripts.apart client.0 k (ltb-true client.0 k is) (below k small))).0
       by false is = heads (labels_begun (drop 1 (world.clients client.0).lines)) (begun client label b) (earlier_other client_count left scripts.apart k client.0 (later client.0 k is far) c_small)
 
   own_rest : (client : ClientNo) (label : List ℕ) → BeginsOpen was said client label → Every (IsOther label) (labels_begun (drop 1 (world.clients client.0).lines))
@@ -239,12 +216,9 @@ module _ (o : Opening) (opens : IsOpening o) (book : BookValue) (world : World) 
         in_hand = λ m within on command there. absurd (by m within on command (m == n) refl there);
       }
         where
-          clash : (a b : ℕ) → a ≡ b → (a == b) ≡ false → ⊥
-          clash a b same off = let on : (a == b) ≡ true = grind (arith, nat_tests, same) in let both : true ≡ false = sym on ∙ off in cc (both)
-
           by : (m : ℕ) → nat_lt m world.size ≡ true → new.channels.up m ≡ true → (command : OpenCommand) → (b : Bool) → (m == n) ≡ b → Waits k b m command → ⊥
           by m within on command true near there = cc (sym is ∙ (still it command there).unanswered)
-          by m within on command false far there = clash m n (sym (c.in_hand m within (ups m on) command there).0 ∙ own.own.at) far
+          by m within on command false far there = equal_apart m n (sym (c.in_hand m within (ups m on) command there).0 ∙ own.own.at) far
 
     now_is : ClientNow k (new.clients k)
     now_is = by (list_any (is_answer_to k) said) refl

@@ -1,34 +1,23 @@
 -- What a step asks of its node alone follows from the invariant of one node: what is lent is known, a home's told set lacks a node, and what is forgotten is idle.
-use Rattle.std.proofs.Common.{◌≡◌, ℕ, ◌<◌, ◌≤◌, ◌==◌, ◌&&◌, ◌||◌, not, Bool, true, false, length, Option, Some, None, is_none, is_some, refl, ap, ◌∙◌, arith, nat_le, nat_lt, if◌then◌else◌}
-use Rattle.std.proofs.lemmas.Bool.{eqb-true}
-use Rattle.std.proofs.lemmas.Bool.Decides.{nat_tests}
+use Rattle.qs_world_runs.proofs.Words.{◌≡◌, ℕ, ◌<◌, ◌≤◌, ◌==◌, ◌&&◌, ◌||◌, not, Bool, true, false, length, Option, Some, None, is_none, is_some, refl, ap, ◌∙◌, arith, nat_le, nat_lt, if◌then◌else◌, eqb-true, nat_tests, NodeNo, Tid, no_peer, peer_of, listed, same_node, PeerPart, is_lent, pass_rule, ready_rule, refuse_rule, try, Work, is_forgotten, is_undecided, needs_pass, Participant, is_sound, is_sound_peer, same_flag, where_so, known_sound, nothing_lent, PartSound, is_apart, seen}
 use Rattle.std.proofs.lemmas.List.{get_or_past}
-use Rattle.qs_base.specs.declared.identifiers.NodeNo.{NodeNo}
 use Rattle.qs_base.specs.declared.identifiers.Outcome.{Outcome}
-use Rattle.qs_base.specs.declared.identifiers.Tid.{Tid}
-use Rattle.qs_engage.specs.Engage.{no_peer, peer_of}
-use Rattle.qs_engage.specs.Nodes.{all_nodes, has_node, listed, same_node}
-use Rattle.qs_engage.specs.declared.engage.PeerPart.{PeerPart}
+use Rattle.qs_engage.specs.Nodes.{all_nodes, has_node}
 use Rattle.qs_ipc.specs.Ipc as ipc
-use Rattle.qs_node_step.specs.Settling.{is_lent, pass_rule, ready_rule, refuse_rule, try}
-use Rattle.qs_node_step.specs.State.{NodeValue, Work}
+use Rattle.qs_node_step.specs.State.{NodeValue}
 use Rattle.qs_tm.specs.Manager as tm
 use Rattle.qs_tm.specs.Outcomes.{is_abort}
-use Rattle.qs_tm.specs.Participant.{is_forgotten, is_undecided, needs_pass}
-use Rattle.qs_tm.specs.declared.participant.Participant.{Participant}
-use Rattle.qs_world_refine.specs.Sound.{is_idle, is_sound, is_sound_peer, same_flag, where_so}
+use Rattle.qs_world_refine.specs.Sound.{is_idle}
 use Rattle.qs_world_refine.proofs.NodeSets.{all_named}
 use Rattle.qs_world_refine.proofs.SoundBegin.{all_implied}
 use Rattle.qs_world_refine.proofs.SoundCount.{all_at}
-use Rattle.qs_world_refine.proofs.SoundHolds.{known_sound}
-use Rattle.qs_world_refine.proofs.SoundKnown.{nothing_lent}
 use Rattle.qs_world_refine.proofs.SoundParts.{and_both}
 use Rattle.qs_world_refine.proofs.SoundSettle.{ready_rule_sound, refuse_rule_sound, undecided_known}
-use Rattle.qs_world_refine.proofs.SoundViews.{PartSound, is_apart, seen}
 use Rattle.qs_world_refine.proofs.SoundVotes.{pass_rule_sound}
 use Rattle.qs_world_lawful.specs.Agreed.{IsIdle}
 use Rattle.qs_world_runs.specs.Agrees.{SoundGives}
 use Rattle.qs_world_runs.proofs.ToldFewer.{fewer_listed}
+use Rattle.qs_base_lemmas.proofs.Tests.{none_is}
 
 module _ (node : NodeValue) (sound : is_sound node ≡ true) where
   pub lent_known : (tid : Tid) → is_lent tid node ≡ true → tm.knows tid node.manager ≡ true
@@ -99,7 +88,7 @@ module _ (node : NodeValue) (sound : is_sound node ≡ true) where
     -- who is forgotten answers to nobody, and is not involved
     idle_forgotten : is_forgotten part ≡ true → IsIdle part
     idle_forgotten forgotten = record {
-      due = idle_so (not_so part.engage.home (and_both (is_undecided part) _ front).1) (none_decided part.outcome (and_both (is_undecided part) _ front).0) (none_answered part.engage.superior (and_both (is_none part.engage.superior) _ back).0);
+      due = idle_so (not_so part.engage.home (and_both (is_undecided part) _ front).1) (none_is part.outcome (and_both (is_undecided part) _ front).0) (none_is part.engage.superior (and_both (is_none part.engage.superior) _ back).0);
       unsent = unsent_so (not_so part.involved (and_both (is_none part.engage.superior) _ back).1);
     }
       where
@@ -108,14 +97,6 @@ module _ (node : NodeValue) (sound : is_sound node ≡ true) where
 
         back : (is_none part.engage.superior && not part.involved) ≡ true
         back = (and_both (is_none part.engage.superior && not part.involved) _ (and_both (is_undecided part && not part.engage.home) _ forgotten).1).0
-
-        none_decided : (o : Option Outcome) → is_none o ≡ true → o ≡ None
-        none_decided None so = refl
-        none_decided (Some outcome) so = absurd (cc so)
-
-        none_answered : (o : Option NodeNo) → is_none o ≡ true → o ≡ None
-        none_answered None so = refl
-        none_answered (Some node) so = absurd (cc so)
 
 -- after the vote pass, and before what is forgotten
 pub sound_gives : SoundGives

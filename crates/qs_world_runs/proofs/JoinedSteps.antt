@@ -1,35 +1,17 @@
 -- A whole step of a world in which all stands together: its entries are lawful, from what the agreement machine gives at each of its stages.
-use Rattle.std.proofs.Common.{◌≡◌, ℕ, ◌<◌, true, List, [], ◌∷◌, ◌++◌, Option, ap, subst}
-use Rattle.qs_base.specs.declared.identifiers.Tid.{Tid}
-use Rattle.qs_book_journal.specs.declared.entry.Entry.{Entry}
-use Rattle.qs_book_machine.specs.Book.{BookValue}
-use Rattle.qs_book_machine.specs.Lawful.{IsLawful, book_after}
-use Rattle.qs_node_step.specs.Settling.{due_tids, settle_tid}
-use Rattle.qs_node_step.specs.State.{NodeValue, Work}
-use Rattle.qs_node_step.specs.Step.{after_step, effects_of}
-use Rattle.qs_node_step.specs.declared.event.Event.{Event}
-use Rattle.qs_world.specs.Moves.{Source, Step, is_in_order, is_later, moved, step_with}
-use Rattle.qs_world.specs.Posting.{entries_of}
-use Rattle.qs_world.specs.World.{Opening, World}
-use Rattle.qs_world_refine.specs.Sound.{is_sound}
-use Rattle.qs_world_refine.proofs.MoveGoes.{StepMay, step_may}
+use Rattle.qs_world_runs.proofs.Words.{◌≡◌, ℕ, ◌<◌, true, List, [], ◌∷◌, ◌++◌, Option, ap, subst, Tid, Entry, BookValue, book_after, due_tids, settle_tid, Work, after_step, effects_of, Event, Source, Step, is_later, moved, step_with, entries_of, Opening, World, is_sound, StepMay, step_may, AtEach, done_work, Every, HoldsNodeAt, held_at, MakesStep, PassesUndone, nodes_in, Joined, book_in, CommitsSettled, WholeSteps}
+use Rattle.qs_book_machine.specs.Lawful.{IsLawful}
+use Rattle.qs_node_step.specs.State.{NodeValue}
+use Rattle.qs_world.specs.Moves.{is_in_order}
 use Rattle.qs_world_refine.proofs.SoundParts.{and_both}
 use Rattle.qs_world_lawful.specs.Agreed.{AgreementGives, StepAgrees}
 use Rattle.qs_world_lawful.specs.Amid.{IsSent}
-use Rattle.qs_world_lawful.specs.Given.{AtEach}
-use Rattle.qs_world_lawful.specs.GivenStep.{done_work}
 use Rattle.qs_world_lawful.specs.Holds.{Holds}
-use Rattle.qs_world_lawful.specs.Logs.{Every}
-use Rattle.qs_world_lawful.specs.Worlds.{HoldsNodeAt}
 use Rattle.qs_world_lawful.specs.StepKeeps.{KeptThen}
 use Rattle.qs_world_lawful.specs.StepOn.{StepOn}
 use Rattle.qs_world_lawful.proofs.BesideSent.{sent_after}
 use Rattle.qs_world_lawful.proofs.StepKept as keeping
-use Rattle.qs_world_lawful.proofs.Still.{held_at}
 use Rattle.qs_world_lawful.proofs.WholeStep.{by_whole_step}
-use Rattle.qs_world_runs.specs.Agrees.{MakesStep, PassesUndone, nodes_in}
-use Rattle.qs_world_runs.specs.Joined.{Joined, book_in}
-use Rattle.qs_world_runs.specs.JoinedLaws.{CommitsSettled, WholeSteps}
 use Rattle.qs_world_runs.proofs.AgreesPasses.{passes_agree, stages_sound, waits_agree}
 use Rattle.qs_world_runs.proofs.AgreesWhole.{event_agrees}
 use Rattle.qs_world_runs.proofs.JoinedGiven.{given, step_on}

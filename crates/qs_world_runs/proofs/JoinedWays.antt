@@ -1,45 +1,15 @@
 -- After a step each request that is on its way stands in the machine in the order of numbers, behind those that wait: on ways from the stepping
 -- node, on ways to it, and on those of others.
-use Rattle.std.proofs.Common.{◌≡◌, ◌⊎◌, inl, inr, ℕ, ◌==◌, ◌<◌, ◌≤◌, Bool, true, false, List, [], ◌∷◌, ◌++◌, Some, refl, sym, ap, subst, ◌∙◌, arith, nat_lt, if◌then◌else◌, append_assoc, append-nil}
-use Rattle.std.proofs.lemmas.Bool.{eqb-true}
-use Rattle.std.proofs.lemmas.Bool.Decides.{nat_tests}
-use Rattle.std.proofs.lemmas.Grind.{flat_map-append}
-use Rattle.qs_base.specs.declared.identifiers.ServerNo.{ServerNo}
-use Rattle.qs_base.specs.declared.identifiers.Tid.{Tid}
-use Rattle.qs_session_channels.specs.Channels.{Channels}
-use Rattle.qs_book_journal.specs.declared.entry.Act.{Act}
-use Rattle.qs_book_journal.specs.declared.entry.Entry.{Entry}
-use Rattle.qs_book_laws.proofs.Steps.{after_both}
-use Rattle.qs_book_machine.specs.Book.{BookValue}
-use Rattle.qs_book_machine.specs.Lawful.{IsLawful, book_after}
-use Rattle.qs_ops.specs.declared.operation.Op.{Op}
+use Rattle.qs_world_runs.proofs.Words.{◌≡◌, ◌⊎◌, inl, inr, ℕ, ◌==◌, ◌<◌, ◌≤◌, Bool, true, false, List, [], ◌∷◌, ◌++◌, Some, refl, sym, ap, subst, ◌∙◌, arith, nat_lt, if◌then◌else◌, append_assoc, append-nil, eqb-true, nat_tests, flat_map-append, ServerNo, Tid, Channels, Act, Entry, after_both, BookValue, book_after, Op, after_step, effects_of, step_work, Event, Sending, book_of, opened_from, Source, step_with, stepped_host, taken_by, IsOpening, entries_of, Opening, Parcel, World, StepMay}
+use Rattle.qs_world_runs.proofs.Words.{step_may, parcels, steady_gives, IsOfStep, Every, HoldsWays, on_its_way, ops_of, way_between, IsWithin, opens_soundly, lasts_first, lasts_ran, LastsWell, opened_numbered, opening_named, HoldsOps, MakesStep, Joined, book_in, InStep, trace_of, eqb-self, apart_turned}
+use Rattle.qs_book_machine.specs.Lawful.{IsLawful}
 use Rattle.qs_node_step.specs.State.{NodeValue}
-use Rattle.qs_node_step.specs.Step.{after_step, effects_of, step_work}
-use Rattle.qs_node_step.specs.declared.event.Event.{Event}
-use Rattle.qs_node_step.specs.declared.event.Sending.{Sending}
-use Rattle.qs_world.specs.Histories.{book_of, opened_from}
-use Rattle.qs_world.specs.Moves.{Source, step_with, stepped_host, taken_by}
-use Rattle.qs_world.specs.Openings.{IsOpening}
-use Rattle.qs_world.specs.Posting.{entries_of}
-use Rattle.qs_world.specs.World.{Opening, Parcel, World}
-use Rattle.qs_world_refine.proofs.MoveGoes.{StepMay, step_may}
-use Rattle.qs_world_refine.proofs.Posted.{parcels}
-use Rattle.qs_world_refine.proofs.SteadyFrom.{steady_gives}
-use Rattle.qs_world_lawful.specs.Aside.{IsOfStep}
-use Rattle.qs_world_lawful.specs.Logs.{Every}
-use Rattle.qs_world_lawful.specs.Parcels.{HoldsWay, HoldsWays, on_its_way, ops_of, way_between}
-use Rattle.qs_world_lawful.specs.Waits.{IsWithin, waiting_ops}
-use Rattle.qs_world_lawful.proofs.CoherentOpenings.{opens_soundly}
-use Rattle.qs_world_lawful.proofs.LastsOpening.{lasts_first, lasts_ran}
-use Rattle.qs_world_lawful.proofs.LastsWell.{LastsWell}
-use Rattle.qs_world_lawful.proofs.NumberedLogs.{opened_numbered, opening_named}
-use Rattle.qs_world_lawful.proofs.OtherWays.{HoldsOps, none_of, on_way_so}
+use Rattle.qs_world_lawful.specs.Parcels.{HoldsWay}
+use Rattle.qs_world_lawful.specs.Waits.{waiting_ops}
+use Rattle.qs_world_lawful.proofs.OtherWays.{none_of, on_way_so}
 use Rattle.qs_world_lawful.proofs.StepWays.{KeepsPair, pair_all, pair_taken, step_other_ways, way_same}
 use Rattle.qs_world_lawful.proofs.WithinParts.{within_around, within_front}
-use Rattle.qs_world_runs.specs.Agrees.{MakesStep}
-use Rattle.qs_world_runs.specs.Joined.{Joined, book_in}
-use Rattle.qs_world_runs.specs.StepLaws.{InStep, KeepsWays}
-use Rattle.qs_world_runs.specs.Traces.{trace_of}
+use Rattle.qs_world_runs.specs.StepLaws.{KeepsWays}
 use Rattle.qs_world_runs.proofs.ClientsGo.{of_steps}
 use Rattle.qs_world_runs.proofs.JoinedParts.{lawful_both}
 use Rattle.qs_world_runs.proofs.KeptBack.{taken_unmet}
@@ -91,9 +61,6 @@ module _ (P : Opening → World → Type 0) (o : Opening) (world : World) (j : J
 
   in_low : (k : ℕ) → nat_lt k world.size ≡ true → k < world.size
   in_low k is = grind (arith, nat_tests, is)
-
-  itself : (k : ℕ) → (k == k) ≡ true
-  itself k = grind (arith, nat_tests)
 
   -- as it was
   whole : (a b : ℕ) → nat_lt a world.size ≡ true → nat_lt b world.size ≡ true → (a == b) ≡ false → HoldsOps book a b (λ t s k. waiting a b (world.hosts b).node.queues t s k ++ ops_of t s k (on_its_way c a b))
@@ -185,9 +152,6 @@ module _ (P : Opening → World → Type 0) (o : Opening) (world : World) (j : J
       (step_other_ways (opened_from o 0 o.size) world.journal (entries_of n stamp (effects_of node event free).entries) (opens_soundly o j.opens) (opened_numbered o 0 o.size) (lawful_both world.journal (entries_of n stamp (effects_of node event free).entries) (book_of o) j.lawful lawful)
       world n stamp free source (every_entry n stamp (effects_of node event free).entries (of_steps P o world j n stamp free source event makes)) a b a_far b_far j.channels (j.queued b (in_low b in_b)) (j.ways a b in_a in_b apart)))
 
-  turned : (i k : ℕ) → (i == k) ≡ false → (k == i) ≡ false
-  turned i k off = grind (arith, nat_tests, off)
-
   ways_then : HoldsWays now after
   ways_then a b in_a in_b apart = by (a == n) refl (b == n) refl
     where
@@ -198,7 +162,7 @@ module _ (P : Opening → World → Type 0) (o : Opening) (world : World) (j : J
           picked x is = rw is refl
 
       own_node : (after.hosts n).node ≡ after_step node event free
-      own_node = picked (n == n) (itself n)
+      own_node = picked (n == n) (eqb-self n)
         where
           picked : (x : Bool) → x ≡ true → (if x then stepped_host stamp (after_step node event free) (effects_of node event free) (world.hosts n) else world.hosts n).node ≡ after_step node event free
           picked x is = rw is refl
@@ -210,8 +174,8 @@ module _ (P : Opening → World → Type 0) (o : Opening) (world : World) (j : J
       to_n far in_n = subst (λ (m : NodeValue). HoldsWay now after.channels a n m) (sym own_node) (to_then a in_a in_n far)
 
       by : (x : Bool) → (a == n) ≡ x → (y : Bool) → (b == n) ≡ y → HoldsWay now after.channels a b (after.hosts b).node
-      by true near true too = absurd (cc (sym apart ∙ (ap (λ (i : ℕ). i == b) (eqb-true a n near) ∙ (ap (λ (i : ℕ). n == i) (eqb-true b n too) ∙ itself n))))
-      by true near false b_far = subst (λ (i : ℕ). HoldsWay now after.channels i b (after.hosts b).node) (sym (eqb-true a n near)) (from_n b_far (subst (λ (i : ℕ). nat_lt i world.size ≡ true) (eqb-true a n near) in_a) (turned b n b_far))
+      by true near true too = absurd (cc (sym apart ∙ (ap (λ (i : ℕ). i == b) (eqb-true a n near) ∙ (ap (λ (i : ℕ). n == i) (eqb-true b n too) ∙ eqb-self n))))
+      by true near false b_far = subst (λ (i : ℕ). HoldsWay now after.channels i b (after.hosts b).node) (sym (eqb-true a n near)) (from_n b_far (subst (λ (i : ℕ). nat_lt i world.size ≡ true) (eqb-true a n near) in_a) (apart_turned b n b_far))
       by false a_far true too = subst (λ (i : ℕ). HoldsWay now after.channels a i (after.hosts i).node) (sym (eqb-true b n too)) (to_n a_far (subst (λ (i : ℕ). nat_lt i world.size ≡ true) (eqb-true b n too) in_b))
       by false a_far false b_far = others_then a b in_a in_b apart a_far b_far
 

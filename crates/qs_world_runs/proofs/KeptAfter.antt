@@ -1,34 +1,15 @@
 -- What a node keeps for its clients after a whole step is as the machine has it, where it keeps each label of its own transactions as their owner's.
-use Rattle.std.proofs.Common.{◌≡◌, ℕ, ◌≤◌, ◌&&◌, ◌||◌, not, Bool, true, false, List, [], ◌∷◌, Option, Some, None, refl, sym, ap, subst, arith, is_none, is_some, nat_le}
-use Rattle.std.proofs.lemmas.Bool.Decides.{nat_tests}
-use Rattle.std.specs.List.{filter, list_all, list_any}
-use Rattle.qs_base.specs.Order.{same_tid}
-use Rattle.qs_base.proofs.Same.{same_tid-self, same_tid-true}
-use Rattle.qs_base.specs.declared.identifiers.ClientNo.{ClientNo}
-use Rattle.qs_base.specs.declared.identifiers.Outcome.{Outcome}
-use Rattle.qs_base.specs.declared.identifiers.Tid.{Tid}
+use Rattle.qs_world_runs.proofs.Words.{◌≡◌, ℕ, ◌≤◌, ◌&&◌, ◌||◌, not, Bool, true, false, List, [], ◌∷◌, Option, Some, None, refl, sym, ap, subst, arith, is_some, nat_le, nat_tests, filter, list_all, list_any, same_tid, same_tid-self, same_tid-true, ClientNo, Tid, Begun, Lent, BookValue, find_transaction, TransactionValue, kept_outcome, Setting, is_undecided, Participant, Stage, IsTidyNode, HoldsBeside, face_of, is_loan_in, HoldsAt, HoldsTid, Every, HasNodeFacts, every_on, AreOwned}
 use Rattle.qs_node_kept.specs.Keeping.{is_label_of}
-use Rattle.qs_node_kept.specs.declared.kept.KeptLabel.{KeptLabel}
-use Rattle.qs_node_kept.specs.declared.kept.Lent.{Lent}
-use Rattle.qs_book_machine.specs.Book.{BookValue, find_transaction}
-use Rattle.qs_book_machine.specs.Transaction.{TransactionValue}
-use Rattle.qs_node_step.specs.Answering.{kept_outcome}
 use Rattle.qs_node_step.specs.State.{NodeValue}
-use Rattle.qs_node_step.specs.declared.setting.Setting.{Setting}
 use Rattle.qs_tm.specs.Manager as tm
-use Rattle.qs_tm.specs.Participant.{is_undecided}
-use Rattle.qs_tm.specs.declared.participant.Participant.{Participant}
 use Rattle.qs_world_refine.specs.Sound.{is_owned, is_owned_label}
-use Rattle.qs_world_refine.specs.Tidy.{Stage, IsTidyNode, is_tidy_loan}
+use Rattle.qs_world_refine.specs.Tidy.{is_tidy_loan}
 use Rattle.qs_world_refine.proofs.SoundParts.{and_both}
-use Rattle.qs_world_lawful.specs.Beside.{HoldsBeside}
-use Rattle.qs_world_lawful.specs.Face.{face_of, is_loan_in}
-use Rattle.qs_world_lawful.specs.Holds.{Holds, HoldsAt, HoldsTid}
-use Rattle.qs_world_lawful.specs.Logs.{Every}
-use Rattle.qs_world_lawful.specs.NodeFacts.{HasNodeFacts}
-use Rattle.qs_world_lawful.proofs.LogFrames.{every_on}
+use Rattle.qs_world_lawful.specs.Holds.{Holds}
 use Rattle.qs_world_lawful.specs.Worlds.{HoldsKept, IsLeftOpen, IsLoanOf, IsOpenStill}
-use Rattle.qs_world_runs.specs.Labels.{AreOwned, is_owned_as}
+use Rattle.qs_world_runs.specs.Labels.{is_owned_as}
+use Rattle.qs_base_lemmas.proofs.Tests.{none_is}
 
 -- ---- all of a list, from those in it
 
@@ -84,7 +65,7 @@ module _ (stamp : ℕ) (book : BookValue) (c : Stage) (node : NodeValue) (h : Ho
       low : nat_le loan.inc c.setting.inc ≡ true → loan.inc ≤ c.setting.inc
       low it = grind (arith, nat_tests, it)
 
-  undecided : (begun : KeptLabel) → AreOwned node.setting.node node.kept.now.labels begun → IsLeftOpen node.setting.node book node.kept.now.outcomes begun
+  undecided : (begun : Begun) → AreOwned node.setting.node node.kept.now.labels begun → IsLeftOpen node.setting.node book node.kept.now.outcomes begun
   undecided begun owned tid is home none = by (tm.part_of tid node.manager) refl runs
     where
       found : AnyOf (is_owned_as tid) node.kept.now.labels (is_owned_label node)
@@ -107,11 +88,7 @@ module _ (stamp : ℕ) (book : BookValue) (c : Stage) (node : NodeValue) (h : Ho
       by (Some part) known r = of (find_transaction book tid) refl ((beside.at tid).stands part known)
         where
           unknown : part.outcome ≡ None
-          unknown = none_decided part.outcome (and_both part.engage.home (is_undecided part) r).1
-            where
-              none_decided : (x : Option Outcome) → is_none x ≡ true → x ≡ None
-              none_decided None so = refl
-              none_decided (Some outcome) so = absurd (cc so)
+          unknown = none_is part.outcome (and_both part.engage.home (is_undecided part) r).1
 
           of : (o : Option TransactionValue) → find_transaction book tid ≡ o → is_some o ≡ true → IsOpenStill book tid
           of None absent so = absurd (cc so)

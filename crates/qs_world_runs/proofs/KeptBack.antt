@@ -1,28 +1,13 @@
 -- What a node keeps back is for those of whom it knows no incarnation, as a run begins and after each thing that happens to channels; and nothing
 -- waits of what the machine does not know, since it forgets nothing.
-use Rattle.std.proofs.Common.{◌≡◌, ℕ, ◌==◌, ◌≤◌, ◌++◌, Bool, true, false, List, [], ◌∷◌, Option, Some, None, refl, sym, subst, ◌∙◌, arith, if◌then◌else◌}
-use Rattle.std.proofs.lemmas.Bool.{eqb-true}
-use Rattle.qs_base.specs.declared.identifiers.Tid.{Tid}
+use Rattle.qs_world_runs.proofs.Words.{◌≡◌, ℕ, ◌==◌, ◌≤◌, ◌++◌, Bool, true, false, List, [], ◌∷◌, Option, Some, None, refl, sym, subst, ◌∙◌, arith, if◌then◌else◌, eqb-true, Tid, Channels, Entry, BookValue, find_transaction, book_after, effect, TransactionValue, Event, Sending, Clock, Commanded, Handed, Noticed, Queues, Source, event_of, hand_next, taken_by, next_parcel, post_all, Parcel, World, from_notice, face_of, HoldsAt, lasts_on, LastsWell, at_two}
 use Rattle.qs_session_channels.specs.Channels as channel
-use Rattle.qs_session_channels.specs.Channels.{Channels}
-use Rattle.qs_book_journal.specs.declared.entry.Entry.{Entry}
-use Rattle.qs_book_machine.specs.Book.{BookValue, find_transaction}
-use Rattle.qs_book_machine.specs.Lawful.{IsLawful, book_after, effect}
-use Rattle.qs_book_machine.specs.Transaction.{TransactionValue}
+use Rattle.qs_book_machine.specs.Lawful.{IsLawful}
 use Rattle.qs_node_step.specs.State.{NodeValue}
-use Rattle.qs_node_step.specs.declared.event.Event.{Event}
-use Rattle.qs_node_step.specs.declared.event.Sending.{Sending}
-use Rattle.qs_world.specs.Moves.{Clock, Commanded, Handed, Noticed, Queues, Source, event_of, hand_next, taken_by}
-use Rattle.qs_world.specs.Posting.{next_parcel, post_all, post_next}
-use Rattle.qs_world.specs.World.{Parcel, World}
-use Rattle.qs_world_refine.proofs.EachMay.{from_notice}
-use Rattle.qs_world_lawful.specs.Face.{face_of}
-use Rattle.qs_world_lawful.specs.Holds.{Holds, HoldsAt}
+use Rattle.qs_world.specs.Posting.{post_next}
+use Rattle.qs_world_lawful.specs.Holds.{Holds}
 use Rattle.qs_world_lawful.specs.Parcels.{WaitsForKnown}
 use Rattle.qs_world_lawful.proofs.AsideBook.{goes_on}
-use Rattle.qs_world_lawful.proofs.LastsEntry.{lasts_on}
-use Rattle.qs_world_lawful.proofs.LastsWell.{LastsWell}
-use Rattle.qs_world_lawful.proofs.ParcelsKept.{at_two}
 use Rattle.qs_world_runs.specs.Joined.{KeepsBackUnmet}
 
 -- ---- channels

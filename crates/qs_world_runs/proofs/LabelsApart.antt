@@ -1,11 +1,7 @@
 -- Labels that stand apart stand apart where some are left out; and each label of one client is other than those of another.
-use Rattle.std.proofs.Common.{◌≡◌, ℕ, ◌<◌, ◌==◌, Bool, true, false, ◌&&◌, ◌||◌, not, List, [], ◌∷◌, ◌++◌, zero, suc, refl, sym, ap, subst, ◌∙◌, arith, append_assoc, append-nil}
-use Rattle.std.proofs.lemmas.Bool.{eqb-true}
-use Rattle.std.proofs.lemmas.Bool.Decides.{nat_tests}
-use Rattle.std.proofs.lemmas.List.Folds.{list_any-append}
-use Rattle.qs_world.specs.Openings.{all_below, are_apart, has_label, same_label}
+use Rattle.qs_world_runs.proofs.Words.{◌≡◌, ℕ, ◌<◌, ◌==◌, Bool, true, false, ◌||◌, not, List, [], ◌∷◌, ◌++◌, zero, suc, refl, sym, ap, subst, ◌∙◌, arith, append_assoc, append-nil, eqb-true, not-true, and_from, nat_tests, list_any-append, same_label, Every, none_below_zero}
+use Rattle.qs_world.specs.Openings.{all_below, are_apart, has_label}
 use Rattle.qs_world_refine.proofs.SoundParts.{and_both}
-use Rattle.qs_world_lawful.specs.Logs.{Every}
 
 abbrev Labels : Type 0
 Labels = List (List ℕ)
@@ -17,9 +13,6 @@ not_either true b is = absurd (cc is)
 not_either false true is = absurd (cc is)
 not_either false false is = (refl, refl)
 
-both_true : (a b : Bool) → a ≡ true → b ≡ true → (a && b) ≡ true
-both_true a b p q = rw (p, q) refl
-
 apart_behind : (ys zs : Labels) → are_apart (ys ++ zs) ≡ true → are_apart zs ≡ true
 apart_behind [] zs is = is
 apart_behind (y ∷ ys) zs is = apart_behind ys zs (and_both (not (has_label (ys ++ zs) y)) (are_apart (ys ++ zs)) is).1
@@ -27,14 +20,14 @@ apart_behind (y ∷ ys) zs is = apart_behind ys zs (and_both (not (has_label (ys
 apart_front : (xs ys : Labels) → are_apart (xs ++ ys) ≡ true → are_apart xs ≡ true
 apart_front [] ys is = refl
 apart_front (x ∷ xs) ys is =
-    both_true (not (has_label xs x)) (are_apart xs)
+    and_from (not (has_label xs x)) (are_apart xs)
     (not_either (has_label xs x) (has_label ys x) (ap not (sym (list_any-append (same_label x) xs ys)) ∙ (and_both (not (has_label (xs ++ ys) x)) (are_apart (xs ++ ys)) is).0)).0
     (apart_front xs ys (and_both (not (has_label (xs ++ ys) x)) (are_apart (xs ++ ys)) is).1)
 
 apart_around : (xs ys zs : Labels) → are_apart (xs ++ (ys ++ zs)) ≡ true → are_apart (xs ++ zs) ≡ true
 apart_around [] ys zs is = apart_behind ys zs is
 apart_around (x ∷ xs) ys zs is =
-    both_true (not (has_label (xs ++ zs) x)) (are_apart (xs ++ zs)) (ap not (list_any-append (same_label x) xs zs) ∙ none) (apart_around xs ys zs (and_both (not (has_label (xs ++ (ys ++ zs)) x)) (are_apart (xs ++ (ys ++ zs))) is).1)
+    and_from (not (has_label (xs ++ zs) x)) (are_apart (xs ++ zs)) (ap not (list_any-append (same_label x) xs zs) ∙ none) (apart_around xs ys zs (and_both (not (has_label (xs ++ (ys ++ zs)) x)) (are_apart (xs ++ (ys ++ zs))) is).1)
   where
     first : (not (has_label xs x) ≡ true) × (not (has_label (ys ++ zs) x) ≡ true)
     first = not_either (has_label xs x) (has_label (ys ++ zs) x) (ap not (sym (list_any-append (same_label x) xs (ys ++ zs))) ∙ (and_both (not (has_label (xs ++ (ys ++ zs)) x)) (are_apart (xs ++ (ys ++ zs))) is).0)
@@ -72,11 +65,7 @@ AreOther ys x = Every (λ (y : List ℕ). same_label x y ≡ false) ys
 
 other_of : (ys : Labels) (x : List ℕ) → not (has_label ys x) ≡ true → AreOther ys x
 other_of [] x is = tt
-other_of (y ∷ ys) x is = let both = not_either (same_label x y) (has_label ys x) is in (off (same_label x y) both.0, other_of ys x both.1)
-  where
-    off : (b : Bool) → not b ≡ true → b ≡ false
-    off false e = refl
-    off true e = absurd (cc e)
+other_of (y ∷ ys) x is = let both = not_either (same_label x y) (has_label ys x) is in (not-true (same_label x y) both.0, other_of ys x both.1)
 
 pub pairs : (xs ys : Labels) → are_apart (xs ++ ys) ≡ true → Every (AreOther ys) xs
 pairs [] ys is = tt
@@ -92,10 +81,7 @@ behind_of P [] ys all = all
 behind_of P (x ∷ xs) ys all = behind_of P xs ys all.1
 
 below_of : (P : List ℕ → Type 0) (n : ℕ) (f : ℕ → Labels) (i : ℕ) → i < n → Every P (all_below n f) → Every P (f i)
-below_of P zero f i low all = absurd (none i low)
-  where
-    none : (i : ℕ) → i < 0 → ⊥
-    none i e = grind (arith, e)
+below_of P zero f i low all = absurd (none_below_zero i low)
 below_of P (suc n) f i low all = by (i == n) refl (λ less. below_of P n f i less (front_of P (all_below n f) (f n) all))
   where
     lower : (i == n) ≡ false → i < n
@@ -107,10 +93,7 @@ below_of P (suc n) f i low all = by (i == n) refl (λ less. below_of P n f i les
 
 -- those of an earlier client, and those of a later one
 pub earlier_other : (n : ℕ) (f : ℕ → Labels) → are_apart (all_below n f) ≡ true → (i j : ℕ) → i < j → j < n → Every (AreOther (f j)) (f i)
-earlier_other zero f is i j less low = absurd (none j low)
-  where
-    none : (j : ℕ) → j < 0 → ⊥
-    none j e = grind (arith, e)
+earlier_other zero f is i j less low = absurd (none_below_zero j low)
 earlier_other (suc n) f is i j less low = by (j == n) refl (λ below. earlier_other n f (apart_front (all_below n f) (f n) is) i j less below)
   where
     lower : (j == n) ≡ false → j < n
@@ -122,10 +105,7 @@ earlier_other (suc n) f is i j less low = by (j == n) refl (λ below. earlier_ot
 
 -- within one client
 pub own_other : (n : ℕ) (f : ℕ → Labels) → are_apart (all_below n f) ≡ true → (i : ℕ) → i < n → are_apart (f i) ≡ true
-own_other zero f is i low = absurd (none i low)
-  where
-    none : (i : ℕ) → i < 0 → ⊥
-    none i e = grind (arith, e)
+own_other zero f is i low = absurd (none_below_zero i low)
 own_other (suc n) f is i low = by (i == n) refl (own_other n f (apart_front (all_below n f) (f n) is) i)
   where
     lower : (i == n) ≡ false → i < n

@@ -1,58 +1,22 @@
 -- What the machine has of a transaction that began in the run, its home keeps the label of, as its owner's: so it is as a run begins, and after each
 -- move. So a request that comes home tells the home of no label that it has not.
-use Rattle.std.proofs.Common.{◌≡◌, ◌⊎◌, inl, inr, ℕ, ◌==◌, ◌<◌, ◌&&◌, Bool, true, false, List, [], ◌∷◌, ◌++◌, Option, Some, None, refl, sym, ap, subst, ◌∙◌, arith, nat_lt, if◌then◌else◌}
-use Rattle.std.proofs.lemmas.Bool.{eqb-true}
-use Rattle.std.proofs.lemmas.Bool.Decides.{nat_tests}
-use Rattle.std.specs.Prelude.{is_some}
-use Rattle.qs_base.proofs.Same.{same_tid-self}
-use Rattle.qs_base.specs.declared.identifiers.ClientNo.{ClientNo}
-use Rattle.qs_base.specs.declared.identifiers.NodeNo.{NodeNo}
-use Rattle.qs_base.specs.declared.identifiers.Tid.{Tid}
-use Rattle.qs_book_journal.specs.declared.entry.Act.{Act}
+use Rattle.qs_world_runs.proofs.Words.{◌≡◌, ◌⊎◌, inl, inr, ℕ, ◌==◌, ◌<◌, ◌&&◌, Bool, true, false, List, [], ◌∷◌, ◌++◌, Option, Some, None, refl, sym, ap, subst, ◌∙◌, arith, nat_lt, if◌then◌else◌, eqb-true, eqb-false, nat_tests, is_some, same_tid-self, ClientNo, NodeNo, Tid, Act, CrashCause, Entry, Begun, Inv, BookValue, find_transaction, book_after, effect, TransactionValue, Request, RequestNo, Op, Record, recovered_of, after_step, effects_of, step_work, Event, Setting, book_of, opened_from}
+use Rattle.qs_world_runs.proofs.Words.{Clock, Commanded, Cut, Handed, Meet, Move, Noticed, Queues, Rise, Source, Step, Stop, cut_log, cut_with, event_of, may_move, moved, risen_host, step_with, stepped_host, stopped, entries_of, entry_of, Opening, World, start, from_client, from_node, from_notice, StepMay, step_may, node_stopped, steady_gives, Every, IsWithin, HoldsNodeAt, same_or_apart, Begins, Turning, by_entry, opening_empty, HoldsOps, step_same, Turns, MakesStep, Joined, book_in, AreOwned}
+use Rattle.qs_world_runs.proofs.Words.{InStep, trace_of, eqb-self, some_same}
 use Rattle.qs_book_journal.specs.declared.entry.Act.TheVariants as acts
-use Rattle.qs_book_journal.specs.declared.entry.CrashCause.{CrashCause}
-use Rattle.qs_book_journal.specs.declared.entry.Entry.{Entry}
-use Rattle.qs_node_kept.specs.declared.kept.KeptLabel.{KeptLabel}
-use Rattle.qs_book_laws.proofs.Outcomes.{Inv}
 use Rattle.qs_book_laws.proofs.Steps.{stepped}
-use Rattle.qs_book_machine.specs.Book.{BookValue, find_transaction}
-use Rattle.qs_book_machine.specs.Lawful.{IsLawful, book_after, effect}
-use Rattle.qs_book_machine.specs.Transaction.{TransactionValue}
-use Rattle.qs_book_machine.specs.declared.transaction.Request.{Request}
-use Rattle.qs_book_machine.specs.declared.transaction.RequestNo.{RequestNo}
-use Rattle.qs_ops.specs.declared.operation.Op.{Op}
+use Rattle.qs_book_machine.specs.Lawful.{IsLawful}
 use Rattle.qs_packet.specs.declared.message.Message.TheVariants as messages
-use Rattle.qs_record.specs.declared.record.Record.{Record}
-use Rattle.qs_node_step.specs.Opening.{recovered_of}
 use Rattle.qs_node_step.specs.State.{NodeValue}
-use Rattle.qs_node_step.specs.Step.{after_step, effects_of, step_work}
-use Rattle.qs_node_step.specs.declared.event.Event.{Event}
 use Rattle.qs_node_step.specs.declared.event.Event.TheVariants as events
-use Rattle.qs_node_step.specs.declared.setting.Setting.{Setting}
-use Rattle.qs_world.specs.Histories.{book_of, opened_from}
-use Rattle.qs_world.specs.Moves.{Clock, Commanded, Cut, Handed, Meet, Move, Noticed, Queues, Rise, Source, Step, Stop, cut_log, cut_with, event_of, may_move, moved, risen_host, step_with, stepped_host, stopped}
-use Rattle.qs_world.specs.Posting.{entries_of, entry_of}
-use Rattle.qs_world.specs.World.{Opening, World, start}
-use Rattle.qs_world_refine.proofs.EachMay.{FromNode, from_client, from_node, from_notice}
-use Rattle.qs_world_refine.proofs.MoveGoes.{StepMay, step_may}
-use Rattle.qs_world_refine.proofs.StepAll.{node_stopped}
-use Rattle.qs_world_refine.proofs.SteadyFrom.{steady_gives}
-use Rattle.qs_world_lawful.specs.Logs.{Every}
+use Rattle.qs_world_refine.proofs.EachMay.{FromNode}
 use Rattle.qs_world_lawful.specs.Parcels.{IsBetween}
-use Rattle.qs_world_lawful.specs.Waits.{IsWithin}
-use Rattle.qs_world_lawful.specs.Worlds.{HoldsNodeAt}
-use Rattle.qs_world_lawful.proofs.Apart.{Apart, same_or_apart}
-use Rattle.qs_world_lawful.proofs.EntryTurns.{Begins, Turning, by_entry}
+use Rattle.qs_world_lawful.proofs.Apart.{Apart}
 use Rattle.qs_world_lawful.proofs.GivenByWorld.{message_between}
-use Rattle.qs_world_lawful.proofs.LastsOpening.{opening_empty}
-use Rattle.qs_world_lawful.proofs.OtherWays.{HoldsOps}
-use Rattle.qs_world_lawful.proofs.SameSettings.{step_same}
-use Rattle.qs_world_lawful.proofs.Turning.{Turns, stood}
-use Rattle.qs_world_runs.specs.Agrees.{MakesStep}
-use Rattle.qs_world_runs.specs.Joined.{Joined, LabelsAt, book_in}
-use Rattle.qs_world_runs.specs.Labels.{AreOwned, HoldsLabels, is_owned_in}
-use Rattle.qs_world_runs.specs.StepLaws.{InStep, KeepsLabels}
-use Rattle.qs_world_runs.specs.Traces.{trace_of}
+use Rattle.qs_world_lawful.proofs.Turning.{stood}
+use Rattle.qs_world_runs.specs.Joined.{LabelsAt}
+use Rattle.qs_world_runs.specs.Labels.{HoldsLabels, is_owned_in}
+use Rattle.qs_world_runs.specs.StepLaws.{KeepsLabels}
 use Rattle.qs_world_runs.proofs.JoinedParts.{book_on, lawful_more}
 use Rattle.qs_world_runs.proofs.JoinedWays as ways
 use Rattle.qs_world_runs.proofs.JoinedWays.{lasts_now}
@@ -60,9 +24,6 @@ use Rattle.qs_world_runs.proofs.LabelsKept.{AsksOwned, HasLabel, Labelled, step_
 use Rattle.qs_world_runs.proofs.StoodIdle.{requests_owned}
 use Rattle.qs_world_runs.proofs.WaysEntries.{standing}
 use Rattle.qs_world_runs.proofs.WaysServed.{came_from, waiting}
-
-one_of : {A : Type 0} {x y : A} → Some x ≡ Some y → x ≡ y
-one_of e = cc e
 
 -- ---- what begins in a part of a history
 
@@ -93,7 +54,7 @@ module _ (P : Opening → World → Type 0) (o : Opening) (world : World) (j : J
   old = book_in o world
 
   -- the labels of one node, after what was entered
-  labels_on : (new : World) (more : List Entry) → new.journal ≡ world.journal ++ more → IsLawful (book_of o) new.journal → (here : NodeNo) (labels later : List KeptLabel) → HoldsLabels old here labels
+  labels_on : (new : World) (more : List Entry) → new.journal ≡ world.journal ++ more → IsLawful (book_of o) new.journal → (here : NodeNo) (labels later : List Begun) → HoldsLabels old here labels
       → ((tid : Tid) → is_owned_in labels tid ≡ true → is_owned_in later tid ≡ true) → Every (AreOwned here later) later → Every (AsItBegins (λ (tid : Tid). tid.home ≡ here → is_owned_in later tid ≡ true)) more → HoldsLabels (book_in o new) here later
   labels_on new more journal lawful here labels later h grows owned begins = record {
     owned = owned;
@@ -152,11 +113,8 @@ module _ (P : Opening → World → Type 0) (o : Opening) (world : World) (j : J
 
             came : came_from m event tid member.server number ≡ op ∷ []
             came = ap (λ (e : Event). came_from m e tid member.server number) (is ∙ ap (λ (p : NodeNo). events.Received p (messages.Request tid label member number issuer op)) peer_is)
-                ∙ here (m == m) (same_tid-self tid) (itself m) (itself member.server.0) (itself number)
+                ∙ here (m == m) (same_tid-self tid) (eqb-self m) (eqb-self member.server.0) (eqb-self number)
               where
-                itself : (i : ℕ) → (i == i) ≡ true
-                itself i = grind (arith, nat_tests)
-
                 here : (a : Bool) {b c d : Bool} → b ≡ true → a ≡ true → c ≡ true → d ≡ true → (if a then (if b && (c && d) then op ∷ [] else []) else []) ≡ op ∷ []
                 here a p q r s = rw (q, p, r, s) refl
 
@@ -191,8 +149,8 @@ module _ (P : Opening → World → Type 0) (o : Opening) (world : World) (j : J
         by : (s : Source) → event_of world n stamp s ≡ Some event → is_owned_in node.kept.now.labels tid ≡ true
         by (Commanded k) comes = let from = from_client world n k event (steady_gives world j.shown.steady j.shown.listed) comes in other _ from.is (λ e. cc e)
         by (Handed m) comes = handed m comes
-        by Queues comes = other events.ServeAll (sym (one_of comes)) (λ e. cc e)
-        by Clock comes = other events.Tick (sym (one_of comes)) (λ e. cc e)
+        by Queues comes = other events.ServeAll (sym (some_same comes)) (λ e. cc e)
+        by Clock comes = other events.Tick (sym (some_same comes)) (λ e. cc e)
         by (Noticed m new) comes = other _ (from_notice world n stamp m new event comes).is (λ e. cc e)
 
     labelled : Labelled node.setting.node node.kept.now.labels (trace_of (step_work node event free))
@@ -205,17 +163,14 @@ module _ (P : Opening → World → Type 0) (o : Opening) (world : World) (j : J
     own_labels = subst (λ (s : Setting). Every (AreOwned s.node (after_step node event free).kept.saved.labels) (after_step node event free).kept.saved.labels) (sym setting_is) labelled.owned
 
     -- what it begins
-    all_begun : (here : NodeNo) (labels : List KeptLabel) (es : List Act) → Every (HasLabel labels) es → Every (AsItBegins (λ (tid : Tid). tid.home ≡ here → is_owned_in labels tid ≡ true)) (entries_of n stamp es)
+    all_begun : (here : NodeNo) (labels : List Begun) (es : List Act) → Every (HasLabel labels) es → Every (AsItBegins (λ (tid : Tid). tid.home ≡ here → is_owned_in labels tid ≡ true)) (entries_of n stamp es)
     all_begun here labels [] all = tt
     all_begun here labels (act ∷ es) all = ((λ tid label client is home at_home. subst (HasLabel labels) is all.0), all_begun here labels es all.1)
 
     -- the others begin nothing of their own in it
-    none_begun : (k : ℕ) → (k == n) ≡ false → k < world.size → (labels : List KeptLabel) (es : List Act) → Every (AsItBegins (λ (tid : Tid). tid.home ≡ (world.hosts k).node.setting.node → is_owned_in labels tid ≡ true)) (entries_of n stamp es)
+    none_begun : (k : ℕ) → (k == n) ≡ false → k < world.size → (labels : List Begun) (es : List Act) → Every (AsItBegins (λ (tid : Tid). tid.home ≡ (world.hosts k).node.setting.node → is_owned_in labels tid ≡ true)) (entries_of n stamp es)
     none_begun k far low labels [] = tt
-    none_begun k far low labels (act ∷ es) = ((λ tid label client is home at_home. absurd (off k n far (sym (j.held.nodes k low).node ∙ (ap (λ (h : NodeNo). h.0) (sym at_home) ∙ home)))), none_begun k far low labels es)
-      where
-        off : (a b : ℕ) → (a == b) ≡ false → a ≡ b → ⊥
-        off a b far is = let near : (a == b) ≡ true = grind (arith, nat_tests, is) in let both : true ≡ false = sym near ∙ far in cc (both)
+    none_begun k far low labels (act ∷ es) = ((λ tid label client is home at_home. absurd (eqb-false k n far (sym (j.held.nodes k low).node ∙ (ap (λ (h : NodeNo). h.0) (sym at_home) ∙ home)))), none_begun k far low labels es)
 
     stepped_labels : IsLawful (book_of o) (step_with world n stamp free source (Some event)).journal → LabelsAt o (step_with world n stamp free source (Some event))
     stepped_labels whole k low = by (k == n) refl

@@ -1,30 +1,19 @@
 -- No rule that decides, tells, asks, counts, refuses, inquires or begins an incarnation bears on the places of a transaction.
-use Rattle.std.proofs.Common.{◌≡◌, ℕ, ◌&&◌, not, Bool, true, false, List, Option, Some, None, refl, fold, if◌then◌else◌}
-use Rattle.std.specs.List.{list_any}
-use Rattle.qs_base.specs.declared.identifiers.NodeNo.{NodeNo}
+use Rattle.qs_world_runs.proofs.Words.{◌≡◌, ℕ, ◌&&◌, not, Bool, true, false, List, Option, Some, None, refl, fold, if◌then◌else◌, list_any, NodeNo, Tid, uncovered, listed, same_node, Cause, answer_known, answer_unknown, inquiry_at_home, inquiry_came, ask_came, asked_by, become_asked, block, closer_came, count, pass_unknown, refusal_came, enter, log_if, send, decide_as, due_endings, end_member, end_members, give_notices, keep_outcome, learn_member, learn_members, learners_at, begin_incarnation}
+use Rattle.qs_world_runs.proofs.Words.{find_gone, inquire, is_orphaned_by, known_tids, name_again, notice_decided, notice_part, notice_tid, peer_restarted, resume_home, resume_part, resume_tid, tell_again, Work, here, with_manager, with_node, with_queues, end_told, forget, is_other_node, keep_abort_told, learn, learn_unknown, names_at, record_learnt, take_names, take_outcome, take_told, tell_came, told_at_home, told_came, told_known, told_unknown, is_owed_by, is_undecided, Decision}
+use Rattle.qs_world_runs.proofs.Words.{Participant, LeavesPlaces}
 use Rattle.qs_base.specs.declared.identifiers.Outcome.{Outcome}
 use Rattle.qs_base.specs.declared.identifiers.Outcome.TheVariants as outcomes
-use Rattle.qs_base.specs.declared.identifiers.Tid.{Tid}
-use Rattle.qs_engage.specs.Engage.{uncovered}
-use Rattle.qs_engage.specs.Nodes.{listed, same_node}
 use Rattle.qs_ipc.specs.Ipc as ipc
 use Rattle.qs_book_journal.specs.declared.entry.Act.TheVariants as acts
-use Rattle.qs_ops.specs.declared.answer.Cause.{Cause}
 use Rattle.qs_ops.specs.declared.answer.Cause.TheVariants as causes
 use Rattle.qs_packet.specs.declared.message.Message.TheVariants as messages
 use Rattle.qs_record.specs.declared.record.Record.TheVariants as records
-use Rattle.qs_node_step.specs.Answering.{answer_known, answer_unknown, inquiry_at_home, inquiry_came, was_committed}
-use Rattle.qs_node_step.specs.Asking.{ask_came, asked_by, become_asked, block, closer_came, count, pass_unknown, refusal_came}
-use Rattle.qs_node_step.specs.Bringing.{enter, log, log_if, send}
-use Rattle.qs_node_step.specs.Deciding.{decide, decide_as, decide_commit, due_endings, end_member, end_members, give_notices, keep_outcome, learn_member, learn_members, learners_at}
-use Rattle.qs_node_step.specs.Restarts.{begin_incarnation, find_gone, inquire, is_orphaned_by, known_tids, name_again, notice_decided, notice_part, notice_tid, peer_restarted, resume_home, resume_part, resume_tid, tell_again}
-use Rattle.qs_node_step.specs.State.{Work, here, part_of, with_manager, with_node, with_queues}
-use Rattle.qs_node_step.specs.Telling.{end_told, forget, is_other_node, keep_abort_told, learn, learn_unknown, names_at, record_learnt, take_names, take_outcome, take_told, tell_came, told_at_home, told_came, told_known, told_unknown}
+use Rattle.qs_node_step.specs.Answering.{was_committed}
+use Rattle.qs_node_step.specs.Bringing.{log}
+use Rattle.qs_node_step.specs.Deciding.{decide, decide_commit}
+use Rattle.qs_node_step.specs.State.{part_of}
 use Rattle.qs_tm.specs.Manager as tm
-use Rattle.qs_tm.specs.Participant.{is_owed_by, is_undecided}
-use Rattle.qs_tm.specs.declared.manager.Decision.{Decision}
-use Rattle.qs_tm.specs.declared.participant.Participant.{Participant}
-use Rattle.qs_world_runs.specs.PlacesAmid.{LeavesPlaces}
 use Rattle.qs_world_runs.proofs.PlacesLeft.{drop_leaves, elim_leaves, entry_leaves, fold_leaves, if_leaves, itself_leaves, log_if_leaves, mark_leaves, same_leaves, send_each_leaves, send_leaves, then_leaves, undecided_leaves}
 
 module _ (t : Tid) where

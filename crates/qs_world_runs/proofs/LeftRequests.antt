@@ -1,46 +1,22 @@
 -- What is issued, served and voted for one transaction leaves the places of every other; and no reply bears on any.
-use Rattle.std.proofs.Common.{◌≡◌, ℕ, Bool, true, false, List, length, Option, Some, None, refl, sym, ap, subst, ◌∙◌, arith}
-use Rattle.std.proofs.lemmas.Bool.Decides.{nat_tests}
-use Rattle.std.specs.BTreeMap.{is_at}
-use Rattle.std.specs.List.{filter}
-use Rattle.std.specs.Map.{lookup}
-use Rattle.qs_base.specs.Order.{same_tid}
-use Rattle.qs_base.specs.declared.identifiers.ClientNo.{ClientNo}
-use Rattle.qs_base.specs.declared.identifiers.Member.{Member}
-use Rattle.qs_base.specs.declared.identifiers.NodeNo.{NodeNo}
-use Rattle.qs_base.specs.declared.identifiers.ServerNo.{ServerNo}
-use Rattle.qs_base.specs.declared.identifiers.Tid.{Tid}
-use Rattle.qs_engage.specs.Nodes.{same_node}
-use Rattle.qs_engage.specs.declared.engage.Engaged.{Engaged}
+use Rattle.qs_world_runs.proofs.Words.{◌≡◌, ℕ, Bool, true, false, List, length, Option, Some, None, refl, sym, ap, subst, ◌∙◌, arith, nat_tests, is_at, filter, lookup, same_tid, ClientNo, Member, NodeNo, ServerNo, Tid, same_node, Engaged, IpcValue, queue_at, Delivery, Op, Reply, Vote, answer_of, Note, after_serving, client_of, is_client, answer, enter, member_here, send, end_members, answer_issuer, ask_on, enqueue, enter_issue, is_asked, issue, issue_as, issue_away, issue_here, label_of}
+use Rattle.qs_world_runs.proofs.Words.{reply_came, take_reply, waits_as, with_local, change_served, cover_from, engage, enter_serve, is_dropped, learn_label, lent_to, make_loan, put_label, request_came, serve, take_in, Work, change_server, client_cmp, here, with_doings, with_manager, with_queues, change_count, due_votes, enter_vote, issue_note, log_vote, owes_note, vote_next, vote_pass, vote_with, is_by_files, Outstanding, LeavesPlaces}
 use Rattle.qs_engage.specs.declared.engage.Engaged.TheVariants as engagements
 use Rattle.qs_ipc.specs.Ipc as ipc
-use Rattle.qs_ipc.specs.Ipc.{IpcValue, queue_at}
 use Rattle.qs_ipc.specs.Queue.{is_for}
-use Rattle.qs_ipc.specs.declared.delivery.Delivery.{Delivery}
 use Rattle.qs_book_journal.specs.declared.entry.Act.TheVariants as acts
-use Rattle.qs_ops.specs.declared.operation.Op.{Op}
-use Rattle.qs_ops.specs.declared.reply.Reply.{Reply}
-use Rattle.qs_ops.specs.declared.vote.Vote.{Vote}
 use Rattle.qs_ops.specs.declared.vote.Vote.TheVariants as votes
-use Rattle.qs_ops.specs.Operations.{answer_of}
-use Rattle.qs_ops.specs.declared.operation.Op.TheVariants.{Note}
 use Rattle.qs_packet.specs.declared.message.Message.TheVariants as messages
-use Rattle.qs_ops.specs.Server.{after_serving}
-use Rattle.qs_node_servers.specs.Servers.{audit_no, client_of, is_client}
+use Rattle.qs_node_servers.specs.Servers.{audit_no}
 use Rattle.qs_tm.specs.Members.{files_no}
-use Rattle.qs_node_step.specs.Bringing.{answer, enter, member_here, send}
-use Rattle.qs_node_step.specs.Deciding.{end_members}
-use Rattle.qs_node_step.specs.Requests.{answer_issuer, ask_on, enqueue, enter_issue, is_asked, issue, issue_as, issue_away, issue_here, label_of, next_number, reply_came, take_reply, waits_as, with_local}
+use Rattle.qs_node_step.specs.Requests.{next_number}
 use Rattle.qs_node_step.specs.Requests as requests
-use Rattle.qs_node_step.specs.Serving.{change_served, cover_from, engage, enter_serve, is_dropped, learn_label, lent_to, make_loan, met, put_label, request_came, serve, take_in}
-use Rattle.qs_node_step.specs.State.{Work, change_server, client_cmp, here, part_of, with_doings, with_manager, with_queues}
-use Rattle.qs_node_step.specs.Voting.{change_count, note_text, due_votes, enter_vote, issue_note, log_vote, owes_note, vote_next, vote_pass, vote_with}
+use Rattle.qs_node_step.specs.Serving.{met}
+use Rattle.qs_node_step.specs.State.{part_of}
+use Rattle.qs_node_step.specs.Voting.{note_text}
 use Rattle.qs_tm.specs.Manager as tm
-use Rattle.qs_tm.specs.Participant.{is_by_files}
-use Rattle.qs_tm.specs.declared.participant.Outstanding.{Outstanding}
 use Rattle.qs_world_lawful.specs.Face.{is_numbered}
 use Rattle.qs_world_lawful.proofs.Faces.{waiting_apart}
-use Rattle.qs_world_runs.specs.PlacesAmid.{LeavesPlaces}
 use Rattle.qs_world_runs.proofs.LeftOutcomes.{ended_leaves}
 use Rattle.qs_world_runs.proofs.PlacesLeft.{answer_leaves, elim_leaves, entry_leaves, fold_leaves, if_leaves, itself_leaves, queues_leave, same_leaves, send_leaves, then_leaves}
 

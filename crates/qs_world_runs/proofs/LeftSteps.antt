@@ -1,37 +1,16 @@
 -- What is commanded, settled and served of one transaction leaves the places of every other; and no command bears on any but a request and a loan given back.
-use Rattle.std.proofs.Common.{◌≡◌, true, false, List, [], ◌∷◌, Option, Some, None, refl, if◌then◌else◌}
-use Rattle.qs_base.specs.Order.{same_tid}
-use Rattle.qs_base.specs.declared.identifiers.ClientNo.{ClientNo}
-use Rattle.qs_base.specs.declared.identifiers.Member.{Member}
+use Rattle.qs_world_runs.proofs.Words.{◌≡◌, true, false, List, [], ◌∷◌, Option, Some, None, refl, if◌then◌else◌, same_tid, ClientNo, Member, Tid, release_of, ScriptLine, first_untaken, give_back, take_first, Cause, Op, client_server, become_asked, where_undecided, is_void, take, take_command, yield, enter, ask, begin_as, begin_command, begin_or_refuse, enter_ask, refuse_begin, request_as, request_command, put_label, answer_superior, forget_rule, is_pass_due, is_quiet, may_answer, pass_rule}
+use Rattle.qs_world_runs.proofs.Words.{ready, ready_rule, refusal_goes_to, refuse_elsewhere, refuse_home, refuse_rule, say_yes, send_refusal, settle_tid, try, Work, doings_of, with_doings, with_kept, with_manager, forget, vote_pass, is_forgotten, BeginFault, Participant, LeavesPlaces}
 use Rattle.qs_base.specs.declared.identifiers.Outcome.TheVariants as outcomes
-use Rattle.qs_base.specs.declared.identifiers.Tid.{Tid}
-use Rattle.qs_engage.specs.Engage.{release_of}
 use Rattle.qs_book_journal.specs.declared.entry.Act.TheVariants as acts
-use Rattle.qs_book_journal.specs.declared.script_line.ScriptLine.{ScriptLine}
-use Rattle.qs_node_kept.specs.Loans.{first_untaken, give_back, take_first}
 use Rattle.qs_ops.specs.declared.answer.Answer.TheVariants as answers
-use Rattle.qs_ops.specs.declared.answer.Cause.{Cause}
 use Rattle.qs_ops.specs.declared.answer.Cause.TheVariants as causes
-use Rattle.qs_ops.specs.declared.operation.Op.{Op}
 use Rattle.qs_packet.specs.declared.message.Message.TheVariants as messages
-use Rattle.qs_node_servers.specs.Servers.{client_server}
-use Rattle.qs_node_step.specs.Asking.{become_asked, where_undecided}
-use Rattle.qs_node_step.specs.Borrowing.{is_void, take, take_command, yield}
-use Rattle.qs_node_step.specs.Bringing.{enter}
-use Rattle.qs_node_step.specs.Commands.{ask, begin_as, begin_command, begin_or_refuse, enter_ask, refuse_begin, request_as, request_command, with_issued}
+use Rattle.qs_node_step.specs.Commands.{with_issued}
 use Rattle.qs_node_step.specs.Deciding.{decide, decide_commit}
 use Rattle.qs_node_step.specs.Requests.{next_number}
-use Rattle.qs_node_step.specs.Serving.{put_label}
-use Rattle.qs_node_step.specs.Settling.{answer_superior, forget_rule, is_pass_due, is_quiet, may_answer, pass_rule, ready, ready_rule, refusal_goes_to, refuse_elsewhere, refuse_home, refuse_rule, say_yes, send_refusal, settle_tid, try}
-use Rattle.qs_node_step.specs.State.{Work, doings_of, with_doings, with_kept, with_manager}
-use Rattle.qs_node_step.specs.Telling.{forget}
-use Rattle.qs_node_step.specs.Voting.{vote_pass}
 use Rattle.qs_tm.specs.Manager as tm
-use Rattle.qs_tm.specs.Participant.{is_forgotten}
-use Rattle.qs_tm.specs.declared.manager.BeginFault.{BeginFault}
 use Rattle.qs_tm.specs.declared.manager.BeginFault.TheVariants as faults
-use Rattle.qs_tm.specs.declared.participant.Participant.{Participant}
-use Rattle.qs_world_runs.specs.PlacesAmid.{LeavesPlaces}
 use Rattle.qs_world_runs.proofs.LeftOutcomes.{become_leaves, commit_leaves, decide_leaves, forget_leaves}
 use Rattle.qs_world_runs.proofs.LeftRequests.{issue_as_leaves, vote_pass_leaves}
 use Rattle.qs_world_runs.proofs.PlacesLeft.{answer_leaves, elim_leaves, entry_leaves, fold_leaves, if_leaves, itself_leaves, same_leaves, send_leaves, then_leaves, undecided_leaves}

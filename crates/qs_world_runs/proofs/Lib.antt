@@ -1,3 +1,4 @@
+pub mod Words
 pub mod FreeLives
 pub mod Quiets
 pub mod CommitsPlaced

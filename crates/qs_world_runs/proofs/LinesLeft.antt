@@ -1,17 +1,9 @@
 -- What is left of a client's script: its labels behind those of its first line; and the client as its first line is handed to its node.
-use Rattle.std.proofs.Common.{◌≡◌, ℕ, ◌<◌, ◌==◌, Bool, true, false, List, [], ◌∷◌, ◌++◌, drop, zero, suc, Some, Less, Equal, Greater, refl, sym, ap, ◌∙◌, arith, nat_lt, if◌then◌else◌}
-use Rattle.std.specs.Prelude.{slice_get}
-use Rattle.std.specs.declared.cmp.Ordering.{Ordering}
-use Rattle.std.proofs.lemmas.Bool.{eqb-true}
-use Rattle.std.proofs.lemmas.Bool.Decides.{nat_tests}
+use Rattle.qs_world_runs.proofs.Words.{◌≡◌, ℕ, ◌<◌, ◌==◌, Bool, true, false, List, [], ◌∷◌, ◌++◌, drop, zero, suc, Some, Less, Equal, Greater, refl, sym, ap, ◌∙◌, arith, nat_lt, if◌then◌else◌, slice_get, Ordering, eqb-true, nat_tests, Command, ScriptLine, Clock, Commanded, Handed, Noticed, Queues, Source, handed_by, labels_begun, same_label, Client}
 use Rattle.std.proofs.lemmas.Map.Lookups.{exact_bytes}
 use Rattle.qs_base.specs.Order.{bytes_cmp}
-use Rattle.qs_book_journal.specs.declared.script_line.Command.{Command}
 use Rattle.qs_book_journal.specs.declared.script_line.Command.TheVariants as commands
-use Rattle.qs_book_journal.specs.declared.script_line.ScriptLine.{ScriptLine}
-use Rattle.qs_world.specs.Moves.{Clock, Commanded, Handed, Noticed, Queues, Source, handed_by}
-use Rattle.qs_world.specs.Openings.{label_begun, labels_begun, same_label}
-use Rattle.qs_world.specs.World.{Client}
+use Rattle.qs_world.specs.Openings.{label_begun}
 use Rattle.qs_world_runs.proofs.LabelsApart.{IsBehind}
 
 -- ---- labels
@@ -74,9 +66,6 @@ lines_handed (Handed m) cs k = refl
 lines_handed Queues cs k = refl
 lines_handed Clock cs k = refl
 lines_handed (Noticed m new) cs k = refl
-
-pub earlier : (i j : ℕ) → nat_lt i j ≡ true → i < j
-earlier i j is = grind (arith, nat_tests, is)
 
 pub later : (i j : ℕ) → nat_lt i j ≡ false → (i == j) ≡ false → j < i
 later i j is far = grind (arith, nat_tests, is, far)

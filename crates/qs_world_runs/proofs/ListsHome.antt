@@ -1,17 +1,9 @@
 -- Of the votes that a log has with a Commit beside them, which has a list, the transaction began at its node.
-use Rattle.std.proofs.Common.{◌≡◌, true, false, Bool, List, [], ◌∷◌, fold, not, refl, sym, subst, if◌then◌else◌}
-use Rattle.std.specs.List.{filter, list_all}
-use Rattle.qs_base.proofs.Same.{same_tid-true}
-use Rattle.qs_base.specs.declared.identifiers.NodeNo.{NodeNo}
-use Rattle.qs_base.specs.declared.identifiers.Tid.{Tid}
-use Rattle.qs_engage.specs.Nodes.{same_node}
-use Rattle.qs_record.specs.declared.record.Record.{Record}
+use Rattle.qs_world_runs.proofs.Words.{◌≡◌, true, false, Bool, List, [], ◌∷◌, fold, not, refl, sym, subst, if◌then◌else◌, filter, list_all, same_tid-true, NodeNo, Tid, same_node, Record, Prepared, Recovery, found_record, mark_committed, nothing_said, recovery, Every, every_append, every_filter, every_map}
 use Rattle.qs_record.specs.declared.record.Record.TheVariants as records
-use Rattle.qs_restart.specs.Recovery.{Prepared, Recovery, found_record, is_of, is_vote_of, mark_committed, nothing_said, recovery}
+use Rattle.qs_restart.specs.Recovery.{is_of, is_vote_of}
 use Rattle.qs_world_refine.specs.Begun.{fits_record, is_list_at}
 use Rattle.qs_world_refine.proofs.SoundParts.{and_both}
-use Rattle.qs_world_lawful.specs.Logs.{Every}
-use Rattle.qs_world_lawful.proofs.LogRecords.{every_append, every_filter, every_map}
 
 module _ (past : Tid → Bool) (me : NodeNo) where
   abbrev pub IsHomed : Prepared → Type 0

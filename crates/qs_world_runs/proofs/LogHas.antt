@@ -1,26 +1,11 @@
 -- A vote that the log has, or whose Commit it has, it has with more records too, but where one of these ends its transaction without a Commit; and so it has a vote whose Prepare is among them.
-use Rattle.std.proofs.Common.{◌≡◌, inl, inr, ℕ, ◌==◌, ◌&&◌, ◌||◌, not, Bool, true, false, List, [], ◌∷◌, ◌++◌, refl, sym, ap, subst, ◌∙◌, fold, map, arith, nat_le}
-use Rattle.std.proofs.lemmas.Bool.Decides.{nat_tests}
-use Rattle.std.specs.List.{filter, list_any}
-use Rattle.qs_base.proofs.Same.{same_tid-true, same_tid-self}
-use Rattle.qs_base.specs.Order.{same_tid}
-use Rattle.qs_base.specs.declared.identifiers.NodeNo.{NodeNo}
-use Rattle.qs_base.specs.declared.identifiers.ServerNo.{ServerNo}
-use Rattle.qs_base.specs.declared.identifiers.Tid.{Tid}
+use Rattle.qs_world_runs.proofs.Words.{◌≡◌, inl, inr, ℕ, ◌==◌, ◌&&◌, ◌||◌, not, Bool, true, false, List, [], ◌∷◌, ◌++◌, refl, sym, ap, subst, ◌∙◌, fold, map, arith, nat_le, nat_tests, filter, list_any, same_tid-true, same_tid-self, same_tid, NodeNo, ServerNo, Tid, is_among, Voter, Op, Record, Prepared, Recovery, found_record, mark_committed, names_transaction, is_aborted_of, is_end_of, is_found_in, of_votes, to_votes, is_prepare_at, and_parts, eqb-true, or_parts, eqb-self}
 use Rattle.qs_book_machine.specs.Nodes as machine
-use Rattle.qs_book_machine.specs.Restart.{is_among}
-use Rattle.qs_book_machine.specs.declared.state.Voter.{Voter}
-use Rattle.qs_ops.specs.declared.operation.Op.{Op}
-use Rattle.qs_record.specs.declared.record.Record.{Record}
 use Rattle.qs_record.specs.declared.record.Record.TheVariants as made
-use Rattle.qs_restart.specs.Recovery.{Prepared, Recovery, ended, found_commit, found_record, is_of, is_vote_of, mark_committed, names_transaction}
-use Rattle.qs_world_refine.proofs.TurnOn.{is_aborted_of, is_end_of}
-use Rattle.qs_world_lawful.proofs.LogRecords.{among_last, among_more, any_append, any_filter, found_is, is_found, is_found_in, of_votes, to_votes}
-use Rattle.qs_world_runs.specs.OnRecord.{IsInLog, is_prepare_at}
-
-or_both : (a b : Bool) → (a || b) ≡ false → (a ≡ false) × (b ≡ false)
-or_both true b is = absurd (cc is)
-or_both false b is = (refl, is)
+use Rattle.qs_restart.specs.Recovery.{ended, found_commit, is_of, is_vote_of}
+use Rattle.qs_world_lawful.proofs.LogRecords.{among_last, among_more, any_append, any_filter, found_is, is_found}
+use Rattle.qs_world_runs.specs.OnRecord.{IsInLog}
+use Rattle.std.proofs.lemmas.Bool.{not_from_false}
 
 -- the Commits of a log stay
 pub committed_one : (tid : Tid) (rec : Record) (log : Recovery) → is_among log.committed tid ≡ true → is_among (found_record log rec).committed tid ≡ true
@@ -49,22 +34,12 @@ module _ (tid : Tid) (s : ℕ) (named : names_transaction tid ≡ true) where
   least : (n : ℕ) → nat_le 0 n ≡ true
   least n = grind (arith, nat_tests)
 
-  itself : (n : ℕ) → (n == n) ≡ true
-  itself n = grind (arith, nat_tests)
-
-  number_is : (m n : ℕ) → (m == n) ≡ true → m ≡ n
-  number_is m n e = grind (arith, nat_tests, e)
-
   -- its Prepare
   pub put_has : (t : Tid) (server : ServerNo) (covers : ℕ) (changes : List Op) (log : Recovery) → is_prepare_at tid s (made.Prepare t server covers changes) ≡ true → IsInLog (found_record log (made.Prepare t server covers changes)) at
   put_has t server covers changes log is = inr (of_votes at 0 (found_record log (made.Prepare t server covers changes)) (one_more (filter (λ other. not (is_vote_of t server other)) log.prepared) (record { tid = t; server = server; covers = covers; changes = changes; committed = false }) found))
     where
-      both : (a b : Bool) → (a && b) ≡ true → (a ≡ true) × (b ≡ true)
-      both true b e = (refl, e)
-      both false b e = absurd (cc e)
-
       found : is_found at 0 (record { tid = t; server = server; covers = covers; changes = changes; committed = false }) ≡ true
-      found = let p = both (same_tid t tid) (server.0 == s) is in rw (subst (λ (x : Tid). names_transaction x ≡ true) (sym (same_tid-true t tid p.0)) named, p.0, p.1, least covers) refl
+      found = let p = and_parts (same_tid t tid) (server.0 == s) is in rw (subst (λ (x : Tid). names_transaction x ≡ true) (sym (same_tid-true t tid p.0)) named, p.0, p.1, least covers) refl
 
   marked_found : (t : Tid) (votes : List Prepared) → is_found_in at 0 (map (mark_committed t) votes) ≡ is_found_in at 0 votes
   marked_found t [] = refl
@@ -78,11 +53,8 @@ module _ (tid : Tid) (s : ℕ) (named : names_transaction tid ≡ true) where
   ended_has : (t : Tid) (log : Recovery) → same_tid tid t ≡ false → is_found_in at 0 log.prepared ≡ true → is_found_in at 0 (ended t log).prepared ≡ true
   ended_has t log far found = any_filter (is_found at 0) (λ vote. not (is_of t vote)) passes log.prepared found
     where
-      off : (b : Bool) → b ≡ false → not b ≡ true
-      off b is = rw is refl
-
       passes : (vote : Prepared) → is_found at 0 vote ≡ true → not (is_of t vote) ≡ true
-      passes vote is = off (same_tid vote.tid t) (subst (λ (x : Tid). same_tid x t ≡ false) (sym (found_is at 0 vote is).0) far)
+      passes vote is = not_from_false (same_tid vote.tid t) (subst (λ (x : Tid). same_tid x t ≡ false) (sym (found_is at 0 vote is).0) far)
 
   prepare_has : (t : Tid) (server : ServerNo) (covers : ℕ) (changes : List Op) (log : Recovery) → is_prepare_at tid s (made.Prepare t server covers changes) ≡ false → is_found_in at 0 log.prepared ≡ true → IsInLog (found_record log (made.Prepare t server covers changes)) at
   prepare_has t server covers changes log far found = inr (of_votes at 0 (found_record log (made.Prepare t server covers changes)) (any_append (is_found at 0) (filter (λ other. not (is_vote_of t server other)) log.prepared) _ (inl (any_filter (is_found at 0) (λ other. not (is_vote_of t server other)) passes log.prepared found))))
@@ -93,16 +65,12 @@ module _ (tid : Tid) (s : ℕ) (named : names_transaction tid ≡ true) where
           its : (vote.tid ≡ tid) × ((vote.server.0 == s) ≡ true)
           its = found_is at 0 vote is
 
-          both : (a b : Bool) → (a && b) ≡ true → (a ≡ true) × (b ≡ true)
-          both true b e = (refl, e)
-          both false b e = absurd (cc e)
-
           by : (b : Bool) → is_vote_of t server vote ≡ b → not b ≡ true
           by false e = refl
-          by true e = let p = both (same_tid vote.tid t) (vote.server.0 == server.0) e in
+          by true e = let p = and_parts (same_tid vote.tid t) (vote.server.0 == server.0) e in
               let same : tid ≡ t = sym its.0 ∙ same_tid-true vote.tid t p.0 in
-              let number : server.0 ≡ s = sym (number_is vote.server.0 server.0 p.1) ∙ number_is vote.server.0 s its.1 in
-              let own : (same_tid t tid && (server.0 == s)) ≡ true = rw (subst (λ (x : Tid). same_tid t x ≡ true) (sym same) (same_tid-self t), subst (λ (k : ℕ). (server.0 == k) ≡ true) number (itself server.0)) refl in
+              let number : server.0 ≡ s = sym (eqb-true vote.server.0 server.0 p.1) ∙ eqb-true vote.server.0 s its.1 in
+              let own : (same_tid t tid && (server.0 == s)) ≡ true = rw (subst (λ (x : Tid). same_tid t x ≡ true) (sym same) (same_tid-self t), subst (λ (k : ℕ). (server.0 == k) ≡ true) number (eqb-self server.0)) refl in
               absurd (cc (own, far))
 
   -- one record more
@@ -132,8 +100,8 @@ module _ (tid : Tid) (s : ℕ) (named : names_transaction tid ≡ true) where
   pub has_all : (records : List Record) (log : Recovery) → list_any (is_aborted_of tid) records ≡ false → list_any (is_end_of tid) records ≡ false → IsInLog log at → IsInLog (fold found_record log records) at
   has_all [] log stands unended has = has
   has_all (rec ∷ records) log stands unended has =
-      let a = or_both (is_aborted_of tid rec) (list_any (is_aborted_of tid) records) stands in
-      let e = or_both (is_end_of tid rec) (list_any (is_end_of tid) records) unended in
+      let a = or_parts (is_aborted_of tid rec) (list_any (is_aborted_of tid) records) stands in
+      let e = or_parts (is_end_of tid rec) (list_any (is_end_of tid) records) unended in
       has_all records (found_record log rec) a.1 e.1 (has_one rec log a.0 e.0 has)
 
   -- its Prepare among them
@@ -148,10 +116,10 @@ module _ (tid : Tid) (s : ℕ) (named : names_transaction tid ≡ true) where
   put_all (rec ∷ records) log stands unended put = by (is_prepare_at tid s rec) refl put (put_all records (found_record log rec))
     where
       a : (is_aborted_of tid rec ≡ false) × (list_any (is_aborted_of tid) records ≡ false)
-      a = or_both (is_aborted_of tid rec) (list_any (is_aborted_of tid) records) stands
+      a = or_parts (is_aborted_of tid rec) (list_any (is_aborted_of tid) records) stands
 
       e : (is_end_of tid rec ≡ false) × (list_any (is_end_of tid) records ≡ false)
-      e = or_both (is_end_of tid rec) (list_any (is_end_of tid) records) unended
+      e = or_parts (is_end_of tid rec) (list_any (is_end_of tid) records) unended
 
       by : (b : Bool) → is_prepare_at tid s rec ≡ b → (b || list_any (is_prepare_at tid s) records) ≡ true
           → (list_any (is_aborted_of tid) records ≡ false → list_any (is_end_of tid) records ≡ false → list_any (is_prepare_at tid s) records ≡ true → IsInLog (fold found_record (found_record log rec) records) at)

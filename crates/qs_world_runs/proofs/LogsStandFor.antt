@@ -1,29 +1,12 @@
 -- After a crash and a restart all stands together again, so what the node took up from its log is what the machine has.
-use Rattle.std.proofs.Common.{◌≡◌, ℕ, ◌<◌, ◌==◌, ◌&&◌, not, nat_lt, Bool, true, Some, refl, sym, subst, ◌∙◌, arith, if◌then◌else◌}
-use Rattle.std.proofs.lemmas.Bool.Decides.{nat_tests}
-use Rattle.std.specs.Prelude.{slice_get}
-use Rattle.qs_book_machine.specs.Book.{BookValue}
+use Rattle.qs_world_runs.proofs.Words.{◌≡◌, ℕ, ◌<◌, ◌==◌, ◌&&◌, not, nat_lt, Bool, true, Some, refl, sym, subst, ◌∙◌, if◌then◌else◌, slice_get, BookValue, recovery, Rise, may_move, moved, Opening, World, HoldsStill, HoldsLogged, HoldsNodeAt, HoldsUp, of_some, Joined, book_in, AlongRun, eqb-self, ltb-true}
 use Rattle.qs_book_machine.specs.Nodes as machine
-use Rattle.qs_restart.specs.Recovery.{recovery}
-use Rattle.qs_world.specs.Moves.{Rise, is_in_order, may_move, moved, stamp_limit}
-use Rattle.qs_world.specs.World.{Opening, World}
+use Rattle.qs_world.specs.Moves.{is_in_order, stamp_limit}
 use Rattle.qs_world_refine.proofs.SoundParts.{and_both}
-use Rattle.qs_world_lawful.specs.Holds.{HoldsStill}
-use Rattle.qs_world_lawful.specs.Logged.{HoldsLogged}
 use Rattle.qs_world_lawful.specs.Tables.{HoldsServers, is_seen}
-use Rattle.qs_world_lawful.specs.Worlds.{HoldsNodeAt, HoldsUp}
-use Rattle.qs_world_lawful.proofs.Truths.{of_some}
-use Rattle.qs_world_runs.specs.Joined.{Joined, book_in}
-use Rattle.qs_world_runs.specs.AlongRun.{AlongRun}
 use Rattle.qs_world_runs.specs.StandsFor.{EachLogStandsFor, IsRestored}
 use Rattle.qs_world_runs.proofs.JoinedMoves.{each_move_joined}
 use Rattle.qs_world_runs.proofs.RunsGoOn.{runs_go}
-
-equal : (a : ℕ) → (a == a) ≡ true
-equal a = grind (arith, nat_tests)
-
-less_of : (a b : ℕ) → nat_lt a b ≡ true → a < b
-less_of a b is = grind (arith, nat_tests, is)
 
 module _ (o : Opening) (world : World) (n stamp inc : ℕ) (may : may_move world (Rise n stamp inc) ≡ true) (j : Joined AlongRun o (moved (Rise n stamp inc) world)) where
   abbrev after : World
@@ -39,10 +22,10 @@ module _ (o : Opening) (world : World) (n stamp inc : ℕ) (may : may_move world
   bounds = (and_both (nat_lt n world.size && nat_lt stamp stamp_limit) _ order).0
 
   low : n < world.size
-  low = less_of n world.size (and_both (nat_lt n world.size) _ bounds).0
+  low = ltb-true n world.size (and_both (nat_lt n world.size) _ bounds).0
 
   runs : after.channels.up n ≡ true
-  runs = picked (n == n) (equal n)
+  runs = picked (n == n) (eqb-self n)
     where
       picked : (b : Bool) → b ≡ true → (if b then true else world.channels.up n) ≡ true
       picked b is = rw is refl

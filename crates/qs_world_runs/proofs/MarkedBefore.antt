@@ -1,31 +1,13 @@
 -- What was asked for, and where a transaction was crossed, stands in the history before the place that is next: each entry marks its own place alone.
-use Rattle.std.proofs.Common.{◌≡◌, ℕ, ◌+◌, arith, Bool, true, false, List, [], ◌∷◌, Option, Some, None, Less, Equal, Greater, refl, sym, ap, subst, ◌∙◌, nat_lt}
-use Rattle.std.proofs.lemmas.Bool.Decides.{nat_tests}
-use Rattle.std.specs.BTreeMap.{insert_entry, is_at}
-use Rattle.std.specs.Map.{lookup}
-use Rattle.std.specs.Prelude.{is_some}
-use Rattle.std.specs.declared.cmp.Ordering.{Ordering}
-use Rattle.qs_base.specs.Order.{member_cmp}
-use Rattle.qs_base.specs.declared.identifiers.Member.{Member}
+use Rattle.qs_world_runs.proofs.Words.{◌≡◌, ℕ, ◌+◌, arith, Bool, true, false, List, [], ◌∷◌, Option, Some, None, Less, Equal, Greater, refl, sym, ap, subst, ◌∙◌, nat_lt, nat_tests, insert_entry, is_at, lookup, is_some, Ordering, member_cmp, Member, Tid, Act, Entry, Inv, Gives, GivesFor, Obliged, BookValue, borrower_at, book_after, effect, opening, TransactionValue, crossed_by, standing_request, Request, lasts_first, opening_empty, Here}
 use Rattle.qs_base.specs.declared.identifiers.Outcome.TheVariants as outcomes
-use Rattle.qs_base.specs.declared.identifiers.Tid.{Tid}
-use Rattle.qs_book_journal.specs.declared.entry.Act.{Act}
 use Rattle.qs_book_journal.specs.declared.entry.Act.TheVariants as acts
-use Rattle.qs_book_journal.specs.declared.entry.Entry.{Entry}
 use Rattle.qs_book_laws.proofs.Maps.{lookup_put, lookup_put_apart}
-use Rattle.qs_book_laws.proofs.Outcomes.{Inv}
 use Rattle.qs_book_laws.proofs.Steps.{stepped}
-use Rattle.qs_book_laws.proofs.Turns.{Gives, GivesFor, Obliged}
-use Rattle.qs_book_machine.specs.Book.{BookValue}
-use Rattle.qs_book_machine.specs.Clauses.{borrower_at}
-use Rattle.qs_book_machine.specs.Lawful.{IsLawful, book_after, effect}
-use Rattle.qs_book_machine.specs.Opening.{opening}
-use Rattle.qs_book_machine.specs.Transaction.{TransactionValue, crossed_by, crossed_from, is_before, standing_request}
-use Rattle.qs_book_machine.specs.declared.transaction.Request.{Request}
+use Rattle.qs_book_machine.specs.Lawful.{IsLawful}
+use Rattle.qs_book_machine.specs.Transaction.{crossed_from, is_before}
 use Rattle.qs_world_lawful.proofs.Keys.{member_exact, member_itself}
-use Rattle.qs_world_lawful.proofs.LastsOpening.{lasts_first, opening_empty}
 use Rattle.qs_world_runs.specs.CutVotes.{EachMarkedBefore, IsMarkedBefore}
-use Rattle.qs_world_runs.specs.PlacesAmid.{Here}
 use Rattle.qs_world_runs.proofs.PlacedActs.{step_here}
 
 -- ---- places

@@ -1,28 +1,15 @@
 -- A node gets to know a first incarnation of another: what it kept back goes on its way, where that runs; what else was on its way to it or back stays there, or dooms.
-use Rattle.std.proofs.Common.{◌≡◌, ◌⊎◌, inl, inr, ℕ, ◌+◌, ◌-◌, ◌<◌, ◌≤◌, ◌==◌, ◌&&◌, Bool, true, false, List, ◌++◌, drop, length, map, zero, suc, refl, sym, ap, subst, ◌∙◌, arith, if◌then◌else◌}
-use Rattle.std.proofs.lemmas.Bool.{eqb-true}
-use Rattle.std.proofs.lemmas.Bool.Decides.{nat_tests}
+use Rattle.qs_world_runs.proofs.Words.{◌≡◌, ◌⊎◌, inl, inr, ℕ, ◌+◌, ◌-◌, ◌<◌, ◌≤◌, ◌==◌, ◌&&◌, Bool, true, false, List, ◌++◌, drop, length, map, zero, suc, refl, sym, ap, subst, ◌∙◌, arith, if◌then◌else◌, eqb-true, ServerNo, Tid, Channels, with_at2, RequestNo, Parcel, World, IsDoomed, has_request, all_said, pending, pending_from, AreSound, Field, asked, field_of, message_of, waiting, zero_plus, zero_least, eqb-self}
 use Rattle.std.proofs.lemmas.List.{drop-append-le}
-use Rattle.qs_base.specs.declared.identifiers.ServerNo.{ServerNo}
-use Rattle.qs_base.specs.declared.identifiers.Tid.{Tid}
-use Rattle.qs_session_channels.specs.Channels.{Channels}
-use Rattle.qs_session_channels.specs.Network.{with_at2}
-use Rattle.qs_book_machine.specs.declared.transaction.RequestNo.{RequestNo}
 use Rattle.qs_node_step.specs.State.{NodeValue}
 use Rattle.qs_world.specs.Moves.{met}
-use Rattle.qs_world.specs.World.{Parcel, World}
 use Rattle.qs_world_agree.specs.World as machine
-use Rattle.qs_world_agree.specs.Doomed.{IsDoomed}
-use Rattle.qs_world_refine.specs.CommitLaws.{has_request}
-use Rattle.qs_world_refine.specs.Messages.{all_said}
 use Rattle.qs_world_lawful.specs.Face.{is_numbered, waiting_at}
-use Rattle.qs_world_lawful.specs.Parcels.{pending, pending_from}
-use Rattle.qs_world_lawful.specs.WayLaws.{AreSound}
 use Rattle.qs_world_lawful.proofs.WithinParts.{pending_last, pending_parts, pending_same}
-use Rattle.qs_world_runs.specs.Placed.{Field, asked, field_of, message_of, waiting}
 use Rattle.qs_world_runs.proofs.CommitsPlaced.{none_in}
 use Rattle.qs_world_runs.proofs.PlacedTx.{HasRoom, SameNodes}
 use Rattle.qs_world_runs.proofs.RisenFields.{asked_both, asked_in}
+use Rattle.qs_base_lemmas.proofs.Tests.{lt_apart, and_rest}
 
 module _ (tid : Tid) (world : World) (n stamp m j : ℕ) (v : machine.World) (on : world.channels.up n ≡ true) (apart : (m == n) ≡ false) (unknown : world.channels.peer n m ≡ 0) (begun : j ≤ world.channels.inc m)
     (sound : AreSound world.channels) (known : world.channels.peer m n ≤ world.channels.inc n)
@@ -50,9 +37,6 @@ module _ (tid : Tid) (world : World) (n stamp m j : ℕ) (v : machine.World) (on
       picked : (b : Bool) → (k == n) ≡ b → (if b then record (world.hosts n) { stamp = stamp } else world.hosts k).node ≡ (world.hosts k).node
       picked true near = ap (λ (i : ℕ). (world.hosts i).node) (sym (eqb-true k n near))
       picked false far = refl
-
-  itself : (k : ℕ) → (k == k) ≡ true
-  itself k = grind (arith, nat_tests)
 
   -- ---- what is kept back for others stays
 
@@ -83,7 +67,7 @@ module _ (tid : Tid) (world : World) (n stamp m j : ℕ) (v : machine.World) (on
         by true true from to off = absurd (cc off)
 
     own_at : (i : ℕ) → met_at n m i ≡ drop (length (c.handed n m i (c.inc m))) (with_at2 (c.posted n m) (c.inc n) j (c.posted n m (c.inc n) j ++ c.waits n m) i (c.inc m))
-    own_at i = rw (itself n, itself m) refl
+    own_at i = rw (eqb-self n, eqb-self m) refl
 
     peer_on : (a b : ℕ) → ((a == n) && (b == m)) ≡ false → after.channels.peer a b ≡ c.peer a b
     peer_on a b far = by (a == n) (b == m) refl refl far
@@ -113,15 +97,12 @@ module _ (tid : Tid) (world : World) (n stamp m j : ℕ) (v : machine.World) (on
         both : (p l : ℕ) → p ≤ l → p + (l - p) ≡ l
         both p l e = grind (arith, e)
 
-        before : (i l : ℕ) → i < l → (i == l) ≡ false
-        before i l e = grind (arith, nat_tests, e)
-
         at_last : met_at n m (c.inc n) ≡ at n m (c.inc n) ++ c.waits n m
-        at_last = own_at (c.inc n) ∙ (rw (itself (c.inc n), same) (ap (λ (k : ℕ). drop (length (c.handed n m (c.inc n) (c.inc m))) (c.posted n m (c.inc n) k ++ c.waits n m)) (sym (eqb-true (c.inc m) j same)))
+        at_last = own_at (c.inc n) ∙ (rw (eqb-self (c.inc n), same) (ap (λ (k : ℕ). drop (length (c.handed n m (c.inc n) (c.inc m))) (c.posted n m (c.inc n) k ++ c.waits n m)) (sym (eqb-true (c.inc m) j same)))
             ∙ drop-append-le (length (c.handed n m (c.inc n) (c.inc m))) (c.posted n m (c.inc n) (c.inc m)) (c.waits n m) (sound.within n m (c.inc n) (c.inc m)))
 
         less : (i : ℕ) → i < c.inc n → met_at n m i ≡ at n m i
-        less i e = own_at i ∙ rw (before i (c.inc n) e) refl
+        less i e = own_at i ∙ rw (lt_apart i (c.inc n) e) refl
 
         whole : pending_from (met_at n m) (after.channels.peer m n) ((c.inc n + 1) - after.channels.peer m n) ≡ pending_from (at n m) (c.peer m n) ((c.inc n + 1) - c.peer m n) ++ c.waits n m
         whole = ap (λ (p : ℕ). pending_from (met_at n m) p ((c.inc n + 1) - p)) (peer_on m n off_turned)
@@ -143,22 +124,19 @@ module _ (tid : Tid) (world : World) (n stamp m j : ℕ) (v : machine.World) (on
     -- from it: what earlier incarnations of it had is not taken any more
     sent_back : asked_in tid server number (pending_from (at m n) 0 j) ≡ 0 → asked tid server number (old.sent m n) ≡ asked tid server number (new.sent m n)
     sent_back none = ap (λ (ps : List Parcel). asked_in tid server number ps) parts ∙ (asked_both tid server number (pending_from (at m n) 0 j) (pending_from (at m n) j ((c.inc m + 1) - j)) ∙ (ap (λ (k : ℕ). k + asked_in tid server number (pending_from (at m n) j ((c.inc m + 1) - j))) none
-        ∙ (plain (asked_in tid server number (pending_from (at m n) j ((c.inc m + 1) - j))) ∙ ap (λ (ps : List Parcel). asked_in tid server number ps) (sym now))))
+        ∙ (zero_plus (asked_in tid server number (pending_from (at m n) j ((c.inc m + 1) - j))) ∙ ap (λ (ps : List Parcel). asked_in tid server number ps) (sym now))))
       where
-        plain : (k : ℕ) → 0 + k ≡ k
-        plain k = omega arith
-
         numbers : (i l : ℕ) → i ≤ l → (l + 1) - 0 ≡ i + ((l + 1) - i)
         numbers i l e = grind (arith, e)
 
         parts : pending_from (at m n) (c.peer n m) ((c.inc m + 1) - c.peer n m) ≡ pending_from (at m n) 0 j ++ pending_from (at m n) j ((c.inc m + 1) - j)
-        parts = ap (λ (k : ℕ). pending_from (at m n) k ((c.inc m + 1) - k)) unknown ∙ (ap (pending_from (at m n) 0) (numbers j (c.inc m) begun) ∙ (pending_parts (at m n) 0 j ((c.inc m + 1) - j) ∙ ap (λ (k : ℕ). pending_from (at m n) 0 j ++ pending_from (at m n) k ((c.inc m + 1) - j)) (plain j)))
+        parts = ap (λ (k : ℕ). pending_from (at m n) k ((c.inc m + 1) - k)) unknown ∙ (ap (pending_from (at m n) 0) (numbers j (c.inc m) begun) ∙ (pending_parts (at m n) 0 j ((c.inc m + 1) - j) ∙ ap (λ (k : ℕ). pending_from (at m n) 0 j ++ pending_from (at m n) k ((c.inc m + 1) - j)) (zero_plus j)))
 
         now : pending_from (met_at m n) (after.channels.peer n m) ((c.inc m + 1) - after.channels.peer n m) ≡ pending_from (at m n) j ((c.inc m + 1) - j)
         now = ap (λ (k : ℕ). pending_from (met_at m n) k ((c.inc m + 1) - k)) peer_now ∙ pending_same (met_at m n) (at m n) (at_others m n (rw apart refl)) j ((c.inc m + 1) - j)
           where
             peer_now : after.channels.peer n m ≡ j
-            peer_now = rw (itself n, itself m) refl
+            peer_now = rw (eqb-self n, eqb-self m) refl
 
   -- ---- what is nowhere any more asks for nothing, or dooms
 
@@ -247,17 +225,10 @@ module _ (tid : Tid) (world : World) (n stamp m j : ℕ) (v : machine.World) (on
             sums a b w x y p q = omega (arith, p, q)
 
     lost_way : from ≡ n → to ≡ m → (world.channels.up m && (world.channels.inc m == j)) ≡ false → NothingIn (c.waits n m) → HasRoom tid old new way
-    lost_way at_from at_to gone none = with_room (λ server up. at_pair server (subst (λ (k : ℕ). world.channels.up k ≡ true) at_to up)) (λ server down. least _ _ (kept_none server))
+    lost_way at_from at_to gone none = with_room (λ server up. at_pair server (subst (λ (k : ℕ). world.channels.up k ≡ true) at_to up)) (λ server down. zero_least _ _ (kept_none server))
       where
-        least : (a b : ℕ) → a ≡ 0 → a ≤ b
-        least a b p = omega (arith, p)
-
         kept_none : (server : ServerNo) → asked tid server way.number (old.kept from to) ≡ 0
         kept_none server = subst (λ (a : ℕ). asked tid server way.number (old.kept a to) ≡ 0) (sym at_from) (subst (λ (b : ℕ). asked tid server way.number (old.kept n b) ≡ 0) (sym at_to) (kept_own server way.number ∙ none server way.number))
-
-        second : (a b : Bool) → a ≡ true → (a && b) ≡ false → b ≡ false
-        second true b p off = off
-        second false b p off = absurd (cc p)
 
         at_pair : (server : ServerNo) → world.channels.up m ≡ true → asked tid server way.number (old.sent from to) + asked tid server way.number (old.kept from to) ≤ asked tid server way.number (new.sent from to) + asked tid server way.number (new.kept from to)
         at_pair server up = sums _ _ _ _ (kept_none server) sents
@@ -267,7 +238,7 @@ module _ (tid : Tid) (world : World) (n stamp m j : ℕ) (v : machine.World) (on
 
             sents : asked tid server way.number (old.sent from to) ≡ asked tid server way.number (new.sent from to)
             sents = subst (λ (a : ℕ). asked tid server way.number (old.sent a to) ≡ asked tid server way.number (new.sent a to)) (sym at_from) (subst (λ (b : ℕ). asked tid server way.number (old.sent n b) ≡ asked tid server way.number (new.sent n b)) (sym at_to)
-                (sent_past server way.number (second (world.channels.up m) (world.channels.inc m == j) up gone)))
+                (sent_past server way.number (and_rest (world.channels.up m) (world.channels.inc m == j) up gone)))
 
     pub room_then : IsDoomed v ⊎ HasRoom tid old new way
     room_then = by (from == n) (to == m) (to == n) (from == m) refl refl refl refl

@@ -1,15 +1,9 @@
 -- After each run another may follow: the nodes begin over their logs in the incarnations after their last ones.
-use Rattle.std.proofs.Common.{◌≡◌, ℕ, ◌+◌, ◌<◌, ◌==◌, ◌&&◌, nat_lt, true, refl, sym, subst, arith}
-use Rattle.std.proofs.lemmas.Bool.Decides.{nat_tests}
-use Rattle.qs_node_step.specs.declared.setting.Setting.{Setting}
-use Rattle.qs_world.specs.Moves.{client_count}
-use Rattle.qs_world.specs.Openings.{IsOpening, each_below, is_age, is_audit, is_format, is_script, is_setting}
-use Rattle.qs_world.specs.World.{Opening, World}
+use Rattle.qs_world_runs.proofs.Words.{◌≡◌, ℕ, ◌+◌, ◌<◌, ◌==◌, ◌&&◌, nat_lt, true, refl, sym, subst, arith, nat_tests, Setting, client_count, IsOpening, each_below, is_age, is_audit, Opening, World, Joined, AlongRun}
+use Rattle.qs_world.specs.Openings.{is_format, is_script, is_setting}
 use Rattle.qs_world_refine.proofs.SoundParts.{and_both}
 use Rattle.qs_world_lawful.proofs.CoherentOpenings.{each_is}
 use Rattle.qs_world_runs.specs.CoherentAgain.{EachRunMayFollow, IsNextOpening, next_of, next_setting}
-use Rattle.qs_world_runs.specs.Joined.{Joined}
-use Rattle.qs_world_runs.specs.AlongRun.{AlongRun}
 use Rattle.qs_world_runs.proofs.JoinedOver.{each_run_joined}
 use Rattle.qs_world_runs.proofs.NextOpening.{each_run_coherent, each_so}
 use Rattle.qs_world_runs.proofs.RunsGoOn.{runs_go}

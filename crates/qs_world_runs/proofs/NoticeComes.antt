@@ -1,22 +1,6 @@
 -- A later incarnation of another node becomes known: where no request of the transaction is left of the earlier ones, as many are on their way.
-use Rattle.std.proofs.Common.{◌≡◌, ℕ, ◌+◌, ◌-◌, ◌<◌, ◌≤◌, ◌==◌, ◌&&◌, not, Bool, true, false, List, [], ◌++◌, map, zero, suc, refl, sym, ap, subst, ◌∙◌, arith, if◌then◌else◌}
-use Rattle.std.proofs.lemmas.Bool.{eqb-true}
-use Rattle.std.proofs.lemmas.Bool.Decides.{nat_tests}
-use Rattle.qs_base.specs.declared.identifiers.ServerNo.{ServerNo}
-use Rattle.qs_base.specs.declared.identifiers.Tid.{Tid}
-use Rattle.qs_session_channels.specs.Channels.{Channels}
-use Rattle.qs_book_machine.specs.declared.transaction.RequestNo.{RequestNo}
-use Rattle.qs_packet.specs.declared.message.Message.{Message}
-use Rattle.qs_node_step.specs.State.{Work, work_on}
-use Rattle.qs_world.specs.Moves.{Noticed, taken_by}
-use Rattle.qs_world.specs.World.{Parcel, World}
-use Rattle.qs_world_refine.specs.Shows.{sent_to}
-use Rattle.qs_world_lawful.specs.GivenStep.{first_work}
-use Rattle.qs_world_lawful.specs.Parcels.{pending, pending_from}
-use Rattle.qs_world_runs.specs.Placed.{Field, asked, field_of, message_of, waiting}
-use Rattle.qs_world_runs.specs.PlacesAmid.{field_amid}
+use Rattle.qs_world_runs.proofs.Words.{◌≡◌, ℕ, ◌+◌, ◌-◌, ◌<◌, ◌≤◌, ◌==◌, ◌&&◌, not, Bool, true, false, List, [], ◌++◌, map, zero, suc, refl, sym, ap, subst, ◌∙◌, arith, if◌then◌else◌, le_refl, eqb-true, and_parts, nat_tests, ServerNo, Tid, Channels, RequestNo, Message, Work, work_on, Noticed, taken_by, Parcel, World, sent_to, first_work, pending, pending_from, Field, asked, field_of, message_of, waiting, field_amid, taken, eqb-self, zero_least, eq_le}
 use Rattle.qs_world_runs.specs.PlacesComes.{NoticeComes}
-use Rattle.qs_world_runs.specs.PlacesEnds.{taken}
 use Rattle.qs_world_runs.proofs.FieldBegins.{three_more}
 use Rattle.qs_world_runs.proofs.FieldTaken.{ask_more}
 use Rattle.qs_world_runs.proofs.LeftOutcomes.{begin_leaves}
@@ -24,19 +8,13 @@ use Rattle.qs_world_runs.proofs.PlacedActs.{open_grown}
 use Rattle.qs_world_runs.proofs.PlacedTx.{Grows, back, there}
 use Rattle.qs_world_runs.proofs.PlacesLeft.{asked_more}
 
-itself : (a : ℕ) → a ≤ a
-itself a = omega arith
-
-same : (a b : ℕ) → a ≡ b → a ≤ b
-same a b e = omega (arith, e)
-
 module _ (t : Tid) (server : ServerNo) (number : ℕ) where
   abbrev ask : List Parcel → ℕ
   ask ps = asked t server number (map message_of ps)
 
   -- what is of the incarnations that are passed over asks for nothing
   skipped : (f : ℕ → List Parcel) (top : ℕ) → ((i : ℕ) → i < top → ask (f i) ≡ 0) → (k i more j more_all : ℕ) → j ≡ k + i → more_all ≡ k + more → j ≤ top → ask (pending_from f i more_all) ≤ ask (pending_from f j more)
-  skipped f top each zero i more j more_all p q low = same (ask (pending_from f i more_all)) (ask (pending_from f j more)) (ap (λ (l : ℕ). ask (pending_from f i l)) (bare more more_all q) ∙ ap (λ (l : ℕ). ask (pending_from f l more)) (sym (bare i j p)))
+  skipped f top each zero i more j more_all p q low = eq_le (ask (pending_from f i more_all)) (ask (pending_from f j more)) (ap (λ (l : ℕ). ask (pending_from f i l)) (bare more more_all q) ∙ ap (λ (l : ℕ). ask (pending_from f l more)) (sym (bare i j p)))
     where
       bare : (a b : ℕ) → b ≡ 0 + a → b ≡ a
       bare a b e = omega (arith, e)
@@ -90,11 +68,8 @@ module _ (t : Tid) (world : World) (n m new free : ℕ) (known : 1 ≤ world.cha
 
   -- what is known of others is as it was
   known_here : (a b : ℕ) → a ≡ n → b ≡ m → d.peer a b ≡ new
-  known_here a b p q = rw (p, q) (picked (n == n) (m == m) (self n) (self m))
+  known_here a b p q = rw (p, q) (picked (n == n) (m == m) (eqb-self n) (eqb-self m))
     where
-      self : (a : ℕ) → (a == a) ≡ true
-      self a = grind (arith, nat_tests)
-
       picked : (x y : Bool) → x ≡ true → y ≡ true → (if x then (if y then new else c.peer n m) else c.peer n m) ≡ new
       picked x y xe ye = rw (xe, ye) refl
 
@@ -105,10 +80,6 @@ module _ (t : Tid) (world : World) (n m new free : ℕ) (known : 1 ≤ world.cha
       by true true far = absurd (cc far)
       by true false far = refl
       by false y far = refl
-
-  two : (x y : Bool) → (x && y) ≡ true → (x ≡ true) × (y ≡ true)
-  two true y so = (refl, so)
-  two false y so = absurd (cc so)
 
   sent_on : (p q : ℕ) (server : ServerNo) (number : ℕ) → asked t server number ((field_of world).sent p q) ≤ asked t server number ((field_of (taken world n (Noticed m new))).sent p q)
   sent_on p q server number = by ((q == n) && (p == m)) refl
@@ -121,14 +92,14 @@ module _ (t : Tid) (world : World) (n m new free : ℕ) (known : 1 ≤ world.cha
 
       passed : asked t server number (map message_of (pending_from (λ i. pending c m n i (c.inc n)) (c.peer n m) ((c.inc m + 1) - c.peer n m))) ≤ asked t server number (map message_of (pending_from (λ i. pending c m n i (c.inc n)) new ((c.inc m + 1) - new)))
       passed = let e : (new ≡ (new - c.peer n m) + c.peer n m) × ((c.inc m + 1) - c.peer n m ≡ (new - c.peer n m) + ((c.inc m + 1) - new)) = apart (c.peer n m) new (c.inc m) later low in
-          skipped t server number (λ i. pending c m n i (c.inc n)) new (λ i under. silent i server number under) (new - c.peer n m) (c.peer n m) ((c.inc m + 1) - new) new ((c.inc m + 1) - c.peer n m) e.0 e.1 (itself new)
+          skipped t server number (λ i. pending c m n i (c.inc n)) new (λ i under. silent i server number under) (new - c.peer n m) (c.peer n m) ((c.inc m + 1) - new) new ((c.inc m + 1) - c.peer n m) e.0 e.1 (le_refl new)
 
       by : (b : Bool) → ((q == n) && (p == m)) ≡ b → asked t server number ((field_of world).sent p q) ≤ asked t server number ((field_of (taken world n (Noticed m new))).sent p q)
-      by true near = let both : ((q == n) ≡ true) × ((p == m) ≡ true) = two (q == n) (p == m) near in
+      by true near = let both : ((q == n) ≡ true) × ((p == m) ≡ true) = and_parts (q == n) (p == m) near in
           subst (λ (k : ℕ). least (c.peer q p) k (c.inc p)) (sym (known_here q p (eqb-true q n both.0) (eqb-true p m both.1)))
           (subst (λ (a : ℕ). ask t server number (pending_from (λ i. pending c p a i (c.inc a)) (c.peer a p) ((c.inc p + 1) - c.peer a p)) ≤ ask t server number (pending_from (λ i. pending c p a i (c.inc a)) new ((c.inc p + 1) - new))) (sym (eqb-true q n both.0))
           (subst (λ (b : ℕ). ask t server number (pending_from (λ i. pending c b n i (c.inc n)) (c.peer n b) ((c.inc b + 1) - c.peer n b)) ≤ ask t server number (pending_from (λ i. pending c b n i (c.inc n)) new ((c.inc b + 1) - new))) (sym (eqb-true p m both.1)) passed))
-      by false far = subst (λ (k : ℕ). least (c.peer q p) k (c.inc p)) (sym (known_there q p far)) (itself (asked t server number ((field_of world).sent p q)))
+      by false far = subst (λ (k : ℕ). least (c.peer q p) k (c.inc p)) (sym (known_there q p far)) (le_refl (asked t server number ((field_of world).sent p q)))
 
   kept_on : (p q : ℕ) (server : ServerNo) (number : ℕ) → asked t server number ((field_of world).kept p q) ≤ asked t server number ((field_of (taken world n (Noticed m new))).kept p q)
   kept_on p q server number = by ((p == n) && (q == m)) refl
@@ -140,17 +111,14 @@ module _ (t : Tid) (world : World) (n m new free : ℕ) (known : 1 ≤ world.cha
       nothing b is true = rw is refl
       nothing b is false = refl
 
-      least : (a b : ℕ) → a ≡ 0 → a ≤ b
-      least a b e = omega (arith, e)
-
       known_now : (k : ℕ) → 1 ≤ k → (k == 0) ≡ false
       known_now k some = grind (arith, nat_tests, some)
 
       by : (b : Bool) → ((p == n) && (q == m)) ≡ b → kept_as (c.peer p q) ≤ kept_as (d.peer p q)
-      by true near = let both : ((p == n) ≡ true) × ((q == m) ≡ true) = two (p == n) (q == m) near in
-          least (kept_as (c.peer p q)) (kept_as (d.peer p q)) (nothing (c.peer p q == 0) (known_now (c.peer p q)
+      by true near = let both : ((p == n) ≡ true) × ((q == m) ≡ true) = and_parts (p == n) (q == m) near in
+          zero_least (kept_as (c.peer p q)) (kept_as (d.peer p q)) (nothing (c.peer p q == 0) (known_now (c.peer p q)
           (subst (λ (a : ℕ). 1 ≤ c.peer a q) (sym (eqb-true p n both.0)) (subst (λ (b : ℕ). 1 ≤ c.peer n b) (sym (eqb-true q m both.1)) known))) (c.up p))
-      by false far = subst (λ (k : ℕ). kept_as (c.peer p q) ≤ kept_as k) (sym (known_there p q far)) (itself (kept_as (c.peer p q)))
+      by false far = subst (λ (k : ℕ). kept_as (c.peer p q) ≤ kept_as k) (sym (known_there p q far)) (le_refl (kept_as (c.peer p q)))
 
   notice_grows : Grows t old then_field
   notice_grows = record {
@@ -169,7 +137,7 @@ module _ (t : Tid) (world : World) (n m new free : ℕ) (known : 1 ≤ world.cha
 
       all : (at : RequestNo) (server : ServerNo) → there t old at server ≤ there t then_field at server
       all at server = three_more (waiting t old at server) (asked t server at.number (old.sent at.link.from.0 at.link.to.0)) (back t old at server) (waiting t then_field at server) (asked t server at.number (then_field.sent at.link.from.0 at.link.to.0)) (back t then_field at server)
-          (itself (waiting t old at server)) (sent at server) (kept at server)
+          (le_refl (waiting t old at server)) (sent at server) (kept at server)
 
 pub notice_comes : NoticeComes
 notice_comes t world n m new stamp free before known later low silent placed tx found =

@@ -1,36 +1,16 @@
 -- A later incarnation of another node becomes known: a request that an earlier one has on its way dooms, and where there is none what all places hold goes on.
-use Rattle.std.proofs.Common.{◌≡◌, ◌≢◌, ◌⊎◌, inl, inr, ℕ, ◌+◌, ◌<◌, ◌≤◌, ◌==◌, ◌&&◌, not, Bool, true, false, List, ◌++◌, map, zero, suc, refl, ap, subst, ◌∙◌, arith, if◌then◌else◌}
-use Rattle.std.proofs.lemmas.Bool.Decides.{nat_tests}
-use Rattle.qs_base.specs.declared.identifiers.Tid.{Tid}
-use Rattle.qs_book_machine.specs.Book.{BookValue}
-use Rattle.qs_node_step.specs.State.{Work}
-use Rattle.qs_world.specs.Moves.{Noticed, taken_by}
-use Rattle.qs_world.specs.World.{World}
+use Rattle.qs_world_runs.proofs.Words.{◌≡◌, ◌≢◌, ◌⊎◌, inl, inr, ℕ, ◌+◌, ◌<◌, ◌≤◌, ◌==◌, ◌&&◌, not, Bool, true, false, List, ◌++◌, map, zero, suc, refl, ap, subst, ◌∙◌, arith, if◌then◌else◌, nat_tests, Tid, BookValue, Work, Noticed, taken_by, World, IsDoomed, IsLeft, has_request, link, all_said, taken_scene, known_place, place, Scene, sent_to, requested, first_work, pending, field_of, message_of, PlacedAmid, taken, none_below_zero}
 use Rattle.qs_world_agree.specs.World as machine
-use Rattle.qs_world_agree.specs.Doomed.{IsDoomed, IsLeft}
 use Rattle.qs_world_agree.proofs.Doomed.{left_behind_dooms}
-use Rattle.qs_world_refine.specs.CommitLaws.{has_request}
-use Rattle.qs_world_refine.specs.Links.{IsLink, Said, link}
-use Rattle.qs_world_refine.specs.Messages.{all_said}
-use Rattle.qs_world_refine.specs.MoveLaws.{taken_scene}
-use Rattle.qs_world_refine.specs.Places.{known_place, place}
-use Rattle.qs_world_refine.specs.Shows.{Scene, sent_to}
+use Rattle.qs_world_refine.specs.Links.{IsLink, Said}
 use Rattle.qs_world_refine.specs.Stands as shown
-use Rattle.qs_world_refine.proofs.CommitIdles.{requested}
-use Rattle.qs_world_lawful.specs.GivenStep.{first_work}
-use Rattle.qs_world_lawful.specs.Parcels.{pending}
-use Rattle.qs_world_runs.specs.Placed.{field_of, message_of}
-use Rattle.qs_world_runs.specs.PlacesAmid.{PlacedAmid}
-use Rattle.qs_world_runs.specs.PlacesEnds.{taken}
 use Rattle.qs_world_runs.proofs.CommitsPlaced.{none_in}
 use Rattle.qs_world_runs.proofs.NoticeComes.{notice_comes}
+use Rattle.std.proofs.lemmas.Bool.{ne_eqb}
 
 -- one below k is so, or none is
 any_below : (f : ℕ → Bool) (k : ℕ) → ((i : ℕ) → i < k → f i ≡ false) ⊎ ((i : ℕ) × (i < k) × (f i ≡ true))
-any_below f zero = inl (λ i less. absurd (never i less))
-  where
-    never : (i : ℕ) → i < 0 → ⊥
-    never i less = omega (arith, less)
+any_below f zero = inl (λ i less. absurd (none_below_zero i less))
 any_below f (suc k) = by (f k) refl (any_below f k)
   where
     self : (k : ℕ) → k < suc k
@@ -96,10 +76,7 @@ module _ (t : Tid) (world : World) (n m new : ℕ) (m_in : m < world.size) (othe
 
       -- the node's own messages go elsewhere
       apart : (m == n) ≡ false
-      apart = off m n other
-        where
-          off : (a b : ℕ) → a ≢ b → (a == b) ≡ false
-          off a b p = grind (arith, nat_tests, p)
+      apart = ne_eqb m n other
 
       same : (b c : Bool) → b ≡ false → (xs ys : List Said) → (if b && c then xs ++ ys else xs) ≡ xs
       same b c off xs ys = rw off refl

@@ -1,59 +1,28 @@
 -- What is on record at a node that runs is known there as a run begins, and after each move.
-use Rattle.std.proofs.Common.{◌≡◌, ◌⊎◌, inl, inr, ℕ, ◌<◌, ◌==◌, ◌&&◌, ◌++◌, append-nil, append_assoc, Bool, true, false, List, [], ◌∷◌, Option, Some, None, refl, sym, ap, subst, ◌∙◌, fold, arith, nat_le, if◌then◌else◌}
-use Rattle.std.proofs.lemmas.Bool.{eqb-true}
-use Rattle.std.proofs.lemmas.Bool.Decides.{nat_tests}
-use Rattle.std.proofs.lemmas.List.Sums.{fold-append}
-use Rattle.std.specs.List.{list_any}
-use Rattle.std.specs.Map.{lookup}
-use Rattle.std.specs.Option.{option_map}
-use Rattle.std.specs.BTreeMap.{is_at}
-use Rattle.std.specs.Prelude.{slice_get}
-use Rattle.qs_base.specs.Order.{same_tid}
+use Rattle.qs_world_runs.proofs.Words.{◌≡◌, ◌⊎◌, inl, inr, ℕ, ◌<◌, ◌==◌, ◌&&◌, ◌++◌, append-nil, append_assoc, Bool, true, false, List, [], ◌∷◌, Option, Some, None, refl, sym, ap, subst, ◌∙◌, fold, arith, nat_le, if◌then◌else◌, eqb-true, nat_tests, fold-append, list_any, lookup, option_map, is_at, slice_get, same_tid, Tid, Act, CrashCause, changed_at_here, BookValue, book_after, effect, put_new_votes, OnRecord, Voter, Record, Prepared, Recovery, found_record, names_transaction, nothing_said}
+use Rattle.qs_world_runs.proofs.Words.{recovery, recovered_of, after_step, effects_of, Effects, Event, book_of, Cut, Meet, Move, Rise, Source, Step, Stop, cut_log, cut_with, event_of, log_after, may_move, moved, risen_host, step_with, stepped_host, stopped, stopped_host, taken_by, waiting_after, entries_of, entry_of, Host, Opening, World, up_taken, up_all, doubt_at, found_votes, rise_entry, HoldsNodeAt, is_found_in, of_votes, state, state_there, MakesStep, Joined, book_in, some_same}
+use Rattle.qs_world_runs.proofs.Words.{apart_turned}
 use Rattle.qs_base.specs.declared.identifiers.Outcome.TheVariants as outcomes
-use Rattle.qs_base.specs.declared.identifiers.Tid.{Tid}
-use Rattle.qs_book_journal.specs.declared.entry.Act.{Act}
 use Rattle.qs_book_journal.specs.declared.entry.Act.TheVariants as acts
-use Rattle.qs_book_journal.specs.declared.entry.CrashCause.{CrashCause}
 use Rattle.qs_book_laws.proofs.Faces.{vote_by}
 use Rattle.qs_book_laws.proofs.FoundOnly.{recorded_was}
 use Rattle.qs_book_laws.proofs.Holding.{restart_nodes}
 use Rattle.qs_book_laws.proofs.Holds.{elsewhere}
-use Rattle.qs_book_laws.proofs.Maps.{changed_at_here}
 use Rattle.qs_book_laws.proofs.Stills.{Facet, facet, facet_at}
-use Rattle.qs_book_machine.specs.Book.{BookValue, changed_at, doubts_after, learn_node}
-use Rattle.qs_book_machine.specs.Lawful.{IsLawful, book_after, effect}
+use Rattle.qs_book_machine.specs.Book.{changed_at, doubts_after, learn_node}
+use Rattle.qs_book_machine.specs.Lawful.{IsLawful}
 use Rattle.qs_book_machine.specs.Nodes as machine
-use Rattle.qs_book_machine.specs.Restart.{is_found, new_votes, put_new_votes, reopened, restarted_node, with_votes, without_records}
-use Rattle.qs_book_machine.specs.declared.state.OnRecord.{OnRecord}
-use Rattle.qs_book_machine.specs.declared.state.Voter.{Voter}
+use Rattle.qs_book_machine.specs.Restart.{is_found, new_votes, reopened, restarted_node, with_votes, without_records}
 use Rattle.qs_ops.specs.declared.vote.Vote.TheVariants as votes
-use Rattle.qs_record.specs.declared.record.Record.{Record}
-use Rattle.qs_restart.specs.Recovery.{Prepared, Recovery, found_record, names_transaction, nothing_said, recovery}
-use Rattle.qs_node_step.specs.Opening.{recovered_of}
-use Rattle.qs_node_step.specs.Step.{after_step, effects_of}
-use Rattle.qs_node_step.specs.declared.event.Effects.{Effects}
-use Rattle.qs_node_step.specs.declared.event.Event.{Event}
-use Rattle.qs_world.specs.Histories.{book_of}
-use Rattle.qs_world.specs.Moves.{Cut, Meet, Move, Rise, Source, Step, Stop, cut_log, cut_with, event_of, log_after, may_move, moved, risen_host, step_with, stepped_host, stopped, stopped_host, taken_by, waiting_after}
 use Rattle.qs_world.specs.Openings.{is_doubt}
-use Rattle.qs_world.specs.Posting.{entries_of, entry_of}
-use Rattle.qs_world.specs.World.{Host, Opening, World}
-use Rattle.qs_world_refine.proofs.Moving.{up_taken}
-use Rattle.qs_world_refine.proofs.Posted.{up_all}
 use Rattle.qs_world_refine.proofs.SoundParts.{and_both}
-use Rattle.qs_world_lawful.specs.Doubtful.{doubt_at}
-use Rattle.qs_world_lawful.specs.Logs.{found_votes}
-use Rattle.qs_world_lawful.specs.WorldLaws.{rise_entry}
-use Rattle.qs_world_lawful.specs.Worlds.{HoldsNodeAt}
 use Rattle.qs_world_lawful.proofs.LogActs.{plain_facets, with_facet}
-use Rattle.qs_world_lawful.proofs.LogRecords.{found_is, is_found_in, of_votes}
+use Rattle.qs_world_lawful.proofs.LogRecords.{found_is}
 use Rattle.qs_world_lawful.proofs.LogRecords as log_records
-use Rattle.qs_world_lawful.proofs.OpenedFresh.{doubtful, one, state, state_there}
+use Rattle.qs_world_lawful.proofs.OpenedFresh.{doubtful, one}
 use Rattle.qs_world_lawful.proofs.OpenedRecords.{all_put, doubt_found, record_for}
 use Rattle.qs_world_lawful.proofs.OpenedVotes.{as_pending, last_as}
 use Rattle.qs_world_lawful.proofs.Reopened.{doubt_is}
-use Rattle.qs_world_runs.specs.Agrees.{MakesStep}
-use Rattle.qs_world_runs.specs.Joined.{Joined, book_in}
 use Rattle.qs_world_runs.specs.OnRecord.{HostKnown, RecordsKnown}
 use Rattle.qs_world_runs.specs.RecordLaws.{MovesKeepRecords, OpensRecords, RecordsAt, VotesAreFresh}
 use Rattle.qs_world_runs.proofs.JoinedParts.{book_on, lawful_more}
@@ -92,9 +61,6 @@ opens_records o opens n low on its there tid s rec has = inr (inr (subst (λ (lo
     log : Recovery
     log = recovery (o.logs n)
 
-    one_is : {x y : machine.NodeValue} → Some x ≡ Some y → x ≡ y
-    one_is e = cc e
-
     record_is : machine.record_of (state o opens n low) tid s ≡ option_map record_for (option_map as_pending (doubt_at log.prepared tid s))
     record_is = all_put tid s (one o opens n low).pending None [] refl ∙ ap (option_map record_for) (last_as tid s log.prepared None)
 
@@ -121,7 +87,7 @@ opens_records o opens n low on its there tid s rec has = inr (inr (subst (λ (lo
     by (Some v) at e = of_votes (machine.voter tid s) 0 log (some_vote (doubt_found tid s (log_records.is_found (machine.voter tid s) 0) v (passes v at) log.prepared None at))
 
     found : is_found (found_votes log) (machine.voter tid s) ≡ true
-    found = by (doubt_at log.prepared tid s) refl (sym record_is ∙ subst (λ (x : machine.NodeValue). machine.record_of x tid s ≡ Some rec) (one_is (sym there ∙ state_there o opens n low)) has)
+    found = by (doubt_at log.prepared tid s) refl (sym record_is ∙ subst (λ (x : machine.NodeValue). machine.record_of x tid s ≡ Some rec) (some_same (sym there ∙ state_there o opens n low)) has)
 
 -- ---- what a step makes of a host
 
@@ -148,10 +114,7 @@ module _ (P : Opening → World → Type 0) (o : Opening) (world : World) (j : J
 
   -- every other node
   others : (n stamp : ℕ) (done : List Act) (after : World) → after.journal ≡ world.journal ++ entries_of n stamp done → (k : ℕ) → k < world.size → world.channels.up k ≡ true → (k == n) ≡ false → Known k after (world.hosts k)
-  others n stamp done after journal k low on far = subst (λ (b : BookValue). HostKnown b k (world.hosts k)) (sym (book_on o world after (entries_of n stamp done) journal)) (known_still n k (turned k n far) stamp done book (world.hosts k) (h k low on))
-    where
-      turned : (a b : ℕ) → (a == b) ≡ false → (b == a) ≡ false
-      turned a b e = grind (arith, nat_tests, e)
+  others n stamp done after journal k low on far = subst (λ (b : BookValue). HostKnown b k (world.hosts k)) (sym (book_on o world after (entries_of n stamp done) journal)) (known_still n k (apart_turned k n far) stamp done book (world.hosts k) (h k low on))
 
   -- ---- a crash
 
@@ -204,11 +167,8 @@ module _ (P : Opening → World → Type 0) (o : Opening) (world : World) (j : J
             ∙ changed_at_here (restarted_node (reopened n inc (found_votes said) said.committed (put_new_votes n (found_votes said) book)) (found_votes said) said.committed) (changed_at n (with_votes (new_votes n book (found_votes said))) book.nodes) n voted
             (changed_at_here (with_votes (new_votes n book (found_votes said))) book.nodes n at.state at.there)
 
-        one_is : {x y : machine.NodeValue} → Some x ≡ Some y → x ≡ y
-        one_is e = cc e
-
         found : is_found (found_votes said) (machine.voter tid s) ≡ true
-        found = (recorded_was (found_votes said) (fold without_records voted said.committed) tid s rec (subst (λ (x : machine.NodeValue). machine.record_of x tid s ≡ Some rec) (one_is (sym there ∙ next_is)) has)).1
+        found = (recorded_was (found_votes said) (fold without_records voted said.committed) tid s rec (subst (λ (x : machine.NodeValue). machine.record_of x tid s ≡ Some rec) (some_same (sym there ∙ next_is)) has)).1
 
     rise_records : RecordsAt o risen
     rise_records k low = by (k == n) refl

@@ -1,46 +1,16 @@
 -- What is on record at the node of a whole step stays known there; and its votes are fresh.
-use Rattle.std.proofs.Common.{◌≡◌, ◌⊎◌, inl, inr, ℕ, ◌==◌, ◌||◌, ◌++◌, Bool, true, false, List, [], ◌∷◌, Option, Some, None, refl, sym, ap, subst, ◌∙◌, fold}
-use Rattle.std.specs.List.{list_any}
-use Rattle.std.specs.Prelude.{is_some, slice_get}
-use Rattle.qs_base.proofs.Same.{same_tid-true}
-use Rattle.qs_base.specs.declared.identifiers.Member.{Member}
+use Rattle.qs_world_runs.proofs.Words.{◌≡◌, ◌⊎◌, inl, inr, ℕ, ◌==◌, ◌||◌, ◌++◌, Bool, true, false, List, [], ◌∷◌, Option, Some, None, refl, sym, ap, subst, ◌∙◌, fold, list_any, is_some, slice_get, same_tid-true, Member, ServerNo, Tid, Act, BookValue, book_after, is_among, is_found_as, OnRecord, Record, Recovery, found_record, recovery, names_transaction, after_step, effects_of, end_record, Event, Source, entries_of, Host, Opening, World, StepMay, step_may, is_aborted_of, is_end_of, HasAborted}
+use Rattle.qs_world_runs.proofs.Words.{HasCommitted, Every, IsVoteLogged, found_votes, HoldsNodeAt, HoldsUp, in_runs, LastsWell, every_on, is_found_in, of_votes, to_votes, MakesStep, IsSource, EntersVote, IsVoteDue, Joined, book_in, entries_in, is_recording, some_same}
 use Rattle.qs_base.specs.declared.identifiers.Outcome.{Outcome}
 use Rattle.qs_base.specs.declared.identifiers.Outcome.TheVariants as outcomes
-use Rattle.qs_base.specs.declared.identifiers.ServerNo.{ServerNo}
-use Rattle.qs_base.specs.declared.identifiers.Tid.{Tid}
-use Rattle.qs_book_journal.specs.declared.entry.Act.{Act}
-use Rattle.qs_book_machine.specs.Book.{BookValue}
-use Rattle.qs_book_machine.specs.Lawful.{IsLawful, book_after}
+use Rattle.qs_book_machine.specs.Lawful.{IsLawful}
 use Rattle.qs_book_machine.specs.Nodes as machine
-use Rattle.qs_book_machine.specs.Restart.{is_among, is_found_as}
-use Rattle.qs_book_machine.specs.declared.state.OnRecord.{OnRecord}
 use Rattle.qs_book_machine.specs.declared.transaction.Cell.TheVariants as cells
 use Rattle.qs_ops.specs.declared.vote.Vote.TheVariants as votes
-use Rattle.qs_record.specs.declared.record.Record.{Record}
 use Rattle.qs_record.specs.declared.record.Record.TheVariants as made
-use Rattle.qs_restart.specs.Recovery.{Recovery, found_record, recovery, names_transaction}
 use Rattle.qs_node_step.specs.State.{NodeValue}
-use Rattle.qs_node_step.specs.Step.{after_step, effects_of}
-use Rattle.qs_node_step.specs.Telling.{end_record}
-use Rattle.qs_node_step.specs.declared.event.Event.{Event}
-use Rattle.qs_world.specs.Moves.{Source}
-use Rattle.qs_world.specs.Posting.{entries_of}
-use Rattle.qs_world.specs.World.{Host, Opening, World}
-use Rattle.qs_world_refine.proofs.MoveGoes.{StepMay, step_may}
-use Rattle.qs_world_refine.proofs.TurnOn.{is_aborted_of, is_end_of}
-use Rattle.qs_world_lawful.specs.Logged.{HasAborted, HasCommitted}
-use Rattle.qs_world_lawful.specs.Logs.{Every, IsVoteLogged, found_votes}
-use Rattle.qs_world_lawful.specs.Worlds.{HoldsNodeAt, HoldsUp}
-use Rattle.qs_world_lawful.proofs.LastsAlways.{in_runs}
-use Rattle.qs_world_lawful.proofs.LastsWell.{LastsWell}
-use Rattle.qs_world_lawful.proofs.LogFrames.{every_on}
-use Rattle.qs_world_lawful.proofs.LogRecords.{is_found_in, of_votes, to_votes}
-use Rattle.qs_world_runs.specs.Agrees.{MakesStep}
-use Rattle.qs_world_runs.specs.CutRecords.{IsSource, IsLastTold}
-use Rattle.qs_world_runs.specs.CutVotes.{EntersVote, IsVoteDue}
-use Rattle.qs_world_runs.specs.Joined.{Joined, book_in}
-use Rattle.qs_world_runs.specs.JoinedLaws.{entries_in}
-use Rattle.qs_world_runs.specs.OnRecord.{IsFreshVote, IsInLog, KeepsAbort, RecordsKnown, is_recording}
+use Rattle.qs_world_runs.specs.CutRecords.{IsLastTold}
+use Rattle.qs_world_runs.specs.OnRecord.{IsFreshVote, IsInLog, KeepsAbort, RecordsKnown}
 use Rattle.qs_world_runs.specs.RecordLaws.{RecordsAt}
 use Rattle.qs_world_runs.proofs.AbortsKept.{abort_stays, aborted_kept, unvoted}
 use Rattle.qs_world_runs.proofs.DueVotes.{restless, steps_vote_due}
@@ -130,11 +100,8 @@ module _ (P : Opening → World → Type 0) (o : Opening) (world : World) (j : J
       from : From n (book_after book (entries_of n stamp done)) at.state (λ t k. list_any (is_recording t k) done)
       from = all_from n stamp done (restless node event free) book well.inv lawful at.state at.there
 
-      one : {x y : machine.NodeValue} → Some x ≡ Some y → x ≡ y
-      one e = cc e
-
       same : state ≡ from.next
-      same = one (sym there ∙ from.there)
+      same = some_same (sym there ∙ from.there)
 
       some_rec : is_some (machine.record_of from.next tid s) ≡ true
       some_rec = ap is_some (subst (λ (x : machine.NodeValue). machine.record_of x tid s ≡ Some rec) same has)
@@ -185,10 +152,7 @@ module _ (P : Opening → World → Type 0) (o : Opening) (world : World) (j : J
       by (inr (inr found)) = absurd (covered (found_covers n book at.state log tid server.0 rec has log.prepared logged (to_votes (machine.voter tid server.0) 0 log found)))
         where
           logged : Every (IsVoteLogged n book at.state log) log.prepared
-          logged = subst (λ (x : machine.NodeValue). Every (IsVoteLogged n book x log) log.prepared) (one (sym up.log.there ∙ at.there)) up.log.all.votes
-            where
-              one : {x y : machine.NodeValue} → Some x ≡ Some y → x ≡ y
-              one e = cc e
+          logged = subst (λ (x : machine.NodeValue). Every (IsVoteLogged n book x log) log.prepared) (some_same (sym up.log.there ∙ at.there)) up.log.all.votes
 
   fresh_one : (rec : Record) → IsSource node event done rec → FreshIn rec
   fresh_one (made.Commit t told) so = tt
@@ -204,7 +168,4 @@ module _ (P : Opening → World → Type 0) (o : Opening) (world : World) (j : J
   fresh_one (made.Prepare tid server covers changes) (inr (inr (inr resumed))) = absurd (let e : made.Prepare tid server covers changes ≡ made.Aborted resumed.tid = resumed.is in cc e)
 
   pub votes_fresh : (state : machine.NodeValue) → slice_get book.nodes n ≡ Some state → Every (IsFreshVote book state log) batch
-  votes_fresh state there = subst (λ (x : machine.NodeValue). Every (IsFreshVote book x log) batch) (one (sym at.there ∙ there)) (every_on (IsSource node event done) FreshIn fresh_one batch (steps_make_records node event free).sources)
-    where
-      one : {x y : machine.NodeValue} → Some x ≡ Some y → x ≡ y
-      one e = cc e
+  votes_fresh state there = subst (λ (x : machine.NodeValue). Every (IsFreshVote book x log) batch) (some_same (sym at.there ∙ there)) (every_on (IsSource node event done) FreshIn fresh_one batch (steps_make_records node event free).sources)

@@ -1,26 +1,13 @@
 -- What keeps a node from being ready for a transaction: a request of it that is not covered, or that it is blocked while it is engaged. Most changes of what is kept of one leave that.
-use Rattle.std.proofs.Common.{◌≡◌, ◌⊎◌, inl, inr, ℕ, ◌+◌, ◌<◌, ◌≤◌, ◌==◌, ◌&&◌, ◌||◌, not, nat_lt, nat_le, Bool, true, false, List, [], ◌∷◌, length, Option, Some, None, is_none, is_some, zero, suc, refl, sym, ap, subst, ◌∙◌, arith, if◌then◌else◌}
-use Rattle.std.specs.List.{list_all}
-use Rattle.std.specs.Prelude.{slice_index_or}
-use Rattle.std.proofs.lemmas.Bool.{eqb-true}
-use Rattle.std.proofs.lemmas.Bool.Decides.{nat_tests}
+use Rattle.qs_world_runs.proofs.Words.{◌≡◌, ◌⊎◌, inl, inr, ℕ, ◌+◌, ◌<◌, ◌≤◌, ◌==◌, ◌&&◌, ◌||◌, not, nat_lt, nat_le, Bool, true, false, List, [], ◌∷◌, length, Option, Some, None, is_none, is_some, zero, suc, refl, sym, ap, subst, ◌∙◌, arith, if◌then◌else◌, le_refl, list_all, slice_index_or, eqb-true, or_cases, or_left, nat_tests, Member, NodeNo, ServerNo, is_covered, is_passive, last_number, next_sent, no_peer, peer_of, with_peer, Engage, PeerPart, Vote, Record, ballot_of, all_agree}
+use Rattle.qs_world_runs.proofs.Words.{is_forgotten, is_ready, is_undecided, Outstanding, Participant, le_next, le_le, and_first, and_last, same_Some}
 use Rattle.std.proofs.lemmas.List.{length-set, set_past}
-use Rattle.qs_base.specs.declared.identifiers.Member.{Member}
-use Rattle.qs_base.specs.declared.identifiers.NodeNo.{NodeNo}
 use Rattle.qs_base.specs.declared.identifiers.Outcome.TheVariants as outcomes
-use Rattle.qs_base.specs.declared.identifiers.ServerNo.{ServerNo}
-use Rattle.qs_engage.specs.Engage.{is_covered, is_passive, last_number, next_sent, no_peer, peer_of, with_peer}
-use Rattle.qs_engage.specs.declared.engage.Engage.{Engage}
-use Rattle.qs_engage.specs.declared.engage.PeerPart.{PeerPart}
-use Rattle.qs_ops.specs.declared.vote.Vote.{Vote}
-use Rattle.qs_record.specs.declared.record.Record.{Record}
-use Rattle.qs_tm.specs.Members.{ballot_of, is_binding, is_refusal}
+use Rattle.qs_tm.specs.Members.{is_binding, is_refusal}
 use Rattle.qs_tm.specs.Outcomes as outcome_rules
 use Rattle.qs_tm.specs.Participant as participant
-use Rattle.qs_tm.specs.Participant.{all_agree, is_forgotten, is_ready, is_undecided}
-use Rattle.qs_tm.specs.declared.participant.Outstanding.{Outstanding}
-use Rattle.qs_tm.specs.declared.participant.Participant.{Participant}
 use Rattle.qs_world_refine.proofs.Arrays.{peer_put}
+use Rattle.qs_base_lemmas.proofs.Tests.{and_not}
 
 -- ---- what keeps it from being ready
 
@@ -50,16 +37,13 @@ pub record Onward (part next : Participant) : Type 0 where
   pub involved : part.involved ≡ true → next.involved ≡ true
   pub outcome : (next.outcome ≡ part.outcome) ⊎ (next.outcome ≡ Some outcomes.Abort)
 
-same_number : (a : ℕ) → a ≤ a
-same_number a = omega arith
-
 -- the engagement stays as it is
 plainly : (part next : Participant) → next.engage ≡ part.engage → (part.blocked ≡ true → next.blocked ≡ true) → (part.involved ≡ true → next.involved ≡ true) → (next.outcome ≡ part.outcome) ⊎ (next.outcome ≡ Some outcomes.Abort) → Onward part next
 plainly part next same blocked involved outcome = record {
   home = ap (λ (e : Engage). e.home) same;
   superior = ap (λ (e : Engage). e.superior) same;
   peers = ap (λ (e : Engage). length e.peers) same;
-  sent = λ m. subst (λ (e : Engage). (peer_of part.engage m).sent ≤ (peer_of e m).sent) (sym same) (same_number (peer_of part.engage m).sent);
+  sent = λ m. subst (λ (e : Engage). (peer_of part.engage m).sent ≤ (peer_of e m).sent) (sym same) (le_refl (peer_of part.engage m).sent);
   covered = λ m. ap (λ (e : Engage). (peer_of e m).covered) same;
   blocked = blocked;
   involved = involved;
@@ -74,16 +58,13 @@ onward_on a b c first second = record {
   home = second.home ∙ first.home;
   superior = second.superior ∙ first.superior;
   peers = second.peers ∙ first.peers;
-  sent = λ m. up (peer_of a.engage m).sent (peer_of b.engage m).sent (peer_of c.engage m).sent (first.sent m) (second.sent m);
+  sent = λ m. le_le (peer_of a.engage m).sent (peer_of b.engage m).sent (peer_of c.engage m).sent (first.sent m) (second.sent m);
   covered = λ m. second.covered m ∙ first.covered m;
   blocked = λ h. second.blocked (first.blocked h);
   involved = λ h. second.involved (first.involved h);
   outcome = ends second.outcome first.outcome;
 }
   where
-    up : (x y z : ℕ) → x ≤ y → y ≤ z → x ≤ z
-    up x y z p q = omega (arith, p, q)
-
     ends : (c.outcome ≡ b.outcome) ⊎ (c.outcome ≡ Some outcomes.Abort) → (b.outcome ≡ a.outcome) ⊎ (b.outcome ≡ Some outcomes.Abort) → (c.outcome ≡ a.outcome) ⊎ (c.outcome ≡ Some outcomes.Abort)
     ends (inr aborted) before = inr aborted
     ends (inl same) (inl before) = inl (same ∙ before)
@@ -91,13 +72,10 @@ onward_on a b c first second = record {
 
 pub awaits_on : (m : NodeNo) (k : ℕ) (part next : Participant) → Onward part next → Awaits m k part → Awaits m k next
 awaits_on m k part next onward awaits = record {
-  sent = up k (peer_of part.engage m).sent (peer_of next.engage m).sent awaits.sent (onward.sent m);
+  sent = le_le k (peer_of part.engage m).sent (peer_of next.engage m).sent awaits.sent (onward.sent m);
   uncovered = subst (λ (c : ℕ). c < k) (sym (onward.covered m)) awaits.uncovered;
   involved = onward.involved awaits.involved;
 }
-  where
-    up : (x y z : ℕ) → x ≤ y → y ≤ z → x ≤ z
-    up x y z p q = omega (arith, p, q)
 
 pub held_on : (part next : Participant) → Onward part next → IsHeldUp part → IsHeldUp next
 held_on part next onward held = record { blocked = onward.blocked held.blocked; engaged = ap (λ (h : Bool). h || is_some next.engage.superior) onward.home ∙ (ap (λ (o : Option NodeNo). part.engage.home || is_some o) onward.superior ∙ held.engaged) }
@@ -108,14 +86,11 @@ stuck_on part next onward (inr held) = inr (held_on part next onward held)
 
 -- ---- changes of what is kept
 
-or_first : (a b : Bool) → a ≡ true → (a || b) ≡ true
-or_first a b is = rw is refl
-
 pub settled_onward : (server : ServerNo) (part : Participant) → Onward part (outcome_rules.settled server part)
 settled_onward server part = plainly part (outcome_rules.settled server part) refl (λ h. h) (λ h. h) (inl refl)
 
 pub voted_onward : (member : Member) (ballot : Vote) (covers : ℕ) (part : Participant) → Onward part (participant.voted member ballot covers part)
-voted_onward member ballot covers part = plainly part (participant.voted member ballot covers part) refl (or_first part.blocked (is_refusal (ballot_of ballot))) (or_first part.involved (is_binding (ballot_of ballot))) (inl refl)
+voted_onward member ballot covers part = plainly part (participant.voted member ballot covers part) refl (or_left part.blocked (is_refusal (ballot_of ballot))) (or_left part.involved (is_binding (ballot_of ballot))) (inl refl)
 
 pub logged_onward : (rec : Record) (part : Participant) → Onward part (outcome_rules.logged rec part)
 logged_onward rec part = plainly part (outcome_rules.logged rec part) refl (λ h. h) (λ h. h) (inl refl)
@@ -139,13 +114,10 @@ module _ (to : NodeNo) (engage : Engage) where
   Rises old new = (old.sent ≤ new.sent) × (new.covered ≡ old.covered)
 
   rises_itself : (p : PeerPart) → Rises p p
-  rises_itself p = (same_number p.sent, refl)
+  rises_itself p = (le_refl p.sent, refl)
 
   rises_one : (p : PeerPart) → Rises p (record p { sent = p.sent + 1 })
-  rises_one p = (one p.sent, refl)
-    where
-      one : (a : ℕ) → a ≤ a + 1
-      one a = omega arith
+  rises_one p = (le_next p.sent, refl)
 
   peer_rises : (k : NodeNo) → Rises (peer_of engage k) (peer_of (with_peer to more engage) k)
   peer_rises k = by (nat_lt to.0 (length engage.peers)) refl
@@ -179,14 +151,11 @@ sent_awaits to number part within covered numbered = by ((peer_of part.engage to
         at true is = refl
         at false is = absurd (cc is)
 
-    equal : (a b : ℕ) → Some a ≡ Some b → a ≡ b
-    equal a b e = cc e
-
     by : (b : Bool) → (if b then None else Some ((peer_of part.engage to).sent + 1)) ≡ Some number → Awaits to number (record part { engage = if b then part.engage else with_peer to (more to part.engage) part.engage; involved = true })
     by true is = absurd (cc is)
     by false is = record {
-      sent = subst (λ (p : PeerPart). number ≤ p.sent) (sym there) (least number ((peer_of part.engage to).sent) (equal ((peer_of part.engage to).sent + 1) number is));
-      uncovered = subst (λ (p : PeerPart). p.covered < number) (sym there) (below number ((peer_of part.engage to).sent) ((peer_of part.engage to).covered) (equal ((peer_of part.engage to).sent + 1) number is) covered);
+      sent = subst (λ (p : PeerPart). number ≤ p.sent) (sym there) (least number ((peer_of part.engage to).sent) (same_Some ((peer_of part.engage to).sent + 1) number is));
+      uncovered = subst (λ (p : PeerPart). p.covered < number) (sym there) (below number ((peer_of part.engage to).sent) ((peer_of part.engage to).covered) (same_Some ((peer_of part.engage to).sent + 1) number is) covered);
       involved = refl;
     }
       where
@@ -200,16 +169,8 @@ sent_awaits to number part within covered numbered = by ((peer_of part.engage to
 
 covered_at : (peers : List PeerPart) (m : ℕ) → list_all is_covered peers ≡ true → is_covered (slice_index_or peers m no_peer) ≡ true
 covered_at [] m all = refl
-covered_at (p ∷ peers) zero all = first (is_covered p) (list_all is_covered peers) all
-  where
-    first : (a b : Bool) → (a && b) ≡ true → a ≡ true
-    first true b is = refl
-    first false b is = absurd (cc is)
-covered_at (p ∷ peers) (suc m) all = covered_at peers m (second (is_covered p) (list_all is_covered peers) all)
-  where
-    second : (a b : Bool) → (a && b) ≡ true → b ≡ true
-    second true b is = is
-    second false b is = absurd (cc is)
+covered_at (p ∷ peers) zero all = and_first (is_covered p) (list_all is_covered peers) all
+covered_at (p ∷ peers) (suc m) all = covered_at peers m (and_last (is_covered p) (list_all is_covered peers) all)
 
 not_passive : (m : NodeNo) (k : ℕ) (part : Participant) → Awaits m k part → is_passive part.engage ≡ false
 not_passive m k part awaits = by (is_passive part.engage) refl
@@ -246,21 +207,13 @@ stuck_kept part stuck = by stuck
     away true h n i r is = rw is refl
     away false h n i r is = refl
 
-    uninvolved : (n i : Bool) → i ≡ true → (n && not i) ≡ false
-    uninvolved true i is = rw is refl
-    uninvolved false i is = refl
-
     answers : (o : Option NodeNo) (i : Bool) → is_some o ≡ true → (is_none o && not i) ≡ false
     answers (Some node) i is = refl
     answers None i is = absurd (cc is)
 
-    engaged : (h s : Bool) → (h || s) ≡ true → (h ≡ true) ⊎ (s ≡ true)
-    engaged true s is = inl refl
-    engaged false s is = inr is
-
     by : IsStuck part → is_forgotten part ≡ false
-    by (inl awaits) = off (is_undecided part) part.engage.home (is_none part.engage.superior) part.involved _ (uninvolved (is_none part.engage.superior) part.involved awaits.1.1.involved)
-    by (inr held) = at (engaged part.engage.home (is_some part.engage.superior) held.engaged)
+    by (inl awaits) = off (is_undecided part) part.engage.home (is_none part.engage.superior) part.involved _ (and_not (is_none part.engage.superior) part.involved awaits.1.1.involved)
+    by (inr held) = at (or_cases part.engage.home (is_some part.engage.superior) held.engaged)
       where
         at : (part.engage.home ≡ true) ⊎ (is_some part.engage.superior ≡ true) → is_forgotten part ≡ false
         at (inl home) = away (is_undecided part) part.engage.home (is_none part.engage.superior) part.involved _ home

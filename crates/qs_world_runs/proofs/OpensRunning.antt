@@ -1,40 +1,23 @@
 -- As a run begins the machine has beside each node all that it is to have, over old logs too: it opened with what the logs hold, and nothing else.
-use Rattle.std.proofs.Common.{◌≡◌, ℕ, ◌<◌, ◌+◌, Bool, true, false, length, Option, Some, None, fold, refl, sym, ap, subst, ◌∙◌, arith, is_some, nat_lt, if◌then◌else◌}
-use Rattle.std.proofs.lemmas.Bool.Decides.{nat_tests}
-use Rattle.std.specs.List.{list_any}
-use Rattle.std.specs.Prelude.{slice_get}
-use Rattle.qs_base.specs.declared.identifiers.NodeNo.{NodeNo}
-use Rattle.qs_base.specs.declared.identifiers.Tid.{Tid}
-use Rattle.qs_node_kept.specs.Keeping.{no_kept}
+use Rattle.qs_world_runs.proofs.Words.{◌≡◌, ℕ, ◌<◌, ◌+◌, Bool, true, false, length, Option, Some, None, fold, refl, sym, ap, subst, ◌∙◌, arith, is_some, nat_lt, if◌then◌else◌, nat_tests, list_any, slice_get, NodeNo, Tid, no_kept, BookValue, find_transaction, is_among, TransactionValue, is_commit, Recovery, recovered_of, Setting, book_of, IsOpening, Opening, start, has_issued, HoldsLogged, HoldsNodeOf, opening_empty, state, state_there, world_held, clash, of_some, HoldsRunning, RunningAt}
+use Rattle.qs_world_runs.proofs.Words.{is_zero_plus}
 use Rattle.qs_book_laws.proofs.Openings.{first_book, opening_names}
-use Rattle.qs_book_machine.specs.Book.{BookValue, find_transaction}
 use Rattle.qs_book_machine.specs.Nodes as machine
 use Rattle.qs_book_machine.specs.Opening.{has_commit}
-use Rattle.qs_book_machine.specs.Restart.{is_among}
-use Rattle.qs_book_machine.specs.Transaction.{TransactionValue, is_commit, opened_as}
+use Rattle.qs_book_machine.specs.Transaction.{opened_as}
 use Rattle.qs_book_machine.specs.declared.opened.Pending.{Pending}
 use Rattle.qs_book_machine.specs.declared.transaction.Cell.TheVariants as cells
 use Rattle.qs_ops.specs.declared.answer.Cause.TheVariants as causes
-use Rattle.qs_restart.specs.Recovery.{Recovery}
 use Rattle.qs_node_step.specs.Answering.{was_committed}
-use Rattle.qs_node_step.specs.Opening.{recovered_of}
 use Rattle.qs_node_step.specs.State.{NodeValue}
-use Rattle.qs_node_step.specs.declared.setting.Setting.{Setting}
-use Rattle.qs_world.specs.Histories.{book_of, opened_with}
-use Rattle.qs_world.specs.Openings.{IsOpening}
-use Rattle.qs_world.specs.World.{Opening, start}
-use Rattle.qs_world_lawful.specs.Beside.{HasOwner, has_issued}
-use Rattle.qs_world_lawful.specs.Logged.{HoldsLogged}
-use Rattle.qs_world_lawful.specs.Worlds.{HoldsNodeOf}
-use Rattle.qs_world_lawful.proofs.LastsOpening.{opening_empty}
+use Rattle.qs_world.specs.Histories.{opened_with}
+use Rattle.qs_world_lawful.specs.Beside.{HasOwner}
 use Rattle.qs_world_lawful.proofs.OpenedBook.{IsNamedAs, Reads, Stands, last_pending, logs_read}
 use Rattle.qs_world_lawful.proofs.OpenedCommits.{none_commits}
-use Rattle.qs_world_lawful.proofs.OpenedFresh.{coherent, lasts, log, one, opened, state, state_there}
+use Rattle.qs_world_lawful.proofs.OpenedFresh.{coherent, lasts, log, one, opened}
 use Rattle.qs_world_lawful.proofs.OpenedServers.{begins, fresh_own, no_loans}
 use Rattle.qs_world_lawful.proofs.OpenedVotes.{opened_there}
-use Rattle.qs_world_lawful.proofs.OpenedWorld.{world_held}
-use Rattle.qs_world_lawful.proofs.Truths.{clash, node_is, of_some}
-use Rattle.qs_world_runs.specs.Joined.{HoldsRunning, RunningAt}
+use Rattle.qs_world_lawful.proofs.Truths.{node_is}
 use Rattle.qs_world_runs.specs.JoinedLaws.{Opens}
 use Rattle.qs_world_runs.proofs.FreshBeside.{BeginsWell, running_held}
 use Rattle.qs_world_runs.proofs.JoinedFacts.{opens_facts}
@@ -77,10 +60,7 @@ module _ (o : Opening) (opens : IsOpening o) where
       pending = fold (last_pending tid 0) None (one o opens n low).pending
 
       reads : Reads now.nodes tid n setting.inc 0 (fold (last_pending tid 0) None (one o opens n low).pending) now
-      reads = logs_read now.nodes tid n setting.inc 0 0 n (opened o opens) (one o opens n low) there (zero_plus n) refl (first_book (opened o opens)) (record { nodes_are = sym (opening_names (opened o opens) (coherent o opens)).nodes; stands = refl })
-        where
-          zero_plus : (k : ℕ) → k ≡ 0 + k
-          zero_plus k = grind (arith)
+      reads = logs_read now.nodes tid n setting.inc 0 0 n (opened o opens) (one o opens n low) there (is_zero_plus n) refl (first_book (opened o opens)) (record { nodes_are = sym (opening_names (opened o opens) (coherent o opens)).nodes; stands = refl })
 
       named : IsNamedAs now.nodes tid n setting.inc 0 (fold (last_pending tid 0) None (one o opens n low).pending) tx
       named = subst (Stands now.nodes tid n setting.inc 0 (fold (last_pending tid 0) None (one o opens n low).pending)) found reads.stands

@@ -1,33 +1,7 @@
 -- What a step entered first is aside of each other node, so all that is held of that stands.
-use Rattle.std.proofs.Common.{◌≡◌, ℕ, ◌<◌, ◌==◌, true, false, List, [], ◌∷◌, ◌++◌, sym, ap, subst, ◌∙◌}
-use Rattle.qs_book_journal.specs.declared.entry.Act.{Act}
-use Rattle.qs_book_journal.specs.declared.entry.Entry.{Entry}
-use Rattle.qs_book_laws.proofs.Steps.{after_both}
-use Rattle.qs_book_machine.specs.Book.{BookValue}
-use Rattle.qs_node_step.specs.State.{Work}
-use Rattle.qs_node_step.specs.Step.{effects_of}
-use Rattle.qs_node_step.specs.declared.event.Event.{Event}
-use Rattle.qs_world.specs.Histories.{book_of, opened_from}
-use Rattle.qs_world.specs.Moves.{Source}
-use Rattle.qs_world.specs.Posting.{entries_of}
-use Rattle.qs_world.specs.World.{Opening, World, inc_of}
-use Rattle.qs_world_refine.specs.MoveLaws.{taken_scene}
-use Rattle.qs_world_refine.specs.Steady.{IsSteady}
-use Rattle.qs_world_refine.proofs.Moving.{inc_taken}
-use Rattle.qs_world_refine.proofs.SteadyFrom.{steady_gives}
-use Rattle.qs_world_lawful.specs.Aside.{AnswersElsewhere, IsAside, IsOfStep}
-use Rattle.qs_world_lawful.specs.Logs.{Every}
-use Rattle.qs_world_lawful.specs.Worlds.{HoldsNodeOf}
+use Rattle.qs_world_runs.proofs.Words.{◌≡◌, ℕ, ◌<◌, ◌==◌, true, false, List, [], ◌∷◌, ◌++◌, sym, ap, subst, ◌∙◌, Act, Entry, after_both, BookValue, Work, effects_of, Event, book_of, opened_from, Source, entries_of, Opening, World, inc_of, taken_scene, IsSteady, inc_taken, steady_gives, AnswersElsewhere, IsAside, IsOfStep, Every, HoldsNodeOf, opens_soundly, opened_numbered, MakesStep, Joined, book_in, PlacesAt, book_amid, IsBeside, AreLawful}
 use Rattle.qs_world_lawful.proofs.AsideIssued.{issued_held}
 use Rattle.qs_world_lawful.proofs.AsideWhole.{keeps_others}
-use Rattle.qs_world_lawful.proofs.CoherentOpenings.{opens_soundly}
-use Rattle.qs_world_lawful.proofs.NumberedLogs.{opened_numbered}
-use Rattle.qs_world_runs.specs.Agrees.{MakesStep}
-use Rattle.qs_world_runs.specs.Joined.{Joined, book_in}
-use Rattle.qs_world_runs.specs.JoinedPlaces.{PlacesAt}
-use Rattle.qs_world_runs.specs.PlacesAmid.{book_amid}
-use Rattle.qs_world_runs.specs.PlacesCommits.{IsBeside}
-use Rattle.qs_world_runs.specs.PlacesRules.{AreLawful}
 use Rattle.qs_world_runs.specs.PlacesTurns.{OthersBeside}
 use Rattle.qs_world_runs.proofs.ClientsGo.{answers_aside, of_steps}
 use Rattle.qs_world_runs.proofs.JoinedHeld.{all_aside, both_of}

@@ -1,34 +1,17 @@
 -- What a node owes of what is undecided, as it looks at what a restart of another concerns, it owed before the step.
-use Rattle.std.proofs.Common.{◌≡◌, ℕ, ◌||◌, ◌&&◌, Bool, true, false, not, List, [], ◌∷◌, ◌++◌, fold, Option, Some, None, refl, sym, ap, subst, ◌∙◌, if◌then◌else◌}
-use Rattle.qs_base.specs.Order.{same_tid}
-use Rattle.qs_base.specs.declared.identifiers.NodeNo.{NodeNo}
+use Rattle.qs_world_runs.proofs.Words.{◌≡◌, ℕ, ◌||◌, ◌&&◌, Bool, true, false, not, List, [], ◌∷◌, ◌++◌, fold, Option, Some, None, refl, sym, ap, subst, ◌∙◌, if◌then◌else◌, same_tid, NodeNo, ServerNo, Tid, is_covered, no_peer, peer_of, listed, same_node, Message, Record, block, is_other, log_if, send, send_next, tid_of, end_member, end_members, give_notices, learn_member, due_endings, learners_at, begin_incarnation, find_gone, inquire, is_orphaned_by, known_tids, name_again, notice_decided}
+use Rattle.qs_world_runs.proofs.Words.{notice_part, notice_tid, resume_home, resume_part, resume_tid, tell_again, Work, with_manager, with_node, record_learnt, is_told_again, named_by, is_owed_by, Manager, Participant, same_is, index_alike, part_changed, part_unknown, same_Some}
 use Rattle.qs_base.specs.declared.identifiers.Outcome.{Outcome}
 use Rattle.qs_base.specs.declared.identifiers.Outcome.TheVariants as outcomes
-use Rattle.qs_base.specs.declared.identifiers.ServerNo.{ServerNo}
-use Rattle.qs_base.specs.declared.identifiers.Tid.{Tid}
-use Rattle.qs_engage.specs.Engage.{is_covered, no_peer, peer_of}
-use Rattle.qs_engage.specs.Nodes.{listed, same_node}
 use Rattle.qs_ops.specs.declared.answer.Cause.TheVariants as causes
-use Rattle.qs_packet.specs.declared.message.Message.{Message}
 use Rattle.qs_packet.specs.declared.message.Message.TheVariants as messages
-use Rattle.qs_record.specs.declared.record.Record.{Record}
-use Rattle.qs_node_step.specs.Asking.{block}
-use Rattle.qs_node_step.specs.Bringing.{is_other, log_if, send, send_next, tid_of}
-use Rattle.qs_node_step.specs.Deciding.{end_member, end_members, give_notices, learn_member, due_endings, learners_at}
-use Rattle.qs_node_step.specs.Restarts.{begin_incarnation, find_gone, inquire, is_orphaned_by, known_tids, name_again, notice_decided, notice_part, notice_tid, resume_home, resume_part, resume_tid, tell_again}
-use Rattle.qs_node_step.specs.State.{Work, part_of, with_manager, with_node}
-use Rattle.qs_node_step.specs.Telling.{record_learnt}
+use Rattle.qs_node_step.specs.State.{part_of}
 use Rattle.qs_tm.specs.Manager as tm
 use Rattle.qs_tm.specs.Outcomes as outcome_rules
-use Rattle.qs_tm.specs.Outcomes.{is_abort, is_told_again, named_by}
+use Rattle.qs_tm.specs.Outcomes.{is_abort}
 use Rattle.qs_tm.specs.Participant as participant
-use Rattle.qs_tm.specs.Participant.{is_owed_by, waits_for}
-use Rattle.qs_tm.specs.declared.manager.Manager.{Manager}
-use Rattle.qs_tm.specs.declared.participant.Participant.{Participant}
+use Rattle.qs_tm.specs.Participant.{waits_for}
 use Rattle.qs_world_refine.proofs.Frames.{part_apart}
-use Rattle.qs_world_refine.proofs.SoundKnown.{same_is}
-use Rattle.qs_world_lawful.proofs.Counting.{index_alike}
-use Rattle.qs_world_lawful.proofs.Faces.{part_changed, part_unknown}
 
 module _ (peer : NodeNo) where
   -- it knows the transaction, has not decided it, and the peer owes something of it
@@ -61,16 +44,13 @@ module _ (peer : NodeNo) where
           own : (o : Option Participant) → tm.part_of u manager ≡ o → Owing (tm.with_part u f manager) u → Owing manager u
           own None none h = absurd (let now = part_unknown u f manager none in let known = h.known in cc (now, known))
           own (Some p) some h =
-              let same_part : f p ≡ h.part = inside (f p) h.part (sym (part_changed u f manager p some) ∙ h.known) in
+              let same_part : f p ≡ h.part = same_Some (f p) h.part (sym (part_changed u f manager p some) ∙ h.known) in
               record {
                 part = p;
                 known = some;
                 undecided = sym (leaves.outcome p) ∙ (ap (λ (x : Participant). x.outcome) same_part ∙ h.undecided);
                 owed = sym (leaves.owed p) ∙ (ap (is_owed_by peer) same_part ∙ h.owed);
               }
-            where
-              inside : (a b : Participant) → Some a ≡ Some b → a ≡ b
-              inside a b e = cc (e)
 
       by : (b : Bool) → same_tid t tid ≡ b → Owing manager t
       by true same = core tid (same_is t tid same) h

@@ -1,25 +1,9 @@
 -- What a node waits for stands after entries of other nodes too: they count nothing for it, and answer none of its clients.
-use Rattle.std.proofs.Common.{◌≡◌, ℕ, ◌==◌, ◌&&◌, ◌||◌, ◌+◌, ◌-◌, Bool, true, false, List, [], ◌∷◌, ◌++◌, refl, sym, ap, ◌∙◌, arith}
-use Rattle.std.proofs.lemmas.Bool.Decides.{nat_tests}
-use Rattle.std.specs.BTreeMap.{is_at}
-use Rattle.std.specs.List.{list_any}
-use Rattle.std.specs.Map.{lookup}
-use Rattle.qs_base.specs.declared.identifiers.NodeNo.{NodeNo}
-use Rattle.qs_base.specs.declared.identifiers.Tid.{Tid}
-use Rattle.qs_engage.specs.Engage.{peer_of}
-use Rattle.qs_book_journal.specs.declared.entry.Act.{Act}
+use Rattle.qs_world_runs.proofs.Words.{◌≡◌, ℕ, ◌==◌, ◌&&◌, ◌||◌, ◌+◌, ◌-◌, Bool, true, false, List, [], ◌∷◌, ◌++◌, refl, sym, ap, ◌∙◌, arith, nat_tests, is_at, list_any, lookup, NodeNo, Tid, peer_of, Act, Entry, answers, counts, is_count_of, client_no, client_of, waits_as, client_cmp, Outstanding, AnswersElsewhere, IsAside, Every, every_on, IsAwaited, Owes, StandsOwed}
 use Rattle.qs_book_journal.specs.declared.entry.Act.TheVariants as acts
-use Rattle.qs_book_journal.specs.declared.entry.Entry.{Entry}
-use Rattle.qs_book_laws.specs.Gone.{answers, counts, is_answer_to, is_count_of}
-use Rattle.qs_ops.specs.Servers.{client_no}
-use Rattle.qs_node_servers.specs.Servers.{client_of}
-use Rattle.qs_node_step.specs.Requests.{waits_as}
-use Rattle.qs_node_step.specs.State.{NodeValue, client_cmp}
-use Rattle.qs_tm.specs.declared.participant.Outstanding.{Outstanding}
-use Rattle.qs_world_lawful.specs.Aside.{AnswersElsewhere, IsAside}
-use Rattle.qs_world_lawful.specs.Logs.{Every}
-use Rattle.qs_world_lawful.proofs.LogFrames.{every_on}
-use Rattle.qs_world_runs.specs.Owing.{IsAwaited, IsElsewhere, Owes, StandsOwed}
+use Rattle.qs_book_laws.specs.Gone.{is_answer_to}
+use Rattle.qs_node_step.specs.State.{NodeValue}
+use Rattle.qs_world_runs.specs.Owing.{IsElsewhere}
 use Rattle.qs_world_runs.proofs.OwingEntries.{awaited_on, uncounted_on}
 
 module _ (n : ℕ) (node : NodeValue) (own : node.setting.node.0 ≡ n) where

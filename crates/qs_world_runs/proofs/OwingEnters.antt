@@ -1,51 +1,21 @@
 -- What a node waits for stands on as its step enters something, keeps labels and outcomes, and takes and answers commands.
-use Rattle.std.proofs.Common.{◌≡◌, ◌≢◌, ◌⊎◌, inl, inr, ℕ, ◌+◌, ◌-◌, ◌==◌, ◌&&◌, ◌||◌, Bool, true, false, List, [], ◌∷◌, ◌++◌, Option, Some, None, refl, sym, ap, subst, ◌∙◌, arith, append_assoc, if◌then◌else◌}
-use Rattle.std.proofs.lemmas.Bool.Decides.{nat_tests}
-use Rattle.std.specs.BTreeMap.{insert_entry, is_at}
-use Rattle.std.specs.List.{find}
-use Rattle.std.specs.Map.{lookup, remove_entry}
-use Rattle.qs_base.specs.declared.identifiers.ClientNo.{ClientNo}
-use Rattle.qs_base.specs.declared.identifiers.NodeNo.{NodeNo}
+use Rattle.qs_world_runs.proofs.Words.{◌≡◌, ◌≢◌, ◌⊎◌, inl, inr, ℕ, ◌+◌, ◌-◌, ◌==◌, ◌&&◌, ◌||◌, Bool, true, false, List, [], ◌∷◌, ◌++◌, Option, Some, None, refl, sym, ap, subst, ◌∙◌, arith, append_assoc, if◌then◌else◌, nat_tests, insert_entry, is_at, find, lookup, remove_entry, ClientNo, NodeNo, Tid, peer_of, Act, Entry, ScriptLine, is_outcome_of, Begun, Decided, changed_apart, is_count_of, client_no, Answer, Cause, client_of, answer, enter, keep_outcome, put_label, Work, client_cmp}
+use Rattle.qs_world_runs.proofs.Words.{with_manager, with_command, Issued, OpenCommand, Manager, Outstanding, Participant, entries_of, entry_of, Every, AreApart, client_exact, same_client_or, of_some, Amid, Around, IsCommanded, NotAwaited, StandsSo, around, command_at}
 use Rattle.qs_base.specs.declared.identifiers.Outcome.{Outcome}
-use Rattle.qs_base.specs.declared.identifiers.Tid.{Tid}
-use Rattle.qs_engage.specs.Engage.{peer_of}
-use Rattle.qs_book_journal.specs.declared.entry.Act.{Act}
 use Rattle.qs_book_journal.specs.declared.entry.Act.TheVariants as acts
-use Rattle.qs_book_journal.specs.declared.entry.Entry.{Entry}
-use Rattle.qs_book_journal.specs.declared.script_line.ScriptLine.{ScriptLine}
-use Rattle.qs_node_kept.specs.Keeping.{has_label, is_outcome_of}
-use Rattle.qs_node_kept.specs.declared.kept.KeptLabel.{KeptLabel}
-use Rattle.qs_node_kept.specs.declared.kept.Decided.{Decided}
-use Rattle.qs_book_laws.proofs.Maps.{changed_apart, lookup_put_apart}
-use Rattle.qs_book_laws.specs.Gone.{is_answer_to, is_count_of}
-use Rattle.qs_ops.specs.Servers.{client_no}
-use Rattle.qs_ops.specs.declared.answer.Answer.{Answer}
-use Rattle.qs_ops.specs.declared.answer.Cause.{Cause}
-use Rattle.qs_node_servers.specs.Servers.{client_of}
-use Rattle.qs_node_step.specs.Bringing.{answer, enter}
+use Rattle.qs_node_kept.specs.Keeping.{has_label}
+use Rattle.qs_book_laws.proofs.Maps.{lookup_put_apart}
+use Rattle.qs_book_laws.specs.Gone.{is_answer_to}
 use Rattle.qs_node_step.specs.Commands.{with_issued}
-use Rattle.qs_node_step.specs.Deciding.{keep_outcome}
-use Rattle.qs_node_step.specs.Serving.{put_label}
-use Rattle.qs_node_step.specs.State.{Work, client_cmp, with_manager}
-use Rattle.qs_node_step.specs.Step.{with_command}
-use Rattle.qs_node_step.specs.declared.state.Issued.{Issued}
-use Rattle.qs_node_step.specs.declared.state.OpenCommand.{OpenCommand}
 use Rattle.qs_tm.specs.Manager as tm
 use Rattle.qs_tm.specs.Outcomes as outcome_rules
-use Rattle.qs_tm.specs.declared.manager.Manager.{Manager}
-use Rattle.qs_tm.specs.declared.participant.Outstanding.{Outstanding}
-use Rattle.qs_tm.specs.declared.participant.Participant.{Participant}
-use Rattle.qs_world.specs.Posting.{entries_of, entry_of}
-use Rattle.qs_world_lawful.specs.Logs.{Every}
-use Rattle.qs_world_lawful.proofs.Answers.{AreApart, client_exact, same_client_or}
 use Rattle.qs_world_lawful.proofs.Apart.{Apart}
 use Rattle.qs_world_lawful.proofs.Begins.{label_stays}
 use Rattle.qs_world_lawful.proofs.LogKeeps.{map_both}
 use Rattle.qs_world_lawful.proofs.OtherShares.{removed_apart}
-use Rattle.qs_world_lawful.proofs.Truths.{of_some}
-use Rattle.qs_world_runs.specs.OwingAmid.{Amid, Around, IsCommanded, NotAwaited, StandsSo, around, command_at}
 use Rattle.qs_world_runs.proofs.OwingLeaves.{decided_left}
 use Rattle.qs_world_runs.proofs.OwingParts.{WaitsOn, every_each, so_left, so_on, so_still, waits_as, waits_changed}
+use Rattle.std.proofs.lemmas.Option.{none-some}
 
 -- an entry that counts nothing and answers nobody
 pub record IsSilent (act : Act) : Type 0 where
@@ -54,7 +24,7 @@ pub record IsSilent (act : Act) : Type 0 where
 
 -- a request is commanded on where its client's command, its label and the outcomes that are kept stay
 pub commanded_as : (a b : Around) (tid : Tid) (request : Outstanding) → ((command : OpenCommand) → command_at (client_of request.issuer) a ≡ Some command → command_at (client_of request.issuer) b ≡ Some command)
-    → ((label : List ℕ) (begun : KeptLabel) → find (has_label label) a.labels ≡ Some begun → find (has_label label) b.labels ≡ Some begun) → (find (is_outcome_of tid) a.outcomes ≡ None → find (is_outcome_of tid) b.outcomes ≡ None)
+    → ((label : List ℕ) (begun : Begun) → find (has_label label) a.labels ≡ Some begun → find (has_label label) b.labels ≡ Some begun) → (find (is_outcome_of tid) a.outcomes ≡ None → find (is_outcome_of tid) b.outcomes ≡ None)
     → IsCommanded a tid request → IsCommanded b tid request
 commanded_as a b tid request commands labels outcomes c = record {
   command = c.command;
@@ -72,11 +42,8 @@ commanded_as a b tid request commands labels outcomes c = record {
 pub unissued : (a : Around) (m : Manager) (client : ClientNo) (command : OpenCommand) → command_at client a ≡ Some command → command.issued ≡ None → NotAwaited a m client
 unissued a m client command there none tid part known undecided = every_each (λ (request : Outstanding). IsCommanded a tid request → client_of request.issuer ≡ client → ⊥) not_this part.waiting
   where
-    no : (i : Issued) → None ≡ Some i → ⊥
-    no i e = cc e
-
     not_this : (request : Outstanding) → IsCommanded a tid request → client_of request.issuer ≡ client → ⊥
-    not_this request c same = no c.issued (sym none ∙ (ap (λ (o : OpenCommand). o.issued) (of_some (sym there ∙ subst (λ (x : ClientNo). command_at x a ≡ Some c.command) same c.there)) ∙ c.as_issued))
+    not_this request c same = none-some c.issued (sym none ∙ (ap (λ (o : OpenCommand). o.issued) (of_some (sym there ∙ subst (λ (x : ClientNo). command_at x a ≡ Some c.command) same c.there)) ∙ c.as_issued))
 
 pub history_more : (before : List Entry) (n stamp : ℕ) (acts : List Act) (act : Act) → before ++ entries_of n stamp (acts ++ act ∷ []) ≡ (before ++ entries_of n stamp acts) ++ entry_of n stamp act ∷ []
 history_more before n stamp acts act = ap (λ (es : List Entry). before ++ es) (map_both n stamp acts (act ∷ [])) ∙ sym (append_assoc before (entries_of n stamp acts) (entry_of n stamp act ∷ []))
@@ -153,7 +120,7 @@ module _ (before : List Entry) (stamp : ℕ) where
 
   -- ---- labels and outcomes
 
-  pub labelled_amid : (begun : KeptLabel) (work : Work) → Here work → Here (put_label begun work)
+  pub labelled_amid : (begun : Begun) (work : Work) → Here work → Here (put_label begun work)
   labelled_amid begun work = waits_as a b work.node.manager (λ tid part known. so_still a b refl refl tid part (λ undecided. every_each (λ (request : Outstanding). IsCommanded a tid request → IsCommanded b tid request)
       (λ request. commanded_as a b tid request (λ command there. there) (λ label was found. label_stays label begun work.node.kept.now.labels was found) (λ kept. kept)) part.waiting))
     where

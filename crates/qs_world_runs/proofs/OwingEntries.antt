@@ -1,25 +1,11 @@
 -- What a node waits for stands open in the history, and later entries leave it so, unless its node counts it, or its client is answered.
-use Rattle.std.proofs.Common.{◌≡◌, ℕ, ◌==◌, ◌&&◌, ◌||◌, not, Bool, true, false, List, [], ◌∷◌, ◌++◌, refl, sym, ap, subst, ◌∙◌}
-use Rattle.std.proofs.lemmas.Bool.{eqb-true}
-use Rattle.std.proofs.lemmas.List.Folds.{list_any-append}
-use Rattle.std.specs.List.{list_any}
-use Rattle.std.specs.Prelude.{None}
-use Rattle.qs_base.specs.Order.{same_tid}
-use Rattle.qs_base.specs.declared.identifiers.NodeNo.{NodeNo}
-use Rattle.qs_base.specs.declared.identifiers.Tid.{Tid}
-use Rattle.qs_engage.specs.Engage.{is_open_to, peer_of}
-use Rattle.qs_book_journal.specs.declared.entry.Act.{Act}
+use Rattle.qs_world_runs.proofs.Words.{◌≡◌, ℕ, ◌==◌, ◌&&◌, ◌||◌, not, Bool, true, false, List, [], ◌∷◌, ◌++◌, refl, sym, ap, subst, ◌∙◌, eqb-true, list_any-append, list_any, None, same_tid, NodeNo, Tid, is_open_to, peer_of, Act, Entry, answers, counts, restarts, is_client_no, is_owed_by, Outstanding, Participant, Every, IsAwaited, StandsOwed, stands_awaited, stands_uncounted}
 use Rattle.qs_book_journal.specs.declared.entry.Act.TheVariants as acts
-use Rattle.qs_book_journal.specs.declared.entry.Entry.{Entry}
-use Rattle.qs_book_laws.specs.Gone.{answers, counts, is_counted, is_open_issue, stands_open, waits_still}
-use Rattle.qs_book_laws.specs.Lives.{restarts}
-use Rattle.qs_ops.specs.Servers.{files_no, is_client_no}
-use Rattle.qs_tm.specs.Participant.{is_owed_by, is_to, waits_for}
-use Rattle.qs_tm.specs.declared.participant.Outstanding.{Outstanding}
-use Rattle.qs_tm.specs.declared.participant.Participant.{Participant}
+use Rattle.qs_book_laws.specs.Gone.{is_counted, is_open_issue, stands_open, waits_still}
+use Rattle.qs_ops.specs.Servers.{files_no}
+use Rattle.qs_tm.specs.Participant.{is_to, waits_for}
 use Rattle.qs_node_step.specs.State.{NodeValue}
-use Rattle.qs_world_lawful.specs.Logs.{Every}
-use Rattle.qs_world_runs.specs.Owing.{IsAwaited, StandsOwed, is_awaited, is_uncounted, stands_awaited, stands_uncounted}
+use Rattle.qs_world_runs.specs.Owing.{is_awaited, is_uncounted}
 
 either : (a b c d : Bool) → (a ≡ true → c ≡ true) → (b ≡ true → d ≡ true) → (a || b) ≡ true → (c || d) ≡ true
 either true b c d f g is = rw (f refl) refl

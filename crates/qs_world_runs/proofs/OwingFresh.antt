@@ -1,30 +1,13 @@
 -- A node whose incarnation begins waits for nothing: what it takes up from its log was neither sent nor asked for in it.
-use Rattle.std.proofs.Common.{◌≡◌, ◌⊎◌, inl, inr, ◌==◌, Bool, true, false, not, List, [], ◌∷◌, ◌++◌, length, fold, Some, refl, sym, ap, subst, ◌∙◌, if◌then◌else◌}
-use Rattle.std.specs.Global.{Global}
-use Rattle.qs_base.specs.declared.identifiers.NodeNo.{NodeNo}
-use Rattle.qs_base.specs.declared.identifiers.Tid.{Tid}
-use Rattle.qs_engage.specs.Engage.{is_covered, is_open_to, new_engage}
-use Rattle.qs_engage.specs.declared.engage.PeerPart.{PeerPart}
-use Rattle.qs_book_journal.specs.declared.entry.Entry.{Entry}
+use Rattle.qs_world_runs.proofs.Words.{◌≡◌, ◌⊎◌, inl, inr, ◌==◌, Bool, true, false, not, List, [], ◌∷◌, ◌++◌, length, fold, Some, refl, sym, ap, subst, ◌∙◌, if◌then◌else◌, Global, NodeNo, Tid, is_covered, is_open_to, PeerPart, Entry, Record, Recovered, new_manager, take_up, Setting, committed_before, voted_before, new_participant, Manager, Participant, Every, same_or_apart, each_changed, put_there, of_some, IsAwaited, Owes}
+use Rattle.qs_engage.specs.Engage.{new_engage}
 use Rattle.qs_node_kept.specs.declared.kept.Kept.{Kept}
-use Rattle.qs_record.specs.declared.record.Record.{Record}
 use Rattle.qs_record.specs.declared.record.Record.TheVariants as records
-use Rattle.qs_restart.specs.declared.recovered.Recovered.{Recovered}
-use Rattle.qs_node_step.specs.Opening.{new_manager, opened_node, take_up}
-use Rattle.qs_node_step.specs.declared.setting.Setting.{Setting}
+use Rattle.qs_node_step.specs.Opening.{opened_node}
 use Rattle.qs_tm.specs.Manager as tm
-use Rattle.qs_tm.specs.Outcomes.{committed_before, voted_before}
-use Rattle.qs_tm.specs.Participant.{new_participant}
-use Rattle.qs_tm.specs.declared.manager.Manager.{Manager}
-use Rattle.qs_tm.specs.declared.participant.Participant.{Participant}
-use Rattle.qs_world_lawful.specs.Logs.{Every}
-use Rattle.qs_world_lawful.proofs.Apart.{Apart, same_or_apart}
+use Rattle.qs_world_lawful.proofs.Apart.{Apart}
 use Rattle.qs_world_lawful.proofs.Begins.{new_peer}
 use Rattle.qs_world_lawful.proofs.Faces.{put_apart}
-use Rattle.qs_world_lawful.proofs.FactsKept.{each_changed}
-use Rattle.qs_world_lawful.proofs.Marks.{put_there}
-use Rattle.qs_world_lawful.proofs.Truths.{of_some}
-use Rattle.qs_world_runs.specs.Owing.{IsAwaited, Owes}
 
 -- nothing was sent, and nothing is waited for
 record IsFresh (part : Participant) : Type 0 where

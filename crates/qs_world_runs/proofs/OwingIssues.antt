@@ -1,51 +1,29 @@
 -- What a node waits for stands on as a request is issued, which stands in the history then, as a peer answers for what was sent to it, and as a reply comes.
-use Rattle.std.proofs.Common.{◌≡◌, ℕ, ◌+◌, ◌==◌, ◌&&◌, ◌||◌, Bool, true, false, not, List, [], ◌∷◌, ◌++◌, zero, suc, Option, Some, None, refl, sym, ap, subst, ◌∙◌, arith, max, nat_le, if◌then◌else◌}
-use Rattle.std.proofs.lemmas.Bool.{eqb-true}
-use Rattle.std.proofs.lemmas.Bool.Decides.{nat_tests}
-use Rattle.std.specs.Prelude.{slice_index_or, slice_set}
-use Rattle.qs_base.proofs.Same.{same_tid-self}
-use Rattle.qs_base.specs.Order.{same_tid}
-use Rattle.qs_base.specs.declared.identifiers.Member.{Member}
-use Rattle.qs_base.specs.declared.identifiers.NodeNo.{NodeNo}
-use Rattle.qs_base.specs.declared.identifiers.Tid.{Tid}
+use Rattle.qs_world_runs.proofs.Words.{◌≡◌, ℕ, ◌+◌, ◌==◌, ◌&&◌, ◌||◌, Bool, true, false, not, List, [], ◌∷◌, ◌++◌, zero, suc, Option, Some, None, refl, sym, ap, subst, ◌∙◌, arith, nat_le, if◌then◌else◌, eqb-true, eqb-false, or_right, nat_tests, slice_index_or, slice_set, same_tid-self, same_tid, Member, NodeNo, Tid, is_covered, is_open_to, last_number, next_sent, no_peer, peer_of, with_peer, Engage, PeerPart, Entry, is_count_of, is_client_no, Op, Manager, Outstanding, Participant, Every}
+use Rattle.qs_world_runs.proofs.Words.{index_alike, every_append, clash, of_some, same_self, stands_awaited, stands_uncounted, Around, IsCommanded, IsHeld, LeavesWaits, StandsSo, Waits}
+use Rattle.std.proofs.Common.{max}
+use Rattle.std.proofs.lemmas.Bool.{not_from_false}
 use Rattle.qs_engage.specs.Engage as engage
-use Rattle.qs_engage.specs.Engage.{is_covered, is_open_to, last_number, next_sent, no_peer, peer_of, with_peer}
-use Rattle.qs_engage.specs.declared.engage.Engage.{Engage}
-use Rattle.qs_engage.specs.declared.engage.PeerPart.{PeerPart}
 use Rattle.qs_book_journal.specs.declared.entry.Act.TheVariants as acts
-use Rattle.qs_book_journal.specs.declared.entry.Entry.{Entry}
-use Rattle.qs_book_laws.specs.Gone.{is_count_of}
-use Rattle.qs_ops.specs.Servers.{files_no, is_client_no}
-use Rattle.qs_ops.specs.declared.operation.Op.{Op}
+use Rattle.qs_ops.specs.Servers.{files_no}
 use Rattle.qs_tm.specs.Manager as tm
 use Rattle.qs_tm.specs.Participant as participant
-use Rattle.qs_tm.specs.declared.manager.Manager.{Manager}
-use Rattle.qs_tm.specs.declared.participant.Outstanding.{Outstanding}
-use Rattle.qs_tm.specs.declared.participant.Participant.{Participant}
-use Rattle.qs_world_lawful.specs.Logs.{Every}
 use Rattle.qs_world_lawful.proofs.Apart.{Apart}
-use Rattle.qs_world_lawful.proofs.Counting.{index_alike}
-use Rattle.qs_world_lawful.proofs.LogRecords.{every_append}
 use Rattle.qs_world_lawful.proofs.Parts.{index_apart}
 use Rattle.qs_world_lawful.proofs.Replied.{part_twice}
-use Rattle.qs_world_lawful.proofs.Truths.{clash, node_is, not_true, of_some, same_self}
-use Rattle.qs_world_runs.specs.Owing.{is_awaited, is_uncounted, stands_awaited, stands_uncounted}
-use Rattle.qs_world_runs.specs.OwingAmid.{Around, IsCommanded, IsHeld, LeavesWaits, StandsSo, Waits}
+use Rattle.qs_world_lawful.proofs.Truths.{node_is, not_true}
+use Rattle.qs_world_runs.specs.Owing.{is_awaited, is_uncounted}
 use Rattle.qs_world_runs.proofs.OwingParts.{WaitsOn, every_each, so_left, so_on, waits_changed}
 
 -- ---- what stands last in a history
 
-either : (a b : Bool) → b ≡ true → (a || b) ≡ true
-either true b is = refl
-either false b is = is
-
 stands_last : (tid : Tid) (peer here : NodeNo) (number : ℕ) (history : List Entry) (entry : Entry) → is_uncounted tid peer here number entry.node entry.act [] ≡ true → stands_uncounted tid peer here number (history ++ entry ∷ []) ≡ true
 stands_last tid peer here number [] entry is = rw is refl
-stands_last tid peer here number (first ∷ rest) entry is = either (is_uncounted tid peer here number first.node first.act (rest ++ entry ∷ [])) _ (stands_last tid peer here number rest entry is)
+stands_last tid peer here number (first ∷ rest) entry is = or_right (is_uncounted tid peer here number first.node first.act (rest ++ entry ∷ [])) _ (stands_last tid peer here number rest entry is)
 
 awaits_last : (tid : Tid) (peer : NodeNo) (server : ℕ) (history : List Entry) (entry : Entry) → is_awaited tid peer server entry.act [] ≡ true → stands_awaited tid peer server (history ++ entry ∷ []) ≡ true
 awaits_last tid peer server [] entry is = rw is refl
-awaits_last tid peer server (first ∷ rest) entry is = either (is_awaited tid peer server first.act (rest ++ entry ∷ [])) _ (awaits_last tid peer server rest entry is)
+awaits_last tid peer server (first ∷ rest) entry is = or_right (is_awaited tid peer server first.act (rest ++ entry ∷ [])) _ (awaits_last tid peer server rest entry is)
 
 -- ---- the places of peers
 
@@ -67,9 +45,6 @@ set_opens (p ∷ ps) zero (suc j) v more is = is
 set_opens (p ∷ ps) (suc i) zero v more is = is
 set_opens (p ∷ ps) (suc i) (suc j) v more is = set_opens ps i j v more is
 
-is_not : (b : Bool) → b ≡ false → not b ≡ true
-is_not b e = rw e refl
-
 -- ---- a peer answers
 
 module _ (a b : Around) (entry : Entry) (me : b.me ≡ a.me) (history : b.history ≡ a.history ++ entry ∷ []) (peer : NodeNo) (tid : Tid) (up_to : ℕ) (told : List NodeNo) (act : entry.act ≡ acts.Counted tid peer up_to)
@@ -78,7 +53,7 @@ module _ (a b : Around) (entry : Entry) (me : b.me ≡ a.me) (history : b.histor
   answers_nobody t = every_each (WaitsOn a b t (entry ∷ [])) (λ request other c. (rw act refl, same t request c))
 
   counted_left : LeavesWaits (participant.counted tid.home peer up_to told)
-  counted_left = record { opens = λ p q h. is_not _ (set_opens p.engage.peers peer.0 q.0 (new p) (more p) (not_true _ h)); sent = λ p q. index_alike (λ (x : PeerPart). x.sent) p.engage.peers peer.0 q.0 (new p) no_peer refl; waiting = λ p. refl; outcome = λ p h. h }
+  counted_left = record { opens = λ p q h. not_from_false _ (set_opens p.engage.peers peer.0 q.0 (new p) (more p) (not_true _ h)); sent = λ p q. index_alike (λ (x : PeerPart). x.sent) p.engage.peers peer.0 q.0 (new p) no_peer refl; waiting = λ p. refl; outcome = λ p h. h }
     where
       new : Participant → PeerPart
       new p = record (peer_of p.engage peer) { covered = max (peer_of p.engage peer).covered up_to }
@@ -187,10 +162,7 @@ module _ (a : Around) (before : List Entry) (entry : Entry) (at : entry.node.0 �
           by : (b : Bool) → (to.0 == q.0) ≡ b → is_open_to q (with_peer to new p.engage) ≡ true → stands_uncounted tid q a.me (peer_of (with_peer to new p.engage) q).sent a.history ≡ true
           by true is = subst (λ (n : NodeNo). is_open_to n (with_peer to new p.engage) ≡ true → stands_uncounted tid n a.me (peer_of (with_peer to new p.engage) n).sent a.history ≡ true) (node_is to q (eqb-true to.0 q.0 is))
               (λ open_to. subst (λ (x : PeerPart). stands_uncounted tid to a.me x.sent a.history ≡ true) (sym (set_above p.engage.peers to.0 new (not_true _ open_to))) (subst (λ (k : ℕ). stands_uncounted tid to a.me k a.history ≡ true) (sym both.1) last_stands))
-          by false is = subst (λ (x : PeerPart). not (is_covered x) ≡ true → stands_uncounted tid q a.me x.sent a.history ≡ true) (sym (index_apart p.engage.peers to.0 q.0 new no_peer (λ e. differ to.0 q.0 is e))) (s.uncounted q)
-            where
-              differ : (i j : ℕ) → (i == j) ≡ false → i ≡ j → ⊥
-              differ i j far e = grind (arith, nat_tests, far, e)
+          by false is = subst (λ (x : PeerPart). not (is_covered x) ≡ true → stands_uncounted tid q a.me x.sent a.history ≡ true) (sym (index_apart p.engage.peers to.0 q.0 new no_peer (λ e. eqb-false to.0 q.0 is e))) (s.uncounted q)
 
   pub waits_sent : (m : Manager) → tm.sent_as tid request.member.node m ≡ Some request.number → Waits a m → Waits a (tm.sent tid request.member.node (tm.issued tid request m))
   waits_sent m next w = subst (Waits a) (sym (part_twice tid (participant.sent request.member.node) (participant.issued request) m))

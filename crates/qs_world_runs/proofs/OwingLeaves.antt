@@ -1,24 +1,10 @@
 -- What a rule changes of one transaction leaves what its node waits for, but where a request is issued, answered for or replied to.
-use Rattle.std.proofs.Common.{◌≡◌, ℕ, ◌+◌, ◌==◌, ◌||◌, Bool, true, false, not, List, Option, Some, None, refl, sym, ap, ◌∙◌, if◌then◌else◌}
-use Rattle.std.specs.Prelude.{slice_index_or}
-use Rattle.qs_base.specs.declared.identifiers.Member.{Member}
-use Rattle.qs_base.specs.declared.identifiers.NodeNo.{NodeNo}
+use Rattle.qs_world_runs.proofs.Words.{◌≡◌, ℕ, ◌+◌, ◌==◌, ◌||◌, Bool, true, false, not, List, Option, Some, None, refl, sym, ap, ◌∙◌, if◌then◌else◌, slice_index_or, Member, NodeNo, ServerNo, is_covered, is_open_to, last_number, no_peer, peer_of, Engage, PeerPart, Cause, Vote, Record, class_here, is_told_class, member_of, with_member, Participant, index_alike, LeavesWaits}
 use Rattle.qs_base.specs.declared.identifiers.Outcome.{Outcome}
-use Rattle.qs_base.specs.declared.identifiers.ServerNo.{ServerNo}
 use Rattle.qs_engage.specs.Engage as engage
-use Rattle.qs_engage.specs.Engage.{is_covered, is_open_to, last_number, no_peer, peer_of, with_last, with_superior}
-use Rattle.qs_engage.specs.declared.engage.Engage.{Engage}
-use Rattle.qs_engage.specs.declared.engage.PeerPart.{PeerPart}
-use Rattle.qs_ops.specs.declared.answer.Cause.{Cause}
-use Rattle.qs_ops.specs.declared.vote.Vote.{Vote}
-use Rattle.qs_record.specs.declared.record.Record.{Record}
-use Rattle.qs_tm.specs.Members.{class_here, is_told_class}
+use Rattle.qs_engage.specs.Engage.{with_last, with_superior}
 use Rattle.qs_tm.specs.Outcomes as outcome_rules
 use Rattle.qs_tm.specs.Participant as participant
-use Rattle.qs_tm.specs.Participant.{member_of, with_member}
-use Rattle.qs_tm.specs.declared.participant.Participant.{Participant}
-use Rattle.qs_world_lawful.proofs.Counting.{index_alike}
-use Rattle.qs_world_runs.specs.OwingAmid.{LeavesWaits}
 
 -- ---- what leaves the engagement
 

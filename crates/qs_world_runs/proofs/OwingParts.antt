@@ -1,36 +1,13 @@
 -- What a node waits for stands on where the history grows, and where what the node keeps of one transaction is changed, put in or forgotten.
-use Rattle.std.proofs.Common.{◌≡◌, ◌⊎◌, inl, inr, ℕ, ◌==◌, Bool, true, false, not, List, [], ◌∷◌, ◌++◌, Some, None, refl, sym, ap, subst, ◌∙◌, if◌then◌else◌}
-use Rattle.std.proofs.lemmas.List.{append-nil}
-use Rattle.std.specs.BTreeMap.{is_at}
-use Rattle.std.specs.List.{list_any}
-use Rattle.qs_base.proofs.TidOrder.{tid_total}
-use Rattle.qs_base.specs.Order.{tid_cmp}
-use Rattle.qs_base.specs.declared.identifiers.NodeNo.{NodeNo}
-use Rattle.qs_base.specs.declared.identifiers.Tid.{Tid}
-use Rattle.qs_engage.specs.Engage.{is_covered, is_open_to, new_engage, peer_of}
-use Rattle.qs_engage.specs.declared.engage.PeerPart.{PeerPart}
-use Rattle.qs_book_journal.specs.declared.entry.Entry.{Entry}
-use Rattle.qs_book_laws.proofs.Alikes.{at_exact}
-use Rattle.qs_book_laws.proofs.Rising.{put_rises, remove_rises, removed}
-use Rattle.qs_book_laws.specs.Gone.{answers, counts}
+use Rattle.qs_world_runs.proofs.Words.{◌≡◌, ◌⊎◌, inl, inr, ℕ, ◌==◌, Bool, true, false, not, List, [], ◌∷◌, ◌++◌, Some, None, refl, sym, ap, subst, ◌∙◌, if◌then◌else◌, append-nil, is_at, list_any, tid_total, tid_cmp, NodeNo, Tid, is_covered, is_open_to, peer_of, PeerPart, Entry, at_exact, put_rises, remove_rises, removed, answers, counts, forget_apart, aborted_participant, new_participant, Manager, Outstanding, Participant, Every, same_or_apart, each_changed, every_two, put_there, of_some}
+use Rattle.qs_world_runs.proofs.Words.{stands_awaited, stands_uncounted, Around, IsCommanded, IsHeld, LeavesWaits, StandsSo, Waits}
+use Rattle.qs_engage.specs.Engage.{new_engage}
 use Rattle.qs_ops.specs.Servers.{files_no}
-use Rattle.qs_world_refine.proofs.Others.{forget_apart}
 use Rattle.qs_tm.specs.Manager as tm
-use Rattle.qs_tm.specs.Outcomes.{aborted_participant}
-use Rattle.qs_tm.specs.Participant.{new_participant}
-use Rattle.qs_tm.specs.declared.manager.Manager.{Manager}
-use Rattle.qs_tm.specs.declared.participant.Outstanding.{Outstanding}
-use Rattle.qs_tm.specs.declared.participant.Participant.{Participant}
-use Rattle.qs_world_lawful.specs.Logs.{Every}
-use Rattle.qs_world_lawful.proofs.Apart.{Apart, same_or_apart}
+use Rattle.qs_world_lawful.proofs.Apart.{Apart}
 use Rattle.qs_world_lawful.proofs.Begins.{new_peer}
 use Rattle.qs_world_lawful.proofs.Faces.{put_apart}
-use Rattle.qs_world_lawful.proofs.FactsKept.{each_changed}
-use Rattle.qs_world_lawful.proofs.FoundMembers.{every_two}
-use Rattle.qs_world_lawful.proofs.Marks.{changed_rises, put_there}
-use Rattle.qs_world_lawful.proofs.Truths.{of_some}
-use Rattle.qs_world_runs.specs.Owing.{stands_awaited, stands_uncounted}
-use Rattle.qs_world_runs.specs.OwingAmid.{Around, IsCommanded, IsHeld, LeavesWaits, StandsSo, Waits}
+use Rattle.qs_world_lawful.proofs.Marks.{changed_rises}
 use Rattle.qs_world_runs.proofs.OwingEntries.{awaited_on, uncounted_on}
 
 pub every_each : {A : Type 0} (P : A → Type 0) → ((x : A) → P x) → (xs : List A) → Every P xs

@@ -1,28 +1,9 @@
 -- As a reply comes, its request waits no more, and no other waits for the command of its client.
-use Rattle.std.proofs.Common.{◌≡◌, ℕ, ◌==◌, ◌&&◌, Bool, true, false, not, List, [], ◌∷◌, Option, Some, None, refl, sym, ap, subst, ◌∙◌, if◌then◌else◌}
-use Rattle.std.proofs.lemmas.Bool.{eqb-true}
-use Rattle.std.specs.List.{filter}
-use Rattle.qs_base.proofs.Same.{same_member-true, same_tid-true}
-use Rattle.qs_base.specs.Order.{same_member, same_tid}
-use Rattle.qs_base.specs.declared.identifiers.ClientNo.{ClientNo}
-use Rattle.qs_base.specs.declared.identifiers.Member.{Member}
-use Rattle.qs_base.specs.declared.identifiers.Tid.{Tid}
-use Rattle.qs_node_servers.specs.Servers.{client_of}
-use Rattle.qs_node_step.specs.Requests.{is_issued_as, waits_as}
-use Rattle.qs_node_step.specs.declared.state.Issued.{Issued}
-use Rattle.qs_node_step.specs.declared.state.OpenCommand.{OpenCommand}
+use Rattle.qs_world_runs.proofs.Words.{◌≡◌, ℕ, ◌==◌, ◌&&◌, Bool, true, false, not, List, [], ◌∷◌, Option, Some, None, refl, sym, ap, subst, ◌∙◌, if◌then◌else◌, eqb-true, filter, same_member-true, same_tid-true, same_member, same_tid, ClientNo, Member, Tid, client_of, is_issued_as, waits_as, Issued, OpenCommand, is_answered_by, Manager, Outstanding, Participant, Every, each_changed, every_filter, clash, left_true, of_some, right_true, Around, IsCommanded, IsHeld, NotAwaited, Waits, command_at}
 use Rattle.qs_tm.specs.Manager as tm
 use Rattle.qs_tm.specs.Participant as participant
-use Rattle.qs_tm.specs.Participant.{is_answered_by, waiting_for}
-use Rattle.qs_tm.specs.declared.manager.Manager.{Manager}
-use Rattle.qs_tm.specs.declared.participant.Outstanding.{Outstanding}
-use Rattle.qs_tm.specs.declared.participant.Participant.{Participant}
+use Rattle.qs_tm.specs.Participant.{waiting_for}
 use Rattle.qs_world_refine.proofs.Entries.{found_is}
-use Rattle.qs_world_lawful.specs.Logs.{Every}
-use Rattle.qs_world_lawful.proofs.FactsKept.{each_changed}
-use Rattle.qs_world_lawful.proofs.LogRecords.{every_filter}
-use Rattle.qs_world_lawful.proofs.Truths.{clash, left_true, of_some, right_true}
-use Rattle.qs_world_runs.specs.OwingAmid.{Around, IsCommanded, IsHeld, NotAwaited, Waits, command_at}
 use Rattle.qs_world_runs.proofs.OwingParts.{every_each, waits_changed}
 
 pub waits_dropped : (a : Around) (tid : Tid) (member : Member) (number : ℕ) (m : Manager) → Waits a m → Waits a (tm.drop_waiting tid member number m)

@@ -1,44 +1,19 @@
 -- What a node waits for stands on through its rules: messages, requests and replies, serving, notices and decisions.
-use Rattle.std.proofs.Common.{◌≡◌, ℕ, ◌==◌, Bool, true, false, List, [], ◌∷◌, ◌++◌, fold, Option, Some, None, refl, sym, ap, ◌∙◌, if◌then◌else◌}
-use Rattle.std.specs.BTreeMap.{is_at}
-use Rattle.std.specs.Map.{lookup}
-use Rattle.std.specs.Prelude.{is_none}
-use Rattle.qs_base.specs.declared.identifiers.ClientNo.{ClientNo}
-use Rattle.qs_base.specs.declared.identifiers.Member.{Member}
-use Rattle.qs_base.specs.declared.identifiers.NodeNo.{NodeNo}
-use Rattle.qs_base.specs.declared.identifiers.ServerNo.{ServerNo}
-use Rattle.qs_base.specs.declared.identifiers.Tid.{Tid}
-use Rattle.qs_engage.specs.Nodes.{same_node}
-use Rattle.qs_engage.specs.declared.engage.Engaged.{Engaged}
+use Rattle.qs_world_runs.proofs.Words.{◌≡◌, ℕ, ◌==◌, Bool, true, false, List, [], ◌∷◌, ◌++◌, fold, Option, Some, None, refl, sym, ap, ◌∙◌, if◌then◌else◌, is_at, lookup, is_none, ClientNo, Member, NodeNo, ServerNo, Tid, same_node, Engaged, Delivery, Entry, answer_of, after_serving, is_client_no, Op, Reply, Message, Record, client_of, is_client, where_undecided, answer, enter, is_other, log_if, member_here, send, send_each, send_next, tid_of, answer_issuer, ask_on, enqueue, is_asked, issue_as}
+use Rattle.qs_world_runs.proofs.Words.{issue_away, issue_here, label_of, next_local, reply_came, take_reply, waits_as, cover_from, engage, enter_serve, is_dropped, label_at, learn_label, lent_to, make_loan, put_label, reply_here, request_came, serve, serve_all, serve_next, serve_or_drop, take_in, Work, change_server, client_cmp, here, with_doings, with_kept, with_manager, with_queues, is_by_files, is_undecided, Outstanding, Participant, entry_of, Amid, IsCommanded, LeavesWaits, around}
 use Rattle.qs_engage.specs.declared.engage.Engaged.TheVariants as engagements
 use Rattle.qs_ipc.specs.Ipc as ipc
 use Rattle.qs_ipc.specs.Queue.{is_for}
-use Rattle.qs_ipc.specs.declared.delivery.Delivery.{Delivery}
 use Rattle.qs_book_journal.specs.declared.entry.Act.TheVariants as acts
-use Rattle.qs_book_journal.specs.declared.entry.Entry.{Entry}
-use Rattle.qs_ops.specs.Operations.{answer_of}
-use Rattle.qs_ops.specs.Server.{after_serving}
-use Rattle.qs_ops.specs.Servers.{files_no, is_client_no}
-use Rattle.qs_ops.specs.declared.operation.Op.{Op}
-use Rattle.qs_ops.specs.declared.reply.Reply.{Reply}
-use Rattle.qs_packet.specs.declared.message.Message.{Message}
+use Rattle.qs_ops.specs.Servers.{files_no}
 use Rattle.qs_packet.specs.declared.message.Message.TheVariants as messages
-use Rattle.qs_record.specs.declared.record.Record.{Record}
-use Rattle.qs_node_servers.specs.Servers.{client_of, is_client}
-use Rattle.qs_node_step.specs.Asking.{where_undecided}
-use Rattle.qs_node_step.specs.Bringing.{answer, enter, is_other, log_if, member_here, send, send_each, send_next, tid_of}
 use Rattle.qs_node_step.specs.Requests as requests
-use Rattle.qs_node_step.specs.Requests.{answer_issuer, ask_on, enqueue, is_asked, issue_as, issue_away, issue_here, label_of, next_local, next_number, reply_came, take_reply, waits_as}
-use Rattle.qs_node_step.specs.Serving.{cover_from, engage, enter_serve, is_dropped, label_at, learn_label, lent_to, make_loan, may_serve, met, put_label, reply_here, request_came, serve, serve_all, serve_next, serve_or_drop, take_in}
-use Rattle.qs_node_step.specs.State.{Work, change_server, client_cmp, here, part_of, with_doings, with_kept, with_manager, with_queues}
+use Rattle.qs_node_step.specs.Requests.{next_number}
+use Rattle.qs_node_step.specs.Serving.{may_serve, met}
+use Rattle.qs_node_step.specs.State.{part_of}
 use Rattle.qs_tm.specs.Manager as tm
 use Rattle.qs_tm.specs.Outcomes as outcome_rules
 use Rattle.qs_tm.specs.Participant as participant
-use Rattle.qs_tm.specs.Participant.{is_by_files, is_undecided}
-use Rattle.qs_tm.specs.declared.participant.Outstanding.{Outstanding}
-use Rattle.qs_tm.specs.declared.participant.Participant.{Participant}
-use Rattle.qs_world.specs.Posting.{entry_of}
-use Rattle.qs_world_runs.specs.OwingAmid.{Amid, IsCommanded, LeavesWaits, around}
 use Rattle.qs_world_runs.proofs.OwingEnters.{answered_amid, commanded_as, entered_amid, history_more, labelled_amid}
 use Rattle.qs_world_runs.proofs.OwingIssues.{waits_issued, waits_sent}
 use Rattle.qs_world_runs.proofs.OwingLeaves.{logged_left, noted_left, requested_left, served_left}

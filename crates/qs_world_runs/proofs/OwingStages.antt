@@ -1,50 +1,24 @@
 -- What a node waits for stands on through votes, settling and whatever comes, and so through a whole step.
-use Rattle.std.proofs.Common.{◌≡◌, ℕ, true, List, [], ◌∷◌, Option, Some, None, refl, sym, subst, if◌then◌else◌}
-use Rattle.std.specs.BTreeMap.{insert_entry, is_at}
-use Rattle.std.specs.Map.{lookup}
-use Rattle.std.proofs.lemmas.Cmp.{tied_itself, nat_cmp_total}
-use Rattle.qs_base.specs.declared.identifiers.NodeNo.{NodeNo}
+use Rattle.qs_world_runs.proofs.Words.{◌≡◌, ℕ, true, List, [], ◌∷◌, Option, Some, None, refl, sym, subst, if◌then◌else◌, insert_entry, is_at, lookup, tied_itself, nat_cmp_total, NodeNo, ServerNo, Tid, release_of, listed, Entry, ScriptLine, BookValue, after_vote, changes_in, vote_of, Cause, Note, Vote, Message, server_at, enter, member_here, end_members, issue_as, begin_incarnation, answer_superior, due_tids, forget_rule, is_pass_due, is_quiet, may_answer, pass_rule, ready, ready_rule}
+use Rattle.qs_world_runs.proofs.Words.{refusal_goes_to, refuse_elsewhere, refuse_home, refuse_rule, say_yes, send_refusal, settle, settle_tid, try, Work, change_server, client_cmp, doings_of, here, with_doings, with_manager, work_on, abort_old, age_rule, command_came, happen, message_came, step_work, wait_on, waiting_clients, with_command, forget, change_count, due_votes, enter_vote, issue_note, log_vote, owes_note, served_count, vote_frame, vote_next, vote_pass, vote_with, Event}
+use Rattle.qs_world_runs.proofs.Words.{told_with_own, is_forgotten, tick_work, coming_first, Amid, around, fresh_command}
 use Rattle.qs_base.specs.declared.identifiers.Outcome.TheVariants as outcomes
-use Rattle.qs_base.specs.declared.identifiers.ServerNo.{ServerNo}
-use Rattle.qs_base.specs.declared.identifiers.Tid.{Tid}
-use Rattle.qs_engage.specs.Engage.{release_of}
-use Rattle.qs_engage.specs.Nodes.{listed}
 use Rattle.qs_book_journal.specs.declared.entry.Act.TheVariants as acts
-use Rattle.qs_book_journal.specs.declared.entry.Entry.{Entry}
-use Rattle.qs_book_journal.specs.declared.script_line.ScriptLine.{ScriptLine}
 use Rattle.qs_book_laws.proofs.Maps.{lookup_put}
-use Rattle.qs_book_machine.specs.Book.{BookValue}
-use Rattle.qs_ops.specs.Server.{after_vote, changes_in, vote_of}
-use Rattle.qs_ops.specs.declared.answer.Cause.{Cause}
 use Rattle.qs_ops.specs.declared.answer.Cause.TheVariants as causes
-use Rattle.qs_ops.specs.declared.operation.Op.TheVariants.{Note}
-use Rattle.qs_ops.specs.declared.vote.Vote.{Vote}
 use Rattle.qs_ops.specs.declared.vote.Vote.TheVariants as votes
-use Rattle.qs_packet.specs.declared.message.Message.{Message}
 use Rattle.qs_packet.specs.declared.message.Message.TheVariants as messages
 use Rattle.qs_record.specs.declared.record.Record.TheVariants as records
-use Rattle.qs_node_servers.specs.Servers.{audit_no, server_at}
-use Rattle.qs_node_step.specs.Bringing.{enter, member_here}
-use Rattle.qs_node_step.specs.Deciding.{decide, decide_commit, end_members}
-use Rattle.qs_node_step.specs.Requests.{issue_as, next_number}
-use Rattle.qs_node_step.specs.Restarts.{begin_incarnation}
-use Rattle.qs_node_step.specs.Settling.{answer_superior, due_tids, forget_rule, is_pass_due, is_quiet, may_answer, pass_rule, ready, ready_rule, refusal_goes_to, refuse_elsewhere, refuse_home, refuse_rule, say_yes, send_refusal, settle, settle_tid, try}
-use Rattle.qs_node_step.specs.State.{NodeValue, Work, change_server, client_cmp, doings_of, here, with_doings, with_manager, work_on}
-use Rattle.qs_node_step.specs.Step.{abort_old, age_rule, command_came, happen, message_came, step_work, wait_on, waiting_clients, with_command}
-use Rattle.qs_node_step.specs.Telling.{forget}
-use Rattle.qs_node_step.specs.Voting.{change_count, due_votes, enter_vote, issue_note, log_vote, note_text, owes_note, served_count, vote_frame, vote_next, vote_pass, vote_with}
-use Rattle.qs_node_step.specs.declared.event.Event.{Event}
+use Rattle.qs_node_servers.specs.Servers.{audit_no}
+use Rattle.qs_node_step.specs.Deciding.{decide, decide_commit}
+use Rattle.qs_node_step.specs.Requests.{next_number}
+use Rattle.qs_node_step.specs.State.{NodeValue}
+use Rattle.qs_node_step.specs.Voting.{note_text}
 use Rattle.qs_node_step.specs.declared.event.Event.TheVariants as events
 use Rattle.qs_tm.specs.Manager as tm
 use Rattle.qs_tm.specs.Members as members
-use Rattle.qs_tm.specs.Outcomes.{told_with_own}
 use Rattle.qs_tm.specs.Participant as participant
-use Rattle.qs_tm.specs.Participant.{is_forgotten}
-use Rattle.qs_world_lawful.specs.GivenStep.{tick_work}
-use Rattle.qs_world_lawful.proofs.FirstComes.{coming_first}
 use Rattle.qs_world_runs.specs.Answering.{IsFree}
-use Rattle.qs_world_runs.specs.OwingAmid.{Amid, around}
-use Rattle.qs_world_runs.specs.Traces.{fresh_command}
 use Rattle.qs_world_runs.proofs.OwingCommands as commanded
 use Rattle.qs_world_runs.proofs.OwingEnters.{entered_amid, opened_amid}
 use Rattle.qs_world_runs.proofs.OwingLeaves.{causes_left, released_left, voted_left}

@@ -1,38 +1,23 @@
 -- What a node waits for stands on as transactions are decided, as outcomes are told and taken in, and as nodes restart.
-use Rattle.std.proofs.Common.{ℕ, Bool, true, false, List, fold, Option, Some, None, refl, if◌then◌else◌}
-use Rattle.std.specs.List.{list_any}
-use Rattle.std.specs.Prelude.{not, ◌&&◌}
-use Rattle.qs_base.specs.declared.identifiers.NodeNo.{NodeNo}
+use Rattle.qs_world_runs.proofs.Words.{ℕ, Bool, true, false, List, fold, Option, Some, None, refl, if◌then◌else◌, list_any, not, ◌&&◌, NodeNo, Tid, is_node, uncovered, listed, same_node, Entry, Cause, Record, answer_known, answer_unknown, inquiry_at_home, inquiry_came, ask_came, asked_by, become_asked, block, closer_came, count, pass_unknown, refusal_came, enter, log_if, member_here, send, send_each, due_endings, end_member, end_members, give_notices, keep_outcome, learn_member, learn_members}
+use Rattle.qs_world_runs.proofs.Words.{learners_at, notice_of, notify, begin_incarnation, find_gone, inquire, is_orphaned_by, known_tids, name_again, notice_decided, notice_part, notice_tid, peer_restarted, resume_home, resume_part, resume_tid, tell_again, Work, here, with_manager, with_node, with_queues, end_told, is_other_node, keep_abort_told, learn, learn_unknown, names_at, record_learnt, take_names, take_outcome, tell_came, told_at_home, told_came, told_known, told_unknown, is_told_again}
+use Rattle.qs_world_runs.proofs.Words.{named_by, is_owed_by, is_undecided, Decision, Participant, entry_of, Amid, around}
 use Rattle.qs_base.specs.declared.identifiers.Outcome.{Outcome}
 use Rattle.qs_base.specs.declared.identifiers.Outcome.TheVariants as outcomes
-use Rattle.qs_base.specs.declared.identifiers.Tid.{Tid}
-use Rattle.qs_engage.specs.Engage.{is_node, uncovered}
-use Rattle.qs_engage.specs.Nodes.{listed, same_node}
 use Rattle.qs_ipc.specs.Ipc as ipc
 use Rattle.qs_book_journal.specs.declared.entry.Act.TheVariants as acts
-use Rattle.qs_book_journal.specs.declared.entry.Entry.{Entry}
-use Rattle.qs_ops.specs.declared.answer.Cause.{Cause}
 use Rattle.qs_ops.specs.declared.answer.Cause.TheVariants as causes
 use Rattle.qs_ops.specs.declared.vote.Notice.TheVariants as notices
 use Rattle.qs_packet.specs.declared.message.Message.TheVariants as messages
-use Rattle.qs_record.specs.declared.record.Record.{Record}
 use Rattle.qs_record.specs.declared.record.Record.TheVariants as records
-use Rattle.qs_node_step.specs.Answering.{answer_known, answer_unknown, inquiry_at_home, inquiry_came, was_committed}
-use Rattle.qs_node_step.specs.Asking.{ask_came, asked_by, become_asked, block, closer_came, count, pass_unknown, refusal_came}
-use Rattle.qs_node_step.specs.Bringing.{enter, log, log_if, member_here, send, send_each}
-use Rattle.qs_node_step.specs.Deciding.{decide, decide_commit, due_endings, end_member, end_members, give_notices, keep_outcome, learn_member, learn_members, learners_at, notice_of, notify}
-use Rattle.qs_node_step.specs.Restarts.{begin_incarnation, find_gone, inquire, is_orphaned_by, known_tids, name_again, notice_decided, notice_part, notice_tid, peer_restarted, resume_home, resume_part, resume_tid, tell_again}
-use Rattle.qs_node_step.specs.State.{Work, here, part_of, with_manager, with_node, with_queues}
-use Rattle.qs_node_step.specs.Telling.{end_told, is_other_node, keep_abort_told, learn, learn_unknown, names_at, record_learnt, take_names, take_outcome, tell_came, told_at_home, told_came, told_known, told_unknown}
+use Rattle.qs_node_step.specs.Answering.{was_committed}
+use Rattle.qs_node_step.specs.Bringing.{log}
+use Rattle.qs_node_step.specs.Deciding.{decide, decide_commit}
+use Rattle.qs_node_step.specs.State.{part_of}
 use Rattle.qs_tm.specs.Manager as tm
 use Rattle.qs_tm.specs.Outcomes as outcome_rules
-use Rattle.qs_tm.specs.Outcomes.{is_abort, is_told_again, named_by}
+use Rattle.qs_tm.specs.Outcomes.{is_abort}
 use Rattle.qs_tm.specs.Participant as participant
-use Rattle.qs_tm.specs.Participant.{is_owed_by, is_undecided}
-use Rattle.qs_tm.specs.declared.manager.Decision.{Decision}
-use Rattle.qs_tm.specs.declared.participant.Participant.{Participant}
-use Rattle.qs_world.specs.Posting.{entry_of}
-use Rattle.qs_world_runs.specs.OwingAmid.{Amid, around}
 use Rattle.qs_world_runs.proofs.OwingEnters.{commanded_as, decided_amid, entered_amid, history_more}
 use Rattle.qs_world_runs.proofs.OwingIssues.{waits_counted}
 use Rattle.qs_world_runs.proofs.OwingLeaves.{acknowledged_left, ask_left, cause_left, names_left, refused_left, restarted_left, settled_left, tell_left, told_left, took_left}

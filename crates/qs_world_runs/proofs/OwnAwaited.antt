@@ -1,62 +1,22 @@
 -- What a node had issued to others before a step, and stands still after it, waits on: its reply did not come, nor its outcome, and its node decided nothing.
-use Rattle.std.proofs.Common.{◌≡◌, ◌⊎◌, inl, inr, ℕ, ◌+◌, ◌<◌, ◌≤◌, ◌==◌, ◌&&◌, not, Bool, true, false, List, [], ◌∷◌, Option, Some, None, is_some, refl, sym, ap, subst, ◌∙◌, arith}
-use Rattle.std.proofs.lemmas.Bool.{eqb-true}
-use Rattle.std.proofs.lemmas.Bool.Decides.{nat_tests}
-use Rattle.std.specs.BTreeMap.{is_at}
-use Rattle.std.specs.List.{find, list_all}
-use Rattle.std.specs.Map.{lookup}
-use Rattle.std.specs.Prelude.{unwrap_or}
-use Rattle.qs_base.proofs.Same.{same_member-true}
-use Rattle.qs_base.specs.Order.{same_member}
-use Rattle.qs_base.specs.declared.identifiers.Member.{Member}
-use Rattle.qs_base.specs.declared.identifiers.NodeNo.{NodeNo}
+use Rattle.qs_world_runs.proofs.Words.{◌≡◌, ◌⊎◌, inl, inr, ℕ, ◌+◌, ◌≤◌, ◌==◌, ◌&&◌, not, Bool, true, false, List, [], ◌∷◌, Option, Some, None, is_some, refl, sym, ap, subst, ◌∙◌, arith, eqb-true, and_parts, nat_tests, is_at, find, list_all, lookup, unwrap_or, same_member-true, same_member, Member, NodeNo, Tid, same_node, Act, Decided, Inv, ran, request_total, BookValue, cell_of_transaction, find_transaction, book_after, effect, TransactionValue, cell_of, is_outcome, is_standing, request_cmp}
+use Rattle.qs_world_runs.proofs.Words.{standing_request, Cell, Request, RequestNo, Reply, kept_outcome, work_on, after_step, effects_of, Event, Source, Step, moved, step_with, entries_of, entry_of, Opening, World, IsDoomed, IsTidyNode, StepMay, step_may, begun_tidy, c, first_work, HoldsStill, IsTrueEvent, way_between, same_or_apart, Begins, Turning, by_entry, coming_first, MakesStep, nodes_in, IsWaiting, WaitsAt, AreAwaited, AwaitsOwn, HoldsAwaited, Joined, book_in, entries_in, PlacesAt}
+use Rattle.qs_world_runs.proofs.Words.{HoldsPlaced, IsPlaced, Placed, field_of, goes_there, none_some, and_first, some_same}
 use Rattle.qs_base.specs.declared.identifiers.Outcome.{Outcome}
 use Rattle.qs_base.specs.declared.identifiers.Outcome.TheVariants as outcomes
-use Rattle.qs_base.specs.declared.identifiers.Tid.{Tid}
-use Rattle.qs_engage.specs.Nodes.{same_node}
-use Rattle.qs_book_journal.specs.declared.entry.Act.{Act}
-use Rattle.qs_node_kept.specs.declared.kept.Decided.{Decided}
-use Rattle.qs_book_laws.proofs.Outcomes.{Inv}
-use Rattle.qs_book_laws.proofs.Steps.{ran}
-use Rattle.qs_book_machine.proofs.Present.{request_total}
-use Rattle.qs_book_machine.specs.Book.{BookValue, cell_of_transaction, find_transaction}
-use Rattle.qs_book_machine.specs.Lawful.{IsLawful, book_after, effect}
-use Rattle.qs_book_machine.specs.Transaction.{TransactionValue, cell_of, is_open, is_outcome, is_standing, request_cmp, standing_request}
-use Rattle.qs_book_machine.specs.declared.transaction.Cell.{Cell}
+use Rattle.qs_book_machine.specs.Lawful.{IsLawful}
+use Rattle.qs_book_machine.specs.Transaction.{is_open}
 use Rattle.qs_book_machine.specs.declared.transaction.Cell.TheVariants as cells
-use Rattle.qs_book_machine.specs.declared.transaction.Request.{Request}
-use Rattle.qs_book_machine.specs.declared.transaction.RequestNo.{RequestNo}
-use Rattle.qs_ops.specs.declared.reply.Reply.{Reply}
 use Rattle.qs_packet.specs.declared.message.Message.TheVariants as messages
-use Rattle.qs_node_step.specs.Answering.{kept_outcome}
-use Rattle.qs_node_step.specs.State.{NodeValue, work_on}
-use Rattle.qs_node_step.specs.Step.{after_step, effects_of}
-use Rattle.qs_node_step.specs.declared.event.Event.{Event}
+use Rattle.qs_node_step.specs.State.{NodeValue}
 use Rattle.qs_node_step.specs.declared.event.Event.TheVariants as events
 use Rattle.qs_tm.specs.Manager as tm
-use Rattle.qs_world.specs.Moves.{Source, Step, moved, step_with}
-use Rattle.qs_world.specs.Posting.{entries_of, entry_of}
-use Rattle.qs_world.specs.World.{Opening, World}
 use Rattle.qs_world_agree.specs.World as machine
-use Rattle.qs_world_agree.specs.Doomed.{IsDoomed}
-use Rattle.qs_world_refine.specs.Tidy.{IsTidyNode}
-use Rattle.qs_world_refine.proofs.MoveGoes.{StepMay, step_may}
-use Rattle.qs_world_refine.proofs.SteadyBegins.{begun_tidy, c}
-use Rattle.qs_world_lawful.specs.GivenStep.{first_work}
-use Rattle.qs_world_lawful.specs.Holds.{HasBegun, HasEnded, HoldsStill}
-use Rattle.qs_world_lawful.specs.Logged.{IsTrueEvent}
-use Rattle.qs_world_lawful.specs.Parcels.{way_between}
-use Rattle.qs_world_lawful.proofs.Apart.{Apart, same_or_apart}
-use Rattle.qs_world_lawful.proofs.EntryTurns.{Begins, Turning, by_entry}
-use Rattle.qs_world_lawful.proofs.FirstComes.{coming_first}
-use Rattle.qs_world_runs.specs.Agrees.{MakesStep, nodes_in}
+use Rattle.qs_world_lawful.specs.Holds.{HasBegun, HasEnded}
+use Rattle.qs_world_lawful.proofs.Apart.{Apart}
 use Rattle.qs_world_runs.specs.Answering.{IsFree}
-use Rattle.qs_world_runs.specs.Awaited.{ComesSo, IsWaiting, TakesIt, WaitsAt}
-use Rattle.qs_world_runs.specs.Awaiting.{AreAwaited, AwaitsFresh, AwaitsOwn, EachFreshAwaited, EachOwnAwaited, EachReplyTrue, HoldsAwaited}
-use Rattle.qs_world_runs.specs.Joined.{Joined, book_in}
-use Rattle.qs_world_runs.specs.JoinedLaws.{entries_in}
-use Rattle.qs_world_runs.specs.JoinedPlaces.{PlacesAt}
-use Rattle.qs_world_runs.specs.Placed.{HoldsPlaced, IsPlaced, Placed, field_of, goes_there}
+use Rattle.qs_world_runs.specs.Awaited.{ComesSo, TakesIt}
+use Rattle.qs_world_runs.specs.Awaiting.{AwaitsFresh, EachFreshAwaited, EachOwnAwaited, EachReplyTrue}
 use Rattle.qs_world_runs.proofs.AwaitedSteps.{steps_wait_on}
 use Rattle.qs_world_runs.proofs.ClientsGo.{comes_free}
 use Rattle.qs_world_runs.proofs.Entries.{each_at}
@@ -68,15 +28,13 @@ use Rattle.qs_world_runs.proofs.PlacedTx.{placed_each, request_equal, request_se
 use Rattle.qs_world_runs.proofs.PlacesJoined.{amid}
 use Rattle.qs_world_runs.proofs.StepUnanimous.{steps_stay_unanimous}
 use Rattle.qs_world_runs.proofs.WholeSteps.{whole_steps}
-
-some_is : {X : Type 0} {x y : X} → Some x ≡ Some y → x ≡ y
-some_is e = cc e
+use Rattle.qs_base_lemmas.proofs.Tests.{lt_not_equal}
 
 -- ---- what is undecided after a step was so before
 
 module _ (n stamp : ℕ) (tid : Tid) where
   was_open : (list : List Act) (book : BookValue) → Inv book → IsLawful book (entries_of n stamp list) → (was tx : TransactionValue) → find_transaction book tid ≡ Some was → find_transaction (book_after book (entries_of n stamp list)) tid ≡ Some tx → is_open tx.cell ≡ true → is_open was.cell ≡ true
-  was_open [] book i lawful was tx had found undecided = subst (λ (x : TransactionValue). is_open x.cell ≡ true) (some_is (sym found ∙ had)) undecided
+  was_open [] book i lawful was tx had found undecided = subst (λ (x : TransactionValue). is_open x.cell ≡ true) (some_same (sym found ∙ had)) undecided
   was_open (act ∷ list) book i lawful was tx had found undecided = by (by_entry book (entry_of n stamp act) i lawful.0)
       (λ later there. was_open list (effect book (entry_of n stamp act)) (ran (entry_of n stamp act ∷ []) book i (lawful.0, tt)).inv lawful.1 later tx there found undecided)
     where
@@ -102,14 +60,10 @@ stands_there : (at : RequestNo) (member : Member) (rs : List Request) → list_a
 stands_there at member [] there stands = absurd (cc stands)
 stands_there at member (r ∷ rs) there stands = by (is_standing member r) refl (goes_there at r) refl there stands (stands_there at member rs)
   where
-    left : (a b : Bool) → (a && b) ≡ true → a ≡ true
-    left true b e = refl
-    left false b e = absurd (cc e)
-
     by : (b : Bool) → is_standing member r ≡ b → (k : Bool) → goes_there at r ≡ k → (goes_there at r && list_all (goes_there at) rs) ≡ true → is_some (find (is_standing member) (r ∷ rs)) ≡ true
         → (list_all (goes_there at) rs ≡ true → is_some (find (is_standing member) rs) ≡ true → (member.node.0 == at.link.to.0) ≡ true) → (member.node.0 == at.link.to.0) ≡ true
     by b is false so all stands more = absurd (cc (rw so at all))
-    by true is true so all stands more = subst (λ (m : Member). (m.node.0 == at.link.to.0) ≡ true) (same_member-true r.member member (left (same_member r.member member) (not r.served) is)) so
+    by true is true so all stands more = subst (λ (m : Member). (m.node.0 == at.link.to.0) ≡ true) (same_member-true r.member member (and_first (same_member r.member member) (not r.served) is)) so
     by false is true so all stands more = more (rw so at all) (rw is at stands)
 
 module _ (P : Opening → World → Type 0) (less : (o : Opening) (world : World) → P o world → PlacesAt o world) (o : Opening) (world : World) (ja : Joined P o world) (n stamp free : ℕ) (source : Source) (event : Event) (makes : MakesStep world n stamp source event) (lawful : IsLawful (book_in o world) (entries_in world n stamp free event)) where
@@ -144,10 +98,7 @@ module _ (P : Opening → World → Type 0) (less : (o : Opening) (world : World
         home = ap (λ (t : Tid). t.home) (sym is) ∙ tidy.own
 
         by : HasBegun node.setting.inc node.manager.begun tid → ⊥
-        by (inl before) = never tid.inc node.setting.inc before (ap (λ (t : Tid). t.inc) (sym is) ∙ tidy.inc)
-          where
-            never : (a b : ℕ) → a < b → a ≡ b → ⊥
-            never a b less same = omega (arith, less, same)
+        by (inl before) = lt_not_equal tid.inc node.setting.inc before (ap (λ (t : Tid). t.inc) (sym is) ∙ tidy.inc)
         by (inr (same, counted)) = never tid.seq node.manager.begun counted (ap (λ (t : Tid). t.seq) (sym is) ∙ ap (λ (k : ℕ). k + 1) tidy.count)
           where
             never : (a b : ℕ) → a ≤ b → a ≡ b + 1 → ⊥
@@ -176,7 +127,7 @@ module _ (P : Opening → World → Type 0) (less : (o : Opening) (world : World
 
       by : (x : Option Decided) → kept_outcome tid (after_step node event free) ≡ x → is_some x ≡ true → ⊥
       by None is some = cc some
-      by (Some d) is some = let e = ended d is in clash d.outcome tx.cell undecided (subst (λ (x : TransactionValue). is_outcome d.outcome x.cell ≡ true) (some_is (sym e.found ∙ found)) e.as_kept)
+      by (Some d) is some = let e = ended d is in clash d.outcome tx.cell undecided (subst (λ (x : TransactionValue). is_outcome d.outcome x.cell ≡ true) (some_same (sym e.found ∙ found)) e.as_kept)
 
   -- ---- one that stood, and stands
 
@@ -203,18 +154,10 @@ module _ (P : Opening → World → Type 0) (less : (o : Opening) (world : World
         no_as a b = record { link = record { from = record { 0 = a }; to = record { 0 = b } }; number = at.number }
 
     never_answered : (peer : NodeNo) (m : Member) (number : ℕ) (reply : Reply) → event ≡ events.Received peer (messages.Answered tid m number reply) → (same_member member m && (at.number == number)) ≡ true → ⊥
-    never_answered peer m number reply is same = never (standing_request was at member) none stood
+    never_answered peer m number reply is same = none_some (standing_request was at member) none stood
       where
-        never : (x : Option Request) → x ≡ None → is_some x ≡ true → ⊥
-        never None e some = cc some
-        never (Some r) e some = cc e
-
-        both : (a b : Bool) → (a && b) ≡ true → (a ≡ true) × (b ≡ true)
-        both true b e = (refl, e)
-        both false b e = absurd (cc e)
-
         tests : (same_member member m ≡ true) × ((at.number == number) ≡ true)
-        tests = both (same_member member m) (at.number == number) same
+        tests = and_parts (same_member member m) (at.number == number) same
 
         true_reply : standing_request was (way_between n m.node.0 number) m ≡ None
         true_reply = replies o world n stamp source peer tid m number reply was ja (subst (MakesStep world n stamp source) is makes) had was_undecided placed
@@ -225,7 +168,7 @@ module _ (P : Opening → World → Type 0) (less : (o : Opening) (world : World
             (subst (λ (x : Member). standing_request was (way_between n x.node.0 number) x ≡ None) (sym (same_member-true member m tests.0)) true_reply))
 
     never_told : (peer : NodeNo) (t : Tid) (outcome : Outcome) → event ≡ events.Received peer (messages.Tell t outcome) → t ≡ tid → ⊥
-    never_told peer t outcome is same = clash outcome (ap (λ (k : Cell). is_open k) (some_is (ap cell_of_transaction (sym had) ∙ (ap (λ (u : Tid). cell_of_transaction (find_transaction book u)) (sym same) ∙ said))))
+    never_told peer t outcome is same = clash outcome (ap (λ (k : Cell). is_open k) (some_same (ap cell_of_transaction (sym had) ∙ (ap (λ (u : Tid). cell_of_transaction (find_transaction book u)) (sym same) ∙ said))))
       where
         said : cell_of_transaction (find_transaction book t) ≡ Some (cell_of outcome)
         said = subst (IsTrueEvent book) is (true_event PlacesAt whole_steps steps_stay_unanimous o world j n stamp free source event makes)
@@ -280,7 +223,7 @@ module _ (P : Opening → World → Type 0) (less : (o : Opening) (world : World
       of_known was had (inr placed) (inr await) = inr (λ at member from_n away stands. by at member from_n away stands (standing_request was at member) refl)
         where
           by : (at : RequestNo) (member : Member) → at.link.from.0 ≡ n → (at.link.to.0 == n) ≡ false → is_some (standing_request tx at member) ≡ true → (r : Option Request) → standing_request was at member ≡ r → WaitsAt tid member at.number (after_step (world.hosts n).node event free)
-          by at member from_n away stands None none = fresh at member from_n away stands (λ other there. subst (λ (x : TransactionValue). standing_request x at member ≡ None) (some_is (sym had ∙ there)) none)
+          by at member from_n away stands None none = fresh at member from_n away stands (λ other there. subst (λ (x : TransactionValue). standing_request x at member ≡ None) (some_same (sym had ∙ there)) none)
           by at member from_n away stands (Some r) stood = waits_then P less o world j n stamp free source event makes lawful replies tid was had (open_before was had) placed tx found_now undecided at member from_n away (rw stood refl) (await n at member from_n away (rw stood refl))
 
       of : (x : Option TransactionValue) → find_transaction (book_in o world) tid ≡ x → IsDoomed w ⊎ AwaitsOwn n tid tx (after_step (world.hosts n).node event free)

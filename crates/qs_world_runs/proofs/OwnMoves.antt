@@ -1,36 +1,16 @@
 -- Each Prepare in a log has operations of its own server: as a run begins, and after each move; a restart finds what the log has.
-use Rattle.std.proofs.Common.{◌≡◌, ℕ, ◌<◌, ◌==◌, ◌||◌, ◌++◌, not, Bool, true, false, List, [], ◌∷◌, fold, Option, Some, None, refl, sym, subst, ◌∙◌, if◌then◌else◌}
-use Rattle.std.proofs.lemmas.Bool.{eqb-true}
-use Rattle.std.proofs.lemmas.List.Folds.{list_all-append}
-use Rattle.std.specs.Global.{Global}
-use Rattle.std.specs.List.{filter, list_all}
-use Rattle.qs_base.specs.declared.identifiers.NodeNo.{NodeNo}
-use Rattle.qs_base.specs.declared.identifiers.Tid.{Tid}
+use Rattle.qs_world_runs.proofs.Words.{◌≡◌, ℕ, ◌<◌, ◌==◌, ◌||◌, ◌++◌, not, Bool, true, false, List, [], ◌∷◌, fold, Option, Some, None, refl, sym, subst, ◌∙◌, if◌then◌else◌, eqb-true, or_right, list_all-append, Global, filter, list_all, NodeNo, Tid, no_kept, is_recoverable, after_keeping, Record, Prepared, Recovery, found_record, mark_committed, nothing_said, recovery, ServersValue, recovered_of, after_step, effects_of, step_work, Event, Setting, Cut, Meet, Move, Rise, Step, Stop, cut_log}
+use Rattle.qs_world_runs.proofs.Words.{cut_with, event_of, log_after, moved, risen_host, step_with, stepped_host, stopped_host, waiting_after, IsOpening, is_earlier, is_record, Run, Host, Opening, World, start, Every, every_of, every_append, every_filter, every_map, is_own_vote, store_of}
 use Rattle.qs_ipc.specs.Queue.{is_for}
-use Rattle.qs_node_kept.specs.Keeping.{no_kept}
 use Rattle.qs_node_kept.specs.declared.kept.Kept.{Kept}
-use Rattle.qs_book_machine.specs.Nodes.{is_recoverable}
-use Rattle.qs_ops.specs.Server.{after_keeping}
 use Rattle.qs_ops.specs.Servers as servers
-use Rattle.qs_record.specs.declared.record.Record.{Record}
 use Rattle.qs_record.specs.declared.record.Record.TheVariants as records
-use Rattle.qs_restart.specs.Recovery.{Prepared, Recovery, audit_no, files_no, found_record, is_in_doubt, is_of, is_vote_of, mark_committed, nothing_said, prepare_of, recovery, with_list}
-use Rattle.qs_node_servers.specs.Servers.{ServersValue}
-use Rattle.qs_node_step.specs.Opening.{keep_changes, opened_node, opened_servers, recovered_of}
-use Rattle.qs_node_step.specs.Step.{after_step, effects_of, step_work}
-use Rattle.qs_node_step.specs.declared.event.Event.{Event}
-use Rattle.qs_node_step.specs.declared.setting.Setting.{Setting}
-use Rattle.qs_world.specs.Moves.{Cut, Meet, Move, Rise, Step, Stop, cut_log, cut_with, event_of, log_after, moved, risen_host, step_with, stepped_host, stopped_host, waiting_after}
-use Rattle.qs_world.specs.Openings.{IsOpening, is_earlier, is_record}
-use Rattle.qs_world.specs.Runs.{Run}
-use Rattle.qs_world.specs.World.{Host, Opening, World, start}
+use Rattle.qs_restart.specs.Recovery.{audit_no, files_no, is_in_doubt, is_of, is_vote_of, prepare_of, with_list}
+use Rattle.qs_node_step.specs.Opening.{keep_changes, opened_node, opened_servers}
 use Rattle.qs_world_refine.proofs.SoundBegin.{all_implied}
 use Rattle.qs_world_refine.proofs.SoundParts.{and_both}
-use Rattle.qs_world_lawful.specs.Logs.{Every}
-use Rattle.qs_world_lawful.proofs.CoherentOpenings.{each_is, every_of}
-use Rattle.qs_world_lawful.proofs.LogRecords.{every_append, every_filter, every_map}
-use Rattle.qs_world_runs.specs.OwnChanges.{EachHasOwnChanges, HasOwnChanges, HasOwnStore, HaveOwn, OwnChangesAt, is_own_vote}
-use Rattle.qs_world_runs.specs.Stores.{store_of}
+use Rattle.qs_world_lawful.proofs.CoherentOpenings.{each_is}
+use Rattle.qs_world_runs.specs.OwnChanges.{EachHasOwnChanges, HasOwnChanges, HasOwnStore, HaveOwn, OwnChangesAt}
 use Rattle.qs_world_runs.proofs.OwnShares.{all_for, keeping_none, keeping_own}
 use Rattle.qs_world_runs.proofs.OwnSteps.{changed_own, step_own}
 
@@ -157,12 +137,8 @@ own_moved world (Meet n stamp m inc) all = at_one world n (record (world.hosts n
 own_start : (o : Opening) → IsOpening o → OwnChangesAt (start o)
 own_start o opens n low = record { servers = opened_own o.alloc (o.settings n) (o.logs n) no_kept own; logged = own; waits = refl }
   where
-    last : (a b : Bool) → b ≡ true → (a || b) ≡ true
-    last true b is = refl
-    last false b is = is
-
     of_record : (rec : Record) → is_record o n rec ≡ true → is_own_vote rec ≡ true
-    of_record (records.Prepare tid server covers changes) is = last (not (is_recoverable server.0)) _ (and_both (is_recoverable server.0) _ (and_both (is_earlier o tid) _ is).1).1
+    of_record (records.Prepare tid server covers changes) is = or_right (not (is_recoverable server.0)) _ (and_both (is_recoverable server.0) _ (and_both (is_earlier o tid) _ is).1).1
     of_record (records.Commit tid told) is = refl
     of_record (records.Aborted tid) is = refl
     of_record (records.End tid) is = refl

@@ -1,28 +1,12 @@
 -- Servers whose votes a log keeps have only changes of their own pending, through all that a server does: each serves its own operations alone.
-use Rattle.std.proofs.Common.{◌≡◌, ℕ, ◌==◌, ◌++◌, Bool, true, false, List, [], ◌∷◌, Option, Some, None, refl, sym, ap, subst, ◌∙◌, if◌then◌else◌}
-use Rattle.std.proofs.lemmas.Bool.{eqb-true}
-use Rattle.std.proofs.lemmas.List.Folds.{list_all-append}
-use Rattle.std.specs.BTreeMap.{is_at}
-use Rattle.std.specs.List.{list_all}
-use Rattle.std.specs.Map.{lookup}
-use Rattle.std.specs.Prelude.{unwrap_or}
-use Rattle.qs_base.specs.Order.{tid_cmp}
-use Rattle.qs_base.specs.declared.identifiers.ServerNo.{ServerNo}
-use Rattle.qs_base.specs.declared.identifiers.Tid.{Tid}
+use Rattle.qs_world_runs.proofs.Words.{◌≡◌, ℕ, ◌==◌, ◌++◌, Bool, true, false, List, [], ◌∷◌, Option, Some, None, refl, sym, ap, subst, ◌∙◌, if◌then◌else◌, eqb-true, list_all-append, is_at, list_all, lookup, unwrap_or, tid_cmp, ServerNo, Tid, ServerValue, after_keeping, after_notice, after_serving, after_vote, changes_in, is_logged, noted_by, noted_in, served_by, voted_by, voted_in, TableValue, after_serve, kept, released, share_of, Op, Reply, ServerKind, Share, Notice, Vote}
 use Rattle.qs_ipc.specs.Queue.{is_for}
 use Rattle.qs_ops.specs.Operations.{server_of}
-use Rattle.qs_ops.specs.Server.{ServerValue, after_keeping, after_notice, after_serving, after_vote, changes_in, is_logged, noted_by, noted_in, served_by, voted_by, voted_in}
 use Rattle.qs_ops.specs.Spelled.{is_change}
-use Rattle.qs_ops.specs.Table.{TableValue, after_serve, change_by, kept, nothing_held, released, served, share_of, with_share}
-use Rattle.qs_ops.specs.declared.operation.Op.{Op}
-use Rattle.qs_ops.specs.declared.reply.Reply.{Reply}
+use Rattle.qs_ops.specs.Table.{change_by, nothing_held, served, with_share}
 use Rattle.qs_ops.specs.declared.reply.Reply.TheVariants as replies
-use Rattle.qs_ops.specs.declared.server.ServerKind.{ServerKind}
 use Rattle.qs_ops.specs.declared.server.ServerKind.TheVariants.{Files, Audit, Names, Timers, Windows, Scratch, Nothing}
-use Rattle.qs_ops.specs.declared.share.Share.{Share}
-use Rattle.qs_ops.specs.declared.vote.Notice.{Notice}
 use Rattle.qs_ops.specs.declared.vote.Notice.TheVariants as notices
-use Rattle.qs_ops.specs.declared.vote.Vote.{Vote}
 use Rattle.qs_ops.specs.declared.vote.Vote.TheVariants as votes
 use Rattle.qs_world_refine.proofs.Entries.{all_but_removed, all_inserted, found_passes}
 use Rattle.qs_world_runs.specs.OwnChanges.{HasNone, HasOwn, is_own_share}

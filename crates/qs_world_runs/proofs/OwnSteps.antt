@@ -1,37 +1,16 @@
 -- A step leaves only changes of their own pending at the servers whose votes a log keeps, and appends no Prepare with others.
-use Rattle.std.proofs.Common.{◌≡◌, ℕ, ◌==◌, ◌||◌, ◌++◌, not, Bool, true, false, List, [], ◌∷◌, refl, sym, ap, subst, ◌∙◌, if◌then◌else◌}
-use Rattle.std.proofs.lemmas.Bool.{eqb-true}
-use Rattle.std.proofs.lemmas.List.Folds.{list_all-append}
-use Rattle.std.specs.List.{list_all}
-use Rattle.std.specs.Prelude.{⊤}
-use Rattle.qs_base.specs.declared.identifiers.ServerNo.{ServerNo}
-use Rattle.qs_base.specs.declared.identifiers.Tid.{Tid}
+use Rattle.qs_world_runs.proofs.Words.{◌≡◌, ℕ, ◌==◌, ◌||◌, ◌++◌, not, Bool, true, false, List, [], ◌∷◌, refl, sym, ap, subst, ◌∙◌, if◌then◌else◌, eqb-true, or_right, list_all-append, list_all, ⊤, ServerNo, Tid, is_recoverable, ServerValue, after_notice, after_serving, after_vote, changes_in, Op, Message, Record, ServersValue, server_at, with_server, begin_incarnation, settle, Work, work_on, happen, step_work, Event, is_own_vote, IsKeptStore, IsNoVote, MayAsk, store_of}
 use Rattle.qs_ipc.specs.Queue.{is_for}
-use Rattle.qs_book_machine.specs.Nodes.{is_recoverable}
-use Rattle.qs_ops.specs.Server.{ServerValue, after_notice, after_serving, after_vote, changes_in}
 use Rattle.qs_ops.specs.Servers as servers
-use Rattle.qs_ops.specs.declared.operation.Op.{Op}
-use Rattle.qs_packet.specs.declared.message.Message.{Message}
 use Rattle.qs_packet.specs.declared.message.Message.TheVariants as messages
-use Rattle.qs_record.specs.declared.record.Record.{Record}
 use Rattle.qs_record.specs.declared.record.Record.TheVariants as records
 use Rattle.qs_restart.specs.Recovery.{audit_no, files_no}
-use Rattle.qs_node_servers.specs.Servers.{ServersValue, server_at, with_server}
-use Rattle.qs_node_step.specs.Restarts.{begin_incarnation}
-use Rattle.qs_node_step.specs.Settling.{settle}
-use Rattle.qs_node_step.specs.State.{NodeValue, Work, work_on}
-use Rattle.qs_node_step.specs.Step.{happen, step_work}
-use Rattle.qs_node_step.specs.declared.event.Event.{Event}
+use Rattle.qs_node_step.specs.State.{NodeValue}
 use Rattle.qs_node_step.specs.declared.event.Event.TheVariants as events
-use Rattle.qs_world_runs.specs.OwnChanges.{HasNone, HasOwn, HasOwnStore, HaveOwn, is_own_vote}
-use Rattle.qs_world_runs.specs.Stores.{IsKeptStore, IsNoVote, MayAsk, store_of}
+use Rattle.qs_world_runs.specs.OwnChanges.{HasNone, HasOwn, HasOwnStore, HaveOwn}
 use Rattle.qs_world_runs.proofs.OwnShares.{changes_none, for_same, notice_none, notice_own, serving_none, serving_own, share_own, voting_none, voting_own}
 use Rattle.qs_world_runs.proofs.StoreStages.{answers_keep, happens_keep, settle_keeps}
 use Rattle.qs_world_runs.proofs.StoreTold.{begin_incarnation_keeps}
-
-last_of : (a b : Bool) → b ≡ true → (a || b) ≡ true
-last_of true b is = refl
-last_of false b is = is
 
 -- ---- one server of a node changes
 
@@ -67,7 +46,7 @@ module _ (values : ServersValue) (tid : Tid) (own : HaveOwn values) where
   vote_own server covers = by (server.0 == servers.files_no) refl (server.0 == servers.audit_no) refl (server.0 == servers.extra_no) refl
     where
       at : (k : ℕ) → (server.0 == k) ≡ true → IsOwnAt k → (not (is_recoverable server.0) || list_all (is_for server) (changes_in (server_at values server) tid)) ≡ true
-      at k same is = last_of (not (is_recoverable server.0)) _ (subst IsOwnAt (sym (eqb-true server.0 k same)) is)
+      at k same is = or_right (not (is_recoverable server.0)) _ (subst IsOwnAt (sym (eqb-true server.0 k same)) is)
 
       by : (a : Bool) → (server.0 == servers.files_no) ≡ a → (b : Bool) → (server.0 == servers.audit_no) ≡ b → (c : Bool) → (server.0 == servers.extra_no) ≡ c
           → (not (is_recoverable server.0) || list_all (is_for server) (changes_in (server_at values server) tid)) ≡ true

@@ -1,38 +1,16 @@
 -- A vote pass is not put off, and notes nothing that would put it off: no server is asked to vote in a step that asked for the commit or served.
-use Rattle.std.proofs.Common.{◌≡◌, ℕ, ◌&&◌, Bool, true, false, List, [], ◌∷◌, ◌++◌, Option, Some, None, refl, sym, ap, subst, ◌∙◌, fold, not, if◌then◌else◌}
-use Rattle.std.specs.BTreeMap.{is_at}
-use Rattle.std.specs.Map.{lookup}
-use Rattle.std.specs.Prelude.{unwrap_or}
-use Rattle.qs_base.specs.Order.{tid_cmp}
-use Rattle.qs_base.specs.declared.identifiers.Member.{Member}
-use Rattle.qs_base.specs.declared.identifiers.NodeNo.{NodeNo}
-use Rattle.qs_base.specs.declared.identifiers.ServerNo.{ServerNo}
-use Rattle.qs_base.specs.declared.identifiers.Tid.{Tid}
-use Rattle.qs_engage.specs.Nodes.{same_node}
+use Rattle.qs_world_runs.proofs.Words.{◌≡◌, ℕ, ◌&&◌, Bool, true, false, List, [], ◌∷◌, ◌++◌, Option, Some, None, refl, sym, ap, subst, ◌∙◌, fold, not, if◌then◌else◌, is_at, lookup, unwrap_or, tid_cmp, Member, NodeNo, ServerNo, Tid, same_node, tid_itself, after_vote, vote_of, Op, Note, Vote, Message, server_at, is_other, member_here, send, end_member, end_members, due_endings, ask_on, enter_issue, is_asked, issue, issue_as, issue_away, issue_here, label_of, with_local, is_busy, is_pass_due}
+use Rattle.qs_world_runs.proofs.Words.{is_put_off, Work, change_server, doings_of, here, no_doings, with_doings, with_manager, with_queues, change_count, enter_vote, issue_note, log_vote, owes_note, served_count, vote_frame, vote_next, vote_with, Doings, needs_pass, Outstanding, Participant, and_parts, not-true}
 use Rattle.qs_ipc.specs.Ipc as ipc
 use Rattle.qs_ipc.specs.Queue.{is_for}
-use Rattle.qs_book_laws.proofs.Alikes.{tid_itself}
 use Rattle.qs_book_laws.proofs.Maps.{lookup_put}
-use Rattle.qs_ops.specs.Server.{after_vote, vote_of}
-use Rattle.qs_ops.specs.declared.operation.Op.{Op}
-use Rattle.qs_ops.specs.declared.operation.Op.TheVariants.{Note}
-use Rattle.qs_ops.specs.declared.vote.Vote.{Vote}
 use Rattle.qs_ops.specs.declared.vote.Vote.TheVariants as votes
-use Rattle.qs_packet.specs.declared.message.Message.{Message}
 use Rattle.qs_packet.specs.declared.message.Message.TheVariants as messages
-use Rattle.qs_node_servers.specs.Servers.{audit_no, server_at}
-use Rattle.qs_node_step.specs.Bringing.{is_other, member_here, send}
-use Rattle.qs_node_step.specs.Deciding.{end_member, end_members, due_endings}
-use Rattle.qs_node_step.specs.Requests.{ask_on, enter_issue, is_asked, issue, issue_as, issue_away, issue_here, label_of, next_number, with_local}
-use Rattle.qs_node_step.specs.Settling.{is_busy, is_pass_due, is_put_off}
-use Rattle.qs_node_step.specs.State.{Work, change_server, doings_of, here, no_doings, with_doings, with_manager, with_queues}
-use Rattle.qs_node_step.specs.Voting.{change_count, enter_vote, issue_note, log_vote, note_text, owes_note, served_count, vote_frame, vote_next, vote_with}
-use Rattle.qs_node_step.specs.declared.state.Doings.{Doings}
+use Rattle.qs_node_servers.specs.Servers.{audit_no}
+use Rattle.qs_node_step.specs.Requests.{next_number}
+use Rattle.qs_node_step.specs.Voting.{note_text}
 use Rattle.qs_tm.specs.Manager as tm
 use Rattle.qs_tm.specs.Members as members
-use Rattle.qs_tm.specs.Participant.{needs_pass}
-use Rattle.qs_tm.specs.declared.participant.Outstanding.{Outstanding}
-use Rattle.qs_tm.specs.declared.participant.Participant.{Participant}
 
 abbrev Same : Work → Work → Type 0
 Same work new = new.doings ≡ work.doings
@@ -119,12 +97,4 @@ ended_off tid work off = same_off tid work (end_members tid work) (all (due_endi
 
 -- a pass that is due is not put off
 pub due_off : (tid : Tid) (part : Participant) (work : Work) → is_pass_due tid part work ≡ true → IsOff tid work
-due_off tid part work due = off (is_put_off (doings_of tid work)) (two (needs_pass part) _ (two (part.asked && not (is_busy tid work.node part)) _ due).1).1
-  where
-    two : (a b : Bool) → (a && b) ≡ true → (a ≡ true) × (b ≡ true)
-    two true b is = (refl, is)
-    two false b is = absurd (cc is)
-
-    off : (b : Bool) → not b ≡ true → b ≡ false
-    off false is = refl
-    off true is = absurd (cc is)
+due_off tid part work due = not-true (is_put_off (doings_of tid work)) (and_parts (needs_pass part) _ (and_parts (part.asked && not (is_busy tid work.node part)) _ due).1).1

@@ -1,44 +1,16 @@
 -- What all places hold of a transaction goes on through each act: those that bear on it, where the field has room for what they do, and all others.
-use Rattle.std.proofs.Common.{◌≡◌, ◌⊎◌, inl, inr, ℕ, ◌<◌, ◌≤◌, ◌==◌, arith, Bool, true, false, List, Option, Some, None, refl, sym, ap, subst, ◌∙◌}
-use Rattle.std.proofs.lemmas.Bool.Decides.{nat_tests}
-use Rattle.std.specs.Prelude.{is_some}
-use Rattle.std.specs.BTreeMap.{is_at}
-use Rattle.std.specs.Map.{lookup}
-use Rattle.qs_base.proofs.Same.{same_tid-true}
-use Rattle.qs_base.specs.Order.{same_tid}
+use Rattle.qs_world_runs.proofs.Words.{◌≡◌, ◌⊎◌, inl, inr, ℕ, ◌<◌, Bool, true, false, List, Option, Some, None, refl, sym, ap, subst, ◌∙◌, le_refl, is_some, is_at, lookup, same_tid-true, same_tid, ClientNo, Member, NodeNo, Tid, Act, Entry, Inv, Gives, GivesFor, Obliged, step_turns, BookValue, find_transaction, inc_at, borrower_at, broken, effect, TransactionValue, cell_of, changed_value, crossed_by, ended_part, given_back, is_empty, issued, learnt_part, life, life_cmp, link_cmp, sent_in}
+use Rattle.qs_world_runs.proofs.Words.{sent_on, standing_request, voted_part, yielded_part, Life, Link, Part, Request, RequestNo, Sent, class_of, Op, Reply, Vote, same_or_apart, Begins, Turning, by_entry, AreIssued, Field, IsMember, IsPresent, OpenPlaced, is_against, is_loud, Here, eqb-self, same_Some}
 use Rattle.qs_base.specs.declared.identifiers.Class.TheVariants as classes
-use Rattle.qs_base.specs.declared.identifiers.ClientNo.{ClientNo}
-use Rattle.qs_base.specs.declared.identifiers.Member.{Member}
-use Rattle.qs_base.specs.declared.identifiers.NodeNo.{NodeNo}
 use Rattle.qs_base.specs.declared.identifiers.Outcome.{Outcome}
 use Rattle.qs_base.specs.declared.identifiers.Outcome.TheVariants as outcomes
-use Rattle.qs_base.specs.declared.identifiers.Tid.{Tid}
-use Rattle.qs_book_journal.specs.declared.entry.Act.{Act}
 use Rattle.qs_book_journal.specs.declared.entry.Act.TheVariants as acts
-use Rattle.qs_book_journal.specs.declared.entry.Entry.{Entry}
-use Rattle.qs_book_laws.proofs.Outcomes.{Inv}
-use Rattle.qs_book_laws.proofs.Turns.{Gives, GivesFor, Obliged, Same, step_turns}
-use Rattle.qs_book_machine.specs.Book.{BookValue, find_transaction, inc_at, is_done}
-use Rattle.qs_book_machine.specs.Clauses.{borrower_at}
-use Rattle.qs_book_machine.specs.Lawful.{broken, effect}
-use Rattle.qs_book_machine.specs.Transaction.{TransactionValue, begun, cell_of, changed_value, crossed_by, ended, ended_part, given_back, is_empty, is_open, issued, learnt, learnt_part, lent, life, life_cmp, link_cmp, next_number, sent_in, sent_on, served_in, standing_request, voted, voted_part, yielded_part}
+use Rattle.qs_book_laws.proofs.Turns.{Same}
+use Rattle.qs_book_machine.specs.Book.{is_done}
+use Rattle.qs_book_machine.specs.Transaction.{begun, ended, is_open, learnt, lent, next_number, served_in, voted}
 use Rattle.qs_book_machine.specs.declared.transaction.Refusal.{Refusal}
-use Rattle.qs_book_machine.specs.declared.transaction.Life.{Life}
-use Rattle.qs_book_machine.specs.declared.transaction.Link.{Link}
-use Rattle.qs_book_machine.specs.declared.transaction.Part.{Part}
-use Rattle.qs_book_machine.specs.declared.transaction.Request.{Request}
-use Rattle.qs_book_machine.specs.declared.transaction.RequestNo.{RequestNo}
-use Rattle.qs_book_machine.specs.declared.transaction.Sent.{Sent}
-use Rattle.qs_ops.specs.Members.{class_of}
-use Rattle.qs_ops.specs.declared.operation.Op.{Op}
-use Rattle.qs_ops.specs.declared.reply.Reply.{Reply}
-use Rattle.qs_ops.specs.declared.vote.Vote.{Vote}
 use Rattle.qs_ops.specs.declared.vote.Vote.TheVariants as votes
-use Rattle.qs_world_lawful.proofs.Apart.{Apart, same_or_apart}
-use Rattle.qs_world_lawful.proofs.EntryTurns.{Begins, Turning, by_entry}
-use Rattle.qs_world_runs.specs.Placed.{AreIssued, Field, IsMember, IsPresent}
-use Rattle.qs_world_runs.specs.PlacedActs.{OpenPlaced, is_against, is_loud}
-use Rattle.qs_world_runs.specs.PlacesAmid.{Here}
+use Rattle.qs_world_lawful.proofs.Apart.{Apart}
 use Rattle.qs_world_runs.proofs.PlacedIssued.{counted_given, issued_left, issued_on, none_stood, served_on}
 use Rattle.qs_world_runs.proofs.PlacedTx.{Grows, IsBare, PlacedIn, SameDeeds, bare_same, in_grown, in_part, placed_in, placed_of}
 use Rattle.qs_world_runs.proofs.PlacedServes.{LessRoom, MoreRoom, in_issued, lent_placed, served_placed}
@@ -48,11 +20,8 @@ use Rattle.qs_world_runs.proofs.PlacedServes.{LessRoom, MoreRoom, in_issued, len
 itself_grows : (tid : Tid) (field : Field) → Grows tid field field
 itself_grows tid field = record {
   nodes = record { size = refl; up = λ k. refl; inc = λ k. refl };
-  room = λ at. record { runs = λ up server. least _; stopped = λ off server. least _ };
+  room = λ at. record { runs = λ up server. le_refl _; stopped = λ off server. le_refl _ };
 }
-  where
-    least : (a : ℕ) → a ≤ a
-    least a = omega arith
 
 pub open_grown : (tid : Tid) (old new : Field) → Grows tid old new → (tx : TransactionValue) → OpenPlaced tid old tx → OpenPlaced tid new tx
 open_grown tid old new g tx p undecided = let its = p undecided in placed_of tid tx new (issued_left tx tx old new refl (λ k l. refl) g.nodes.up g.nodes.inc its.issued) its.unrefused its.uncrossed (in_grown tid old new g tx.requests tx.parts (placed_in tid tx old its))
@@ -131,21 +100,18 @@ module _ (tid : Tid) (field : Field) where
 -- ---- an entry, whatever it is of the transaction
 
 module _ (tid : Tid) (P Q : TransactionValue → Type 0) (book : BookValue) (entry : Entry) (i : Inv book) (h : broken book entry ≡ None) where
-  one : (a b : TransactionValue) → Some a ≡ Some b → a ≡ b
-  one a b is = cc is
-
   pub step_here : Obliged tid P Q book entry.stamp entry.node.0 entry.act → ((label : List ℕ) (client : ClientNo) (ticks : ℕ) → entry.act ≡ acts.Begin tid label client → Q (begun label client ticks)) → Here tid P book → Here tid Q (effect book entry)
   step_here g fresh before later found = by (find_transaction book tid) refl
     where
       known : (tx : TransactionValue) → find_transaction book tid ≡ Some tx → Q later
-      known tx is = let s = step_turns tid P Q book entry i h g (record { tx = tx; found = is; holds = before tx is }) in subst Q (one s.tx later (sym s.found ∙ found)) s.holds
+      known tx is = let s = step_turns tid P Q book entry i h g (record { tx = tx; found = is; holds = before tx is }) in subst Q (same_Some s.tx later (sym s.found ∙ found)) s.holds
 
       new : find_transaction book tid ≡ None → Begins book entry ⊎ Turning book entry → Q later
       new none (inr t) = absurd (let still : find_transaction (effect book entry) tid ≡ None = t.turned.none tid none in cc (still, found))
       new none (inl b) = own (same_or_apart b.tid tid)
         where
           own : (b.tid ≡ tid) ⊎ Apart b.tid tid → Q later
-          own (inl same) = subst Q (one _ later (sym b.stands ∙ (ap (find_transaction (effect book entry)) same ∙ found))) (fresh b.label b.client _ (b.act ∙ ap (λ (u : Tid). acts.Begin u b.label b.client) same))
+          own (inl same) = subst Q (same_Some _ later (sym b.stands ∙ (ap (find_transaction (effect book entry)) same ∙ found))) (fresh b.label b.client _ (b.act ∙ ap (λ (u : Tid). acts.Begin u b.label b.client) same))
           own (inr apart) = absurd (let still : find_transaction (effect book entry) tid ≡ None = b.others tid apart ∙ none in cc (still, found))
 
       by : (o : Option TransactionValue) → find_transaction book tid ≡ o → Q later
@@ -164,7 +130,7 @@ module _ (tid : Tid) (old new : Field) where
     own = λ same tx found p undecided. let its = p undecided in let last : number ≡ next_number tx at.link request.inc = next tx (ap (find_transaction book) (same_tid-true t tid same) ∙ found) in
         placed_of tid (issued at request (inc_at book member.node) book.place tx) new (issued_on tx at request (inc_at book member.node) book.place old new g.nodes.up g.nodes.inc up now last its.issued)
         its.unrefused (uncrossed tx (none_stood tx at request (inc_at book member.node) book.place old (now ∙ g.nodes.inc here) last its.issued member) its.uncrossed)
-        (in_issued tid old new g at request n_in m_in (itself member.node.0) room tx.requests tx.parts (placed_in tid tx old its));
+        (in_issued tid old new g at request n_in m_in (eqb-self member.node.0) room tx.requests tx.parts (placed_in tid tx old its));
     other = λ far tx p. open_grown tid old new g tx p;
   }
     where
@@ -173,9 +139,6 @@ module _ (tid : Tid) (old new : Field) where
 
       request : Request
       request = record { issuer = issuer; member = member; op = op; inc = inc_at book (record { 0 = here }); served = false }
-
-      itself : (a : ℕ) → (a == a) ≡ true
-      itself a = grind (arith, nat_tests)
 
       uncrossed : (tx : TransactionValue) → standing_request tx at member ≡ None → is_empty tx.crossed ≡ true → is_empty (crossed_by (standing_request tx at member) book.place member tx.crossed) ≡ true
       uncrossed tx none is = rw none is

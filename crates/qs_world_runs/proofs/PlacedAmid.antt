@@ -1,24 +1,8 @@
 -- In the middle of a step all places hold on to what they held through what leaves them, and through each act for which there is room.
-use Rattle.std.proofs.Common.{◌≡◌, ℕ, ◌+◌, ◌≤◌, ◌==◌, ◌&&◌, not, Bool, true, false, List, [], ◌∷◌, ◌++◌, length, map, None, refl, sym, ap, subst, ◌∙◌, arith, if◌then◌else◌}
-use Rattle.std.specs.List.{filter}
-use Rattle.qs_base.specs.declared.identifiers.ServerNo.{ServerNo}
-use Rattle.qs_base.specs.declared.identifiers.Tid.{Tid}
-use Rattle.qs_book_journal.specs.declared.entry.Act.{Act}
-use Rattle.qs_book_journal.specs.declared.entry.Entry.{Entry}
-use Rattle.qs_book_laws.proofs.Outcomes.{Inv}
-use Rattle.qs_book_laws.proofs.Steps.{after_both, lawful_front, lawful_rest, ran}
-use Rattle.qs_book_laws.proofs.Turns.{Obliged}
-use Rattle.qs_book_machine.specs.Book.{BookValue}
-use Rattle.qs_book_machine.specs.Lawful.{IsLawful, book_after, broken, effect}
-use Rattle.qs_book_machine.specs.declared.transaction.RequestNo.{RequestNo}
-use Rattle.qs_packet.specs.declared.message.Message.{Message}
-use Rattle.qs_node_step.specs.State.{Work}
-use Rattle.qs_world.specs.Posting.{entries_of, entry_of}
-use Rattle.qs_world_refine.specs.Shows.{sent_to}
+use Rattle.qs_world_runs.proofs.Words.{◌≡◌, ℕ, ◌+◌, ◌==◌, ◌&&◌, not, Bool, true, false, List, [], ◌∷◌, ◌++◌, length, map, None, refl, sym, ap, subst, ◌∙◌, if◌then◌else◌, filter, ServerNo, Tid, Act, Entry, Inv, after_both, lawful_front, lawful_rest, ran, Obliged, BookValue, book_after, broken, effect, RequestNo, Message, Work, entries_of, entry_of, sent_to, Field, asked, waiting, OpenPlaced, is_loud, loud, Here, LeavesPlaces, PlacedAmid, book_amid, field_amid, eq_le}
+use Rattle.qs_book_machine.specs.Lawful.{IsLawful}
 use Rattle.qs_world_lawful.specs.Face.{is_numbered, waiting_at}
-use Rattle.qs_world_runs.specs.Placed.{Field, asked, waiting}
-use Rattle.qs_world_runs.specs.PlacedActs.{OpenPlaced, is_loud, loud}
-use Rattle.qs_world_runs.specs.PlacesAmid.{Here, LeavesPlaces, PlacedAmid, book_amid, counted, field_amid}
+use Rattle.qs_world_runs.specs.PlacesAmid.{counted}
 use Rattle.qs_world_runs.proofs.PlacedActs.{begun_placed, open_grown, quiet_obliged, step_here}
 use Rattle.qs_world_runs.proofs.PlacedTx.{Grows, back, there}
 use Rattle.qs_world_runs.proofs.PlacesLeft.{asked_more}
@@ -78,14 +62,11 @@ module _ (t : Tid) (base : Field) (knows : ℕ → ℕ) (n : ℕ) where
   amid_grows work new l = record {
     nodes = record { size = refl; up = λ k. refl; inc = λ k. refl };
     room = λ at. record {
-      runs = λ up server. most (there t (amid work) at server) (there t (amid new) at server) (sym (there_amid new at server ∙ (same at server ∙ sym (there_amid work at server))));
-      stopped = λ off server. most (back t (amid work) at server) (back t (amid new) at server) (sym (kept_amid new at server ∙ (ap (λ (k : ℕ). back t base at server + (if stays at then k else 0)) (l.asks at.link.to.0 server at.number) ∙ sym (kept_amid work at server))));
+      runs = λ up server. eq_le (there t (amid work) at server) (there t (amid new) at server) (sym (there_amid new at server ∙ (same at server ∙ sym (there_amid work at server))));
+      stopped = λ off server. eq_le (back t (amid work) at server) (back t (amid new) at server) (sym (kept_amid new at server ∙ (ap (λ (k : ℕ). back t base at server + (if stays at then k else 0)) (l.asks at.link.to.0 server at.number) ∙ sym (kept_amid work at server))));
     };
   }
     where
-      most : (a b : ℕ) → a ≡ b → a ≤ b
-      most a b e = omega (arith, e)
-
       same : (at : RequestNo) (server : ServerNo) → room (at.link.to.0 == n) (goes at) (stays at) (counted t at server new.node) (waiting t base at server) (asked t server at.number (base.sent at.link.from.0 at.link.to.0)) (back t base at server) (posted new at server)
           ≡ room (at.link.to.0 == n) (goes at) (stays at) (counted t at server work.node) (waiting t base at server) (asked t server at.number (base.sent at.link.from.0 at.link.to.0)) (back t base at server) (posted work at server)
       same at server = ap (λ (k : ℕ). room (at.link.to.0 == n) (goes at) (stays at) k (waiting t base at server) (asked t server at.number (base.sent at.link.from.0 at.link.to.0)) (back t base at server) (posted new at server)) (l.waits at server)

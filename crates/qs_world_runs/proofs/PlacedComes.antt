@@ -1,30 +1,11 @@
 -- A message comes: a request of the transaction is off its way and waits at its server, and any other leaves as many requests on their way.
-use Rattle.std.proofs.Common.{◌≡◌, ℕ, ◌+◌, ◌≤◌, ◌==◌, ◌&&◌, not, Bool, true, false, List, [], ◌∷◌, ◌++◌, length, Option, Some, refl, sym, ap, subst, ◌∙◌, arith, if◌then◌else◌}
-use Rattle.std.proofs.lemmas.Bool.Decides.{nat_tests}
-use Rattle.qs_base.specs.Order.{same_tid}
-use Rattle.qs_base.proofs.Same.{same_tid-self}
-use Rattle.qs_base.specs.declared.identifiers.ServerNo.{ServerNo}
-use Rattle.qs_base.specs.declared.identifiers.Tid.{Tid}
+use Rattle.qs_world_runs.proofs.Words.{◌≡◌, ℕ, ◌+◌, ◌≤◌, ◌==◌, ◌&&◌, not, Bool, true, false, List, [], ◌∷◌, ◌++◌, length, Option, Some, refl, sym, ap, subst, ◌∙◌, arith, if◌then◌else◌, nat_tests, same_tid, same_tid-self, ServerNo, Tid, Delivery, Channels, find_transaction, RequestNo, Op, Message, engage, learn_label, request_came, take_in, Work, with_queues, Sending, Handed, hand_next, taken_by, next_parcel, Parcel, World, sent_to, is_asking_for, Field, asked, field_of, waiting, OpenPlaced}
+use Rattle.qs_world_runs.proofs.Words.{LeavesPlaces, book_amid, field_amid, apart_turned, eq_le}
 use Rattle.qs_ipc.specs.Ipc as ipc
-use Rattle.qs_ipc.specs.declared.delivery.Delivery.{Delivery}
-use Rattle.qs_session_channels.specs.Channels.{Channels}
-use Rattle.qs_book_machine.specs.Book.{find_transaction}
 use Rattle.qs_book_machine.specs.Lawful.{IsLawful}
-use Rattle.qs_book_machine.specs.declared.transaction.RequestNo.{RequestNo}
-use Rattle.qs_ops.specs.declared.operation.Op.{Op}
-use Rattle.qs_packet.specs.declared.message.Message.{Message}
-use Rattle.qs_node_step.specs.Serving.{engage, learn_label, request_came, take_in}
-use Rattle.qs_node_step.specs.State.{Work, with_queues}
-use Rattle.qs_node_step.specs.declared.event.Sending.{Sending}
-use Rattle.qs_world.specs.Moves.{Handed, hand_next, node_no, taken_by}
-use Rattle.qs_world.specs.Posting.{next_parcel}
-use Rattle.qs_world.specs.World.{Parcel, World}
-use Rattle.qs_world_refine.specs.Shows.{sent_to}
+use Rattle.qs_world.specs.Moves.{node_no}
 use Rattle.qs_world_lawful.specs.Face.{is_numbered}
-use Rattle.qs_world_lawful.specs.Parcels.{is_asking_for}
-use Rattle.qs_world_runs.specs.Placed.{Field, asked, field_of, waiting}
-use Rattle.qs_world_runs.specs.PlacedActs.{OpenPlaced}
-use Rattle.qs_world_runs.specs.PlacesAmid.{LeavesPlaces, book_amid, counted, field_amid}
+use Rattle.qs_world_runs.specs.PlacesAmid.{counted}
 use Rattle.qs_world_runs.specs.PlacesComes.{MessageComes, RequestComes}
 use Rattle.qs_world_runs.proofs.CountedQueues.{count_enqueued}
 use Rattle.qs_world_runs.proofs.FieldRoom.{less_by}
@@ -35,6 +16,7 @@ use Rattle.qs_world_runs.proofs.PlacedAmid.{entries, kept_amid, left_on, room, t
 use Rattle.qs_world_runs.proofs.PlacedServes.{one_if}
 use Rattle.qs_world_runs.proofs.PlacedTx.{Grows, back, there}
 use Rattle.qs_world_runs.proofs.PlacesLeft.{then_leaves}
+use Rattle.qs_base_lemmas.proofs.Tests.{is_plus_zero}
 
 -- what waits is more by what is off its way
 room_moved : (h g s : Bool) (w v x a c b p k : ℕ) → v ≡ w + k → (h ≡ true → a ≤ c + k) → (h ≡ false → a ≤ c) → room h g s w x a b p ≤ room h g s v x c b p
@@ -68,14 +50,11 @@ module _ (t : Tid) (world : World) (n m : ℕ) (parcel : Parcel) (next : next_pa
     room = λ at. record { runs = λ up server. all at server; stopped = λ off server. kept at server };
   }
     where
-      itself : (a b : ℕ) → a ≡ b → a ≤ b
-      itself a b e = omega (arith, e)
-
       posted : (at : RequestNo) (server : ServerNo) → asked t server at.number (sent_to at.link.to.0 new.out.messages) ≡ asked t server at.number (sent_to at.link.to.0 work.out.messages)
       posted at server = ap (λ (xs : List Sending). asked t server at.number (sent_to at.link.to.0 xs)) ms
 
       kept : (at : RequestNo) (server : ServerNo) → back t (field_amid old_base knows n work) at server ≤ back t (field_amid new_base knows n new) at server
-      kept at server = itself (back t (field_amid old_base knows n work) at server) (back t (field_amid new_base knows n new) at server) (kept_amid t old_base knows n work at server
+      kept at server = eq_le (back t (field_amid old_base knows n work) at server) (back t (field_amid new_base knows n new) at server) (kept_amid t old_base knows n work at server
           ∙ (ap (λ (x : ℕ). back t old_base at server + (if (at.link.from.0 == n) && (knows at.link.to.0 == 0) then x else 0)) (sym (posted at server)) ∙ sym (kept_amid t new_base knows n new at server)))
 
       all : (at : RequestNo) (server : ServerNo) → there t (field_amid old_base knows n work) at server ≤ there t (field_amid new_base knows n new) at server
@@ -123,10 +102,7 @@ pub message_comes : MessageComes
 message_comes t world n m stamp before work parcel next nothing placed tx found =
     subst (λ (c : Channels Parcel). OpenPlaced t (field_amid (field_of (record world { channels = c })) (c.peer n) n work) tx) (sym (taken_is t world n m parcel next))
     (open_grown t (field_amid (field_of world) (world.channels.peer n) n work) (field_amid (field_of (handed_world t world n m parcel next)) (world.channels.peer n) n work)
-    (comes_grows t world n m parcel next work work (λ at server. 0) refl (λ at server. plus_none (counted t at server work.node)) (λ at server to_n from_m. ap (λ (ops : List Op). length (ops ++ [])) (nothing server at.number))) tx (placed tx found))
-  where
-    plus_none : (a : ℕ) → a ≡ a + 0
-    plus_none a = omega arith
+    (comes_grows t world n m parcel next work work (λ at server. 0) refl (λ at server. is_plus_zero (counted t at server work.node)) (λ at server to_n from_m. ap (λ (ops : List Op). length (ops ++ [])) (nothing server at.number))) tx (placed tx found))
 
 pub request_comes : RequestComes
 request_comes t world n m stamp before work label member number issuer op parcel i next says fits kept lawful placed tx found =
@@ -172,7 +148,4 @@ request_comes t world n m stamp before work label member number issuer op parcel
             one : (b : Bool) → length ((if b then op ∷ [] else []) ++ []) ≡ one_if b
             one true = refl
             one false = refl
-        by false b p q = let r : (member.server.0 == server.0) ≡ false = flip server.0 member.server.0 p in rw (same_tid-self t, p, r) refl
-          where
-            flip : (a b : ℕ) → (a == b) ≡ false → (b == a) ≡ false
-            flip a b e = grind (arith, nat_tests, e)
+        by false b p q = let r : (member.server.0 == server.0) ≡ false = apart_turned server.0 member.server.0 p in rw (same_tid-self t, p, r) refl

@@ -1,45 +1,24 @@
 -- A request is issued: it waits at a server of its own node, or is put for the incarnation that is known and runs, or is kept back where none is known.
-use Rattle.std.proofs.Common.{map, ◌≡◌, ◌⊎◌, inl, inr, ℕ, ◌+◌, ◌<◌, ◌≤◌, ◌==◌, ◌&&◌, not, Bool, true, false, [], ◌∷◌, ◌++◌, length, refl, sym, ap, subst, ◌∙◌, arith, if◌then◌else◌}
-use Rattle.std.proofs.lemmas.Bool.Decides.{nat_tests}
-use Rattle.qs_base.specs.Order.{same_tid, same_member}
-use Rattle.qs_base.proofs.Same.{same_tid-self}
-use Rattle.qs_base.specs.declared.identifiers.Member.{Member}
-use Rattle.qs_base.specs.declared.identifiers.NodeNo.{NodeNo}
-use Rattle.qs_base.specs.declared.identifiers.ServerNo.{ServerNo}
-use Rattle.qs_base.specs.declared.identifiers.Tid.{Tid}
+use Rattle.qs_world_runs.proofs.Words.{map, ◌≡◌, ◌⊎◌, inl, inr, ℕ, ◌+◌, ◌<◌, ◌≤◌, ◌==◌, ◌&&◌, not, Bool, true, false, [], ◌∷◌, ◌++◌, length, refl, sym, ap, subst, ◌∙◌, arith, if◌then◌else◌, le_refl, nat_tests, same_tid, same_member, same_tid-self, Member, NodeNo, ServerNo, Tid, Delivery, Inv, BookValue, inc_at, is_standing, Request, RequestNo, Op, Message, is_other, member_here, ask_on, enter_issue, is_asked, issue_away, issue_here, label_of, with_local, Work, here, with_manager, with_queues}
+use Rattle.qs_world_runs.proofs.Words.{Sending, Outstanding, sent_to, at_server, is_asking_for, Field, asked, LeavesPlaces, PlacedAmid, book_amid, field_amid, eqb-self, eq-eqb}
 use Rattle.qs_ipc.specs.Ipc as ipc
 use Rattle.qs_ipc.specs.Queue.{is_for}
-use Rattle.qs_ipc.specs.declared.delivery.Delivery.{Delivery}
 use Rattle.qs_book_journal.specs.declared.entry.Act.TheVariants as acts
-use Rattle.qs_book_laws.proofs.Outcomes.{Inv}
-use Rattle.qs_book_machine.specs.Book.{BookValue, inc_at}
 use Rattle.qs_book_machine.specs.Lawful.{IsLawful}
-use Rattle.qs_book_machine.specs.Transaction.{is_standing}
-use Rattle.qs_book_machine.specs.declared.transaction.Request.{Request}
-use Rattle.qs_book_machine.specs.declared.transaction.RequestNo.{RequestNo}
-use Rattle.qs_ops.specs.declared.operation.Op.{Op}
-use Rattle.qs_packet.specs.declared.message.Message.{Message}
 use Rattle.qs_packet.specs.declared.message.Message.TheVariants as messages
-use Rattle.qs_node_step.specs.Bringing.{is_other, member_here}
-use Rattle.qs_node_step.specs.Requests.{ask_on, enter_issue, is_asked, issue_away, issue_here, label_of, with_local}
-use Rattle.qs_node_step.specs.State.{Work, here, with_manager, with_queues}
-use Rattle.qs_node_step.specs.declared.event.Sending.{Sending}
 use Rattle.qs_tm.specs.Manager as tm
-use Rattle.qs_tm.specs.declared.participant.Outstanding.{Outstanding}
 use Rattle.qs_world_refine.proofs.Posting.{send_is, sent_work}
-use Rattle.qs_world_refine.specs.Shows.{sent_to}
-use Rattle.qs_world_lawful.specs.Face.{at_server, is_numbered}
-use Rattle.qs_world_lawful.specs.Parcels.{is_asking_for}
-use Rattle.qs_world_runs.specs.Placed.{Field, asked}
-use Rattle.qs_world_runs.specs.PlacesAmid.{LeavesPlaces, PlacedAmid, book_amid, counted, field_amid}
+use Rattle.qs_world_lawful.specs.Face.{is_numbered}
+use Rattle.qs_world_runs.specs.PlacesAmid.{counted}
 use Rattle.qs_world_runs.proofs.CountedQueues.{count_enqueued}
 use Rattle.qs_world_runs.proofs.PlacedActs.{issue_obliged}
 use Rattle.qs_world_runs.proofs.PlacedAmid.{act_on, entries, lawful_then, left_on}
-use Rattle.qs_world_runs.proofs.FieldRoom.{goes_more, here_more, itself, more_back, more_grows, stays_more}
+use Rattle.qs_world_runs.proofs.FieldRoom.{goes_more, here_more, more_back, more_grows, stays_more}
 use Rattle.qs_world_runs.proofs.PlacedIssued.{numbered_next}
 use Rattle.qs_world_runs.proofs.PlacedServes.{MoreRoom, one_if}
 use Rattle.qs_world_runs.proofs.PlacedTx.{Grows}
 use Rattle.qs_world_runs.proofs.PlacesLeft.{itself_leaves, send_leaves, sent_more}
+use Rattle.qs_base_lemmas.proofs.Tests.{and_true}
 
 -- ---- one request
 
@@ -85,10 +64,7 @@ module _ (t : Tid) (base : Field) (knows : ℕ → ℕ) (n stamp : ℕ) (before 
         up a b k e = omega (arith, e)
 
     to_n : (request.member.node.0 == n) ≡ true
-    to_n = same request.member.node.0 n (ap (λ (k : NodeNo). k.0) own ∙ here_is)
-      where
-        same : (a b : ℕ) → a ≡ b → (a == b) ≡ true
-        same a b e = grind (arith, nat_tests, e)
+    to_n = eq-eqb request.member.node.0 n (ap (λ (k : NodeNo). k.0) own ∙ here_is)
 
     numbered : is_numbered its_no delivery ≡ true
     numbered = both (here work).0 n request.number here_is
@@ -97,21 +73,17 @@ module _ (t : Tid) (base : Field) (knows : ℕ → ℕ) (n stamp : ℕ) (before 
         both a b c e = grind (arith, nat_tests, e)
 
     queued_grows : Grows t (amid work) (amid queued)
-    queued_grows = more_grows t base knows n work queued no_less (λ q server number. itself (asked t server number (sent_to q work.out.messages)))
+    queued_grows = more_grows t base knows n work queued no_less (λ q server number. le_refl (asked t server number (sent_to q work.out.messages)))
 
     queued_room : base.up n ≡ true → (r : Request) → r.member ≡ request.member → r.served ≡ false → MoreRoom t (amid work) (amid queued) its_no r
     queued_room on r m s = record {
       runs = λ up server. here_more t base knows n work queued its_no server (one_if (is_standing (at_server request.member.node server) r)) to_n
-          (more its_no server ∙ ap (λ (b : Bool). counted t its_no server work.node + one_if b) (its server)) (itself (asked t server request.number (sent_to request.member.node.0 work.out.messages)));
+          (more its_no server ∙ ap (λ (b : Bool). counted t its_no server work.node + one_if b) (its server)) (le_refl (asked t server request.number (sent_to request.member.node.0 work.out.messages)));
       stopped = λ off. absurd (let up : base.up request.member.node.0 ≡ true = ap base.up (ap (λ (k : NodeNo). k.0) own ∙ here_is) ∙ on in cc (up, off));
     }
       where
         its : (server : ServerNo) → ((server.0 == request.member.server.0) && is_numbered its_no delivery) ≡ is_standing (at_server request.member.node server) r
         its server = ap (λ (b : Bool). (server.0 == request.member.server.0) && b) numbered ∙ (and_true (server.0 == request.member.server.0) ∙ sym (stands_is r m s server))
-          where
-            and_true : (b : Bool) → (b && true) ≡ b
-            and_true true = refl
-            and_true false = refl
 
     pub issued_here : base.up n ≡ true → IsNow → IsLawful before (entries t base knows n stamp before i (issue_here t request op work)) → PlacedAmid t base knows n stamp before work → PlacedAmid t base knows n stamp before (issue_here t request op work)
     issued_here on now lawful placed = subst (λ (w : Work). IsLawful before (entries t base knows n stamp before i w) → PlacedAmid t base knows n stamp before w) (sym is) (λ allowed.
@@ -150,11 +122,8 @@ module _ (t : Tid) (base : Field) (knows : ℕ → ℕ) (n stamp : ℕ) (before 
         up a b k e = omega (arith, e)
 
     its_own : (r : Request) → r.member ≡ request.member → r.served ≡ false → (server : ServerNo) → asked t server request.number (sent_to request.member.node.0 (sending ∷ [])) ≡ one_if (is_standing (at_server request.member.node server) r)
-    its_own r m s server = picked (request.member.node.0 == request.member.node.0) (self request.member.node.0) ∙ (by (server.0 == request.member.server.0) refl ∙ ap one_if (sym (stands_is r m s server)))
+    its_own r m s server = picked (request.member.node.0 == request.member.node.0) (eqb-self request.member.node.0) ∙ (by (server.0 == request.member.server.0) refl ∙ ap one_if (sym (stands_is r m s server)))
       where
-        self : (a : ℕ) → (a == a) ≡ true
-        self a = grind (arith, nat_tests)
-
         picked : (b : Bool) → b ≡ true → asked t server request.number (map (λ (x : Sending). x.message) (if b then sending ∷ [] else [])) ≡ length (is_asking_for t server request.number message ++ [])
         picked b is = rw is refl
 
@@ -170,7 +139,7 @@ module _ (t : Tid) (base : Field) (knows : ℕ → ℕ) (n stamp : ℕ) (before 
             no false x y k e = refl
 
     put_grows : Grows t (amid work) (amid put)
-    put_grows = more_grows t base knows n work put (λ at server. itself (counted t at server work.node)) never_less
+    put_grows = more_grows t base knows n work put (λ at server. le_refl (counted t at server work.node)) never_less
 
     -- the incarnation that is known runs, or none is known
     abbrev pub Reaches : Type 0
@@ -184,7 +153,7 @@ module _ (t : Tid) (base : Field) (knows : ℕ → ℕ) (n stamp : ℕ) (before 
 
     put_room : Reaches → (r : Request) → r.member ≡ request.member → r.served ≡ false → MoreRoom t (amid work) (amid put) its_no r
     put_room (inl unknown) r m s = record {
-      runs = λ up server. stays_more t base knows n work put its_no server (one_if (is_standing (at_server request.member.node server) r)) (own_and (knows request.member.node.0 == 0) unknown) (itself (counted t its_no server work.node)) (its server);
+      runs = λ up server. stays_more t base knows n work put its_no server (one_if (is_standing (at_server request.member.node server) r)) (own_and (knows request.member.node.0 == 0) unknown) (le_refl (counted t its_no server work.node)) (its server);
       stopped = λ off server. more_back t base knows n work put its_no server (one_if (is_standing (at_server request.member.node server) r)) (own_and (knows request.member.node.0 == 0) unknown) (its server);
     }
       where
@@ -192,7 +161,7 @@ module _ (t : Tid) (base : Field) (knows : ℕ → ℕ) (n stamp : ℕ) (before 
         its server = more_asked request.member.node.0 server request.number ∙ ap (λ (k : ℕ). asked t server request.number (sent_to request.member.node.0 work.out.messages) + k) (its_own r m s server)
     put_room (inr known) r m s = record {
       runs = λ up server. goes_more t base knows n work put its_no server (one_if (is_standing (at_server request.member.node server) r)) (own_and ((knows request.member.node.0 == base.inc request.member.node.0) && not (knows request.member.node.0 == 0)) known.1)
-          (itself (counted t its_no server work.node)) (its server);
+          (le_refl (counted t its_no server work.node)) (its server);
       stopped = λ off. absurd (let up : base.up request.member.node.0 ≡ true = known.0 in cc (up, off));
     }
       where

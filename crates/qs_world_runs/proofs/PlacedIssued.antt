@@ -1,34 +1,16 @@
 -- Who issued a request that stands runs, and gave its number in its present incarnation: that stays as the transaction goes on. So the next number is that of none that stands.
-use Rattle.std.proofs.Common.{◌≡◌, ◌⊎◌, inl, inr, ℕ, ◌+◌, ◌≤◌, ◌==◌, ◌&&◌, not, Bool, true, false, List, [], ◌∷◌, ◌++◌, Option, Some, None, refl, sym, ap, subst, ◌∙◌, arith, if◌then◌else◌}
-use Rattle.std.proofs.lemmas.Bool.Decides.{nat_tests}
-use Rattle.std.proofs.lemmas.Cmp.{nat_cmp_total, tied_itself}
-use Rattle.std.specs.BTreeMap.{is_at}
-use Rattle.std.specs.List.{find}
-use Rattle.std.specs.Map.{lookup}
-use Rattle.std.specs.Option.{option_map}
-use Rattle.std.specs.Prelude.{is_some, length, nat_lt, slice_get, unwrap_or}
-use Rattle.std.specs.declared.cmp.Ordering.TheVariants.{Equal}
-use Rattle.qs_base.specs.Order.{same_member}
-use Rattle.qs_base.specs.declared.identifiers.Member.{Member}
-use Rattle.qs_base.specs.declared.identifiers.Tid.{Tid}
+use Rattle.qs_world_runs.proofs.Words.{◌≡◌, ◌⊎◌, inl, inr, ℕ, ◌+◌, ◌≤◌, ◌==◌, ◌&&◌, not, Bool, true, false, List, [], ◌∷◌, ◌++◌, Option, Some, None, refl, sym, ap, subst, ◌∙◌, arith, if◌then◌else◌, nat_cmp_total, tied_itself, is_at, find, lookup, option_map, is_some, length, nat_lt, slice_get, unwrap_or, Equal, same_member, Member, Tid, changed_apart, changed_none, held, BookValue, find_transaction, inc_at, broken_issue, broken_issuer, link_to, broken, broken_act, broken_at, TransactionValue}
+use Rattle.qs_world_runs.proofs.Words.{is_standing, issued, is_commit, link_cmp, mark_served, request_cmp, requests_at, requests_in, sent_in, sent_on, standing_request, Link, Request, RequestNo, Sent, Op, entry_of, AreIssued, Field, IsIssued, same_Some, le_le, and_false, eqb-self}
 use Rattle.qs_book_journal.specs.declared.entry.Act.TheVariants as acts
 use Rattle.qs_book_laws.proofs.Holding.{left_of, right_of, same_number}
-use Rattle.qs_book_laws.proofs.Maps.{changed_alike, changed_apart, changed_none, lookup_changed, lookup_put, lookup_put_apart}
+use Rattle.qs_book_laws.proofs.Maps.{changed_alike, lookup_changed, lookup_put, lookup_put_apart}
 use Rattle.qs_book_laws.proofs.Reaching.{link_exact}
 use Rattle.qs_book_laws.proofs.Requests.{request_exact}
-use Rattle.qs_book_laws.proofs.Steps.{held}
-use Rattle.qs_book_machine.specs.Book.{BookValue, find_transaction, inc_at}
-use Rattle.qs_book_machine.specs.Clauses.{broken_issue, broken_issuer, is_for, is_numbered, link_to}
-use Rattle.qs_book_machine.specs.Lawful.{broken, broken_act, broken_at, is_in_order}
+use Rattle.qs_book_machine.specs.Clauses.{is_for, is_numbered}
+use Rattle.qs_book_machine.specs.Lawful.{is_in_order}
 use Rattle.qs_book_machine.specs.Nodes as machine
-use Rattle.qs_book_machine.specs.Transaction.{TransactionValue, counted, is_standing, issued, is_commit, link_cmp, mark_served, next_number, request_cmp, requests_at, requests_in, sent_in, sent_more, sent_on, served_in, standing_request, with_counted}
-use Rattle.qs_book_machine.specs.declared.transaction.Link.{Link}
-use Rattle.qs_book_machine.specs.declared.transaction.Request.{Request}
-use Rattle.qs_book_machine.specs.declared.transaction.RequestNo.{RequestNo}
-use Rattle.qs_book_machine.specs.declared.transaction.Sent.{Sent}
-use Rattle.qs_ops.specs.declared.operation.Op.{Op}
-use Rattle.qs_world.specs.Posting.{entry_of}
-use Rattle.qs_world_runs.specs.Placed.{AreIssued, Field, IsIssued}
+use Rattle.qs_book_machine.specs.Transaction.{counted, next_number, sent_more, served_in, with_counted}
+use Rattle.qs_base_lemmas.proofs.Tests.{eq_ge}
 
 -- ---- numbers of a link
 
@@ -40,18 +22,12 @@ link_self l = rw (tied_itself nat_cmp_total l.from.0, tied_itself nat_cmp_total 
 
 -- one more was given in the incarnation of the request
 more_in : (request : Request) (o : Option Sent) → sent_in request.inc (Some (sent_more request o)) ≡ sent_in request.inc o + 1
-more_in request None = rw (itself request.inc) refl
-  where
-    itself : (a : ℕ) → (a == a) ≡ true
-    itself a = grind (arith, nat_tests)
+more_in request None = rw (eqb-self request.inc) refl
 more_in request (Some sent) = by (sent.inc == request.inc) refl
   where
-    itself : (a : ℕ) → (a == a) ≡ true
-    itself a = grind (arith, nat_tests)
-
     by : (b : Bool) → (sent.inc == request.inc) ≡ b → sent_in request.inc (Some (sent_more request (Some sent))) ≡ sent_in request.inc (Some sent) + 1
     by true is = rw (is, is) refl
-    by false is = rw (is, itself request.inc) refl
+    by false is = rw (is, eqb-self request.inc) refl
 
 module _ (tx : TransactionValue) (at : RequestNo) (request : Request) (peer_inc place : ℕ) where
   abbrev new : TransactionValue
@@ -70,9 +46,6 @@ module _ (tx : TransactionValue) (at : RequestNo) (request : Request) (peer_inc 
   given_more : (field : Field) → request.inc ≡ field.inc at.link.from.0 → (l : Link) → sent_in (field.inc l.from.0) (sent_on tx l) ≤ sent_in (field.inc l.from.0) (sent_on new l)
   given_more field now l = by (is_at (link_cmp l) at.link) refl
     where
-      same : (a b : ℕ) → b ≡ a → a ≤ b
-      same a b e = omega (arith, e)
-
       more : (a b : ℕ) → b ≡ a + 1 → a ≤ b
       more a b e = omega (arith, e)
 
@@ -81,7 +54,7 @@ module _ (tx : TransactionValue) (at : RequestNo) (request : Request) (peer_inc 
 
       by : (b : Bool) → is_at (link_cmp l) at.link ≡ b → sent_in (field.inc l.from.0) (sent_on tx l) ≤ sent_in (field.inc l.from.0) (sent_on new l)
       by true is = subst (λ (k : Link). sent_in (field.inc k.from.0) (sent_on tx k) ≤ sent_in (field.inc k.from.0) (sent_on new k)) (sym (link_exact l at.link is)) own
-      by false apart = same _ _ (ap (sent_in (field.inc l.from.0)) (given_other l apart))
+      by false apart = eq_ge _ _ (ap (sent_in (field.inc l.from.0)) (given_other l apart))
 
   -- what stands then stood, or has the request's number
   pub stood_or_new : (r : RequestNo) (member : Member) → is_some (standing_request new r member) ≡ true → (r ≡ at) ⊎ (is_some (standing_request tx r member) ≡ true)
@@ -100,16 +73,13 @@ module _ (tx : TransactionValue) (at : RequestNo) (request : Request) (peer_inc 
       last : (a b c : ℕ) → a ≡ b + 1 → c ≡ b + 1 → a ≤ c
       last a b c p q = omega (arith, p, q)
 
-      longer : (a b c : ℕ) → a ≤ b → b ≤ c → a ≤ c
-      longer a b c p q = omega (arith, p, q)
-
       own : IsIssued new field at
       own = record { up = runs; given = subst (λ (i : ℕ). at.number ≤ sent_in i (sent_on new at.link)) now (last _ _ _ next given_own) }
 
       before : IsIssued tx old r → IsIssued new field r
       before i = record {
         up = up r.link.from.0 ∙ i.up;
-        given = longer _ _ _ (subst (λ (k : ℕ). r.number ≤ sent_in k (sent_on tx r.link)) (sym (inc r.link.from.0)) i.given) (given_more field now r.link);
+        given = le_le _ _ _ (subst (λ (k : ℕ). r.number ≤ sent_in k (sent_on tx r.link)) (sym (inc r.link.from.0)) i.given) (given_more field now r.link);
       }
 
       by : (r ≡ at) ⊎ (is_some (standing_request tx r member) ≡ true) → IsIssued new field r
@@ -135,14 +105,10 @@ module _ (member : Member) where
   stood_before m [] stands = stands
   stood_before m (r ∷ rs) stands = by (is_standing member r) refl (is_standing m r) refl stands (stood_before m rs)
     where
-      off : (b : Bool) → (b && false) ≡ false
-      off true = refl
-      off false = refl
-
       by : (b : Bool) → is_standing member r ≡ b → (c : Bool) → is_standing m r ≡ c → is_some (find (is_standing m) (mark_served member (r ∷ rs))) ≡ true
           → (is_some (find (is_standing m) (mark_served member rs)) ≡ true → is_some (find (is_standing m) rs) ≡ true) → is_some (find (is_standing m) (r ∷ rs)) ≡ true
       by b is true so stands more = rw so refl
-      by true is false so stands more = let served : is_standing m (record r { served = true }) ≡ false = off (same_member r.member m) in rw so (rw (is, served) at stands)
+      by true is false so stands more = let served : is_standing m (record r { served = true }) ≡ false = and_false (same_member r.member m) in rw so (rw (is, served) at stands)
       by false is false so stands more = rw so (more (rw (is, so) at stands))
 
 module _ (tx : TransactionValue) (at : RequestNo) (member : Member) (inc stamp : ℕ) (done : Bool) where
@@ -188,10 +154,7 @@ counted_given link inc up_to peer_inc tx k l = of (sent_on (counted link inc up_
     of None None same = refl
     of None (Some t) same = absurd (cc same)
     of (Some s) None same = absurd (cc same)
-    of (Some s) (Some t) same = one (sent_in k (Some s)) (sent_in k (Some t)) same
-      where
-        one : (a b : ℕ) → Some a ≡ Some b → a ≡ b
-        one a b is = cc is
+    of (Some s) (Some t) same = same_Some (sent_in k (Some s)) (sent_in k (Some t)) same
 
 pub issued_left : (tx new : TransactionValue) (old field : Field) → new.requests ≡ tx.requests → ((k : ℕ) (l : Link) → sent_in k (sent_on new l) ≡ sent_in k (sent_on tx l)) → ((k : ℕ) → field.up k ≡ old.up k) → ((k : ℕ) → field.inc k ≡ old.inc k) → AreIssued tx old → AreIssued new field
 issued_left tx new old field requests given up inc are r m stands =

@@ -1,50 +1,15 @@
 -- A request that waits is served: it leaves its queue as it counts as served, and a loan that it asks for is made at once.
-use Rattle.std.proofs.Common.{◌≡◌, inl, inr, ℕ, ◌+◌, ◌<◌, ◌≤◌, ◌==◌, ◌&&◌, Bool, true, false, List, [], ◌∷◌, ◌++◌, Option, Some, None, refl, sym, ap, subst, ◌∙◌, arith, if◌then◌else◌}
-use Rattle.std.proofs.lemmas.Bool.{eqb-true}
-use Rattle.std.proofs.lemmas.Bool.Decides.{nat_tests}
-use Rattle.std.specs.BTreeMap.{is_at}
-use Rattle.std.specs.Prelude.{is_some, nat_lt}
-use Rattle.qs_base.specs.Order.{same_member, same_tid}
-use Rattle.qs_base.proofs.Same.{same_tid-self}
+use Rattle.qs_world_runs.proofs.Words.{◌≡◌, inl, inr, ℕ, ◌+◌, ◌<◌, ◌≤◌, ◌==◌, ◌&&◌, Bool, true, false, List, [], ◌∷◌, ◌++◌, Option, Some, None, refl, sym, ap, subst, ◌∙◌, arith, if◌then◌else◌, eqb-true, eq-eqb, nat_tests, is_at, is_some, nat_lt, same_member, same_tid, same_tid-self, ClientNo, Member, NodeNo, ServerNo, Tid, Delivery, Act, paced, Inv, ran, BookValue, find_transaction, inc_at, borrower_at, broken, effect, TransactionValue, life, request_cmp, standing_request, RequestNo, class_of}
+use Rattle.qs_world_runs.proofs.Words.{after_serving, client_no, Reply, is_client, member_here, send, reply_came, change_served, enter_serve, lent_to, make_loan, serve, Work, change_server, here, with_queues, same_node, Effects, Sending, IpcValue, entry_of, sent_to, at_server, Field, IsPresent, asked, waiting, OpenPlaced, Here, LeavesPlaces, PlacedAmid, book_amid, field_amid, and_first, and_last, and_false, eq_le}
 use Rattle.qs_base.specs.declared.identifiers.Class.TheVariants as classes
-use Rattle.qs_base.specs.declared.identifiers.ClientNo.{ClientNo}
-use Rattle.qs_base.specs.declared.identifiers.Member.{Member}
-use Rattle.qs_base.specs.declared.identifiers.NodeNo.{NodeNo}
-use Rattle.qs_base.specs.declared.identifiers.ServerNo.{ServerNo}
-use Rattle.qs_base.specs.declared.identifiers.Tid.{Tid}
 use Rattle.qs_ipc.specs.Ipc as ipc
 use Rattle.qs_ipc.specs.Queue.{is_for, is_of}
-use Rattle.qs_ipc.specs.declared.delivery.Delivery.{Delivery}
-use Rattle.qs_book_journal.specs.declared.entry.Act.{Act}
 use Rattle.qs_book_journal.specs.declared.entry.Act.TheVariants as acts
-use Rattle.qs_book_laws.proofs.LinkSteps.{paced}
-use Rattle.qs_book_laws.proofs.Outcomes.{Inv}
-use Rattle.qs_book_laws.proofs.Steps.{ran}
-use Rattle.qs_book_machine.specs.Book.{BookValue, find_transaction, inc_at, is_done}
-use Rattle.qs_book_machine.specs.Clauses.{borrower_at}
-use Rattle.qs_book_machine.specs.Lawful.{IsLawful, broken, effect}
-use Rattle.qs_book_machine.specs.Transaction.{TransactionValue, life, request_cmp, standing_request}
-use Rattle.qs_book_machine.specs.declared.transaction.RequestNo.{RequestNo}
-use Rattle.qs_ops.specs.Members.{class_of}
-use Rattle.qs_ops.specs.Server.{after_serving}
-use Rattle.qs_ops.specs.Servers.{client_no}
-use Rattle.qs_ops.specs.declared.reply.Reply.{Reply}
+use Rattle.qs_book_machine.specs.Book.{is_done}
+use Rattle.qs_book_machine.specs.Lawful.{IsLawful}
 use Rattle.qs_packet.specs.declared.message.Message.TheVariants as messages
-use Rattle.qs_node_servers.specs.Servers.{is_client}
-use Rattle.qs_node_step.specs.Bringing.{member_here, send}
-use Rattle.qs_node_step.specs.Requests.{reply_came}
-use Rattle.qs_node_step.specs.Serving.{change_served, enter_serve, lent_to, make_loan, serve}
-use Rattle.qs_node_step.specs.State.{Work, change_server, here, with_queues}
-use Rattle.qs_engage.specs.Nodes.{same_node}
-use Rattle.qs_node_step.specs.declared.event.Effects.{Effects}
-use Rattle.qs_node_step.specs.declared.event.Sending.{Sending}
-use Rattle.qs_ipc.specs.Ipc.{IpcValue}
-use Rattle.qs_world.specs.Posting.{entry_of}
-use Rattle.qs_world_refine.specs.Shows.{sent_to}
-use Rattle.qs_world_lawful.specs.Face.{at_server, is_numbered}
-use Rattle.qs_world_runs.specs.Placed.{Field, IsPresent, asked, waiting}
-use Rattle.qs_world_runs.specs.PlacedActs.{OpenPlaced}
-use Rattle.qs_world_runs.specs.PlacesAmid.{Here, LeavesPlaces, PlacedAmid, book_amid, counted, field_amid}
+use Rattle.qs_world_lawful.specs.Face.{is_numbered}
+use Rattle.qs_world_runs.specs.PlacesAmid.{counted}
 use Rattle.qs_world_runs.proofs.CountedQueues.{count_in, count_left}
 use Rattle.qs_world_runs.proofs.FreeLives.{client_class, low_class}
 use Rattle.qs_world_runs.proofs.LeftRequests.{reply_leaves}
@@ -109,29 +74,18 @@ module _ (t : Tid) (base : Field) (knows : ℕ → ℕ) (n stamp : ℕ) (before 
   nodes : SameNodes (amid work) (amid served)
   nodes = record { size = refl; up = λ k. refl; inc = λ k. refl }
 
-  least : (a b : ℕ) → a ≡ b → a ≤ b
-  least a b e = omega (arith, e)
-
   -- elsewhere, or of another number
   others : (k : RequestNo) → is_at (request_cmp at) k ≡ false → HasRoom t (amid work) (amid served) k
   others k far = record {
     runs = λ up s. by (k.link.to.0 == n) refl s;
-    stopped = λ off s. least (back t (amid work) k s) (back t (amid served) k s) (kept_amid t base knows n work k s
+    stopped = λ off s. eq_le (back t (amid work) k s) (back t (amid served) k s) (kept_amid t base knows n work k s
         ∙ (ap (λ (p : ℕ). back t base k s + (if stays_back t base knows n work served k s then p else 0)) (same_asked k.link.to.0 s k.number) ∙ sym (kept_amid t base knows n served k s)));
   }
     where
       it_is : (k.link.to.0 == n) ≡ true → is_numbered k d ≡ true → ⊥
-      it_is to_n number = let same_key : at ≡ k = key at k (and_left (d.from.0 == k.link.from.0) (d.number == k.number) number) (member_to to_n) (and_right (d.from.0 == k.link.from.0) (d.number == k.number) number) in
+      it_is to_n number = let same_key : at ≡ k = key at k (and_first (d.from.0 == k.link.from.0) (d.number == k.number) number) (member_to to_n) (and_last (d.from.0 == k.link.from.0) (d.number == k.number) number) in
           let is : is_at (request_cmp at) k ≡ true = subst (λ (r : RequestNo). is_at (request_cmp at) r ≡ true) same_key (rw (request_self at) refl) in cc (is, far)
         where
-          and_left : (a b : Bool) → (a && b) ≡ true → a ≡ true
-          and_left true b e = refl
-          and_left false b e = absurd (cc e)
-
-          and_right : (a b : Bool) → (a && b) ≡ true → b ≡ true
-          and_right true b e = e
-          and_right false b e = absurd (cc e)
-
           member_to : (k.link.to.0 == n) ≡ true → member.node.0 ≡ k.link.to.0
           member_to e = here_is ∙ sym (eqb-true k.link.to.0 n e)
 
@@ -147,7 +101,7 @@ module _ (t : Tid) (base : Field) (knows : ℕ → ℕ) (n stamp : ℕ) (before 
       by : (b : Bool) → (k.link.to.0 == n) ≡ b → (s : ServerNo) → there t (amid work) k s ≤ there t (amid served) k s
       by true to_n s = less_by (there_amid t base knows n work k s) (there_amid t base knows n served k s)
           (room_more (k.link.to.0 == n) (goes_now t base knows n work served k s) (stays_back t base knows n work served k s) (counted t k s work.node) (counted t k s served.node) (waiting t base k s) (asked t s k.number (base.sent k.link.from.0 k.link.to.0)) (back t base k s)
-          (posted_by t base knows n work served k s work) (posted_by t base knows n work served k s served) (least (counted t k s work.node) (counted t k s served.node) (none (is_numbered k d) refl)) (least (posted_by t base knows n work served k s work) (posted_by t base knows n work served k s served) (same_asked k.link.to.0 s k.number)))
+          (posted_by t base knows n work served k s work) (posted_by t base knows n work served k s served) (eq_le (counted t k s work.node) (counted t k s served.node) (none (is_numbered k d) refl)) (eq_le (posted_by t base knows n work served k s work) (posted_by t base knows n work served k s served) (same_asked k.link.to.0 s k.number)))
         where
           plus_none : (a b c : ℕ) → a ≡ b + c → c ≡ 0 → a ≡ b
           plus_none a b c p q = omega (arith, p, q)
@@ -167,14 +121,11 @@ module _ (t : Tid) (base : Field) (knows : ℕ → ℕ) (n stamp : ℕ) (before 
               ≤ room h (goes_now t base knows n work served k s) (stays_back t base knows n work served k s) (counted t k s served.node) (waiting t base k s) (asked t s k.number (base.sent k.link.from.0 k.link.to.0)) (back t base k s) (posted_by t base knows n work served k s served)
           elsewhere true e = absurd (cc e)
           elsewhere false e = room_more false (goes_now t base knows n work served k s) (stays_back t base knows n work served k s) 0 0 (waiting t base k s) (asked t s k.number (base.sent k.link.from.0 k.link.to.0)) (back t base k s)
-              (posted_by t base knows n work served k s work) (posted_by t base knows n work served k s served) (least 0 0 refl) (least (posted_by t base knows n work served k s work) (posted_by t base knows n work served k s served) (same_asked k.link.to.0 s k.number))
+              (posted_by t base knows n work served k s work) (posted_by t base knows n work served k s served) (eq_le 0 0 refl) (eq_le (posted_by t base knows n work served k s work) (posted_by t base knows n work served k s served) (same_asked k.link.to.0 s k.number))
 
   own_less : (s : ServerNo) → there t (amid work) at s ≤ there t (amid served) at s + one_if (same_member member (at_server member.node s))
-  own_less s = fewer_there (at.link.to.0 == n) (to_n member.node.0 n here_is) (there_amid t base knows n work at s) (there_amid t base knows n served at s)
+  own_less s = fewer_there (at.link.to.0 == n) (eq-eqb member.node.0 n here_is) (there_amid t base knows n work at s) (there_amid t base knows n served at s)
     where
-      to_n : (a b : ℕ) → a ≡ b → (a == b) ≡ true
-      to_n a b e = grind (arith, nat_tests, e)
-
       tests : ((s.0 == server.0) && (is_of t d && is_numbered at d)) ≡ same_member member (at_server member.node s)
       tests = ap (λ (b : Bool). (s.0 == server.0) && (b && is_numbered at d)) its ∙ alike member.node.0 server.0 s.0 d.from.0 d.number
         where
@@ -256,10 +207,6 @@ module _ (t : Tid) (base : Field) (knows : ℕ → ℕ) (n stamp : ℕ) (before 
         Was : TransactionValue → Type 0
         Was later = WasServed t (amid work) (amid served) (book_amid n stamp before work) n d.tid member d.from d.number own_test stamp (is_done reply) later
 
-        off : (b : Bool) → (b && false) ≡ false
-        off true = refl
-        off false = refl
-
         class : class_of member.server.0 ≡ classes.Activity
         class = ap class_of is ∙ client_class client.0
 
@@ -271,12 +218,12 @@ module _ (t : Tid) (base : Field) (knows : ℕ → ℕ) (n stamp : ℕ) (before 
 
         -- the loan itself changes nothing of the field
         made_grows : Grows t (amid served) (amid made)
-        made_grows = more_grows t base knows n served made (λ k s. least (counted t k s served.node) (counted t k s served.node) refl) (λ q s number. least (asked t s number (sent_to q served.out.messages)) (asked t s number (sent_to q served.out.messages)) refl)
+        made_grows = more_grows t base knows n served made (λ k s. eq_le (counted t k s served.node) (counted t k s served.node) refl) (λ q s number. eq_le (asked t s number (sent_to q served.out.messages)) (asked t s number (sent_to q served.out.messages)) refl)
 
         lent_here : Here t (OpenPlaced t (amid served)) (effect after (entry_of n stamp second))
         lent_here = step_here t Was (OpenPlaced t (amid served)) after (entry_of n stamp second) inv_after allowed.1.0
             (loan_obliged t (amid work) (amid served) (book_amid n stamp before work) n d.tid member d.from d.number own_test after stamp (is_done reply) client less (inr (client, small, is)) present class
-            ((paced d.tid (record { 0 = n }) (book_amid n stamp before work) (entry_of n stamp first_act) allowed.0).still (record { 0 = n }) (off (n == n))) borrower_is)
+            ((paced d.tid (record { 0 = n }) (book_amid n stamp before work) (entry_of n stamp first_act) allowed.0).still (record { 0 = n }) (and_false (n == n))) borrower_is)
             (λ label k ticks act. absurd (cc act))
             (step_here t (OpenPlaced t (amid work)) Was (book_amid n stamp before work) (entry_of n stamp first_act) (inv_amid t base knows n stamp before i work (lawful_then t base knows n stamp before i work made (first_act ∷ second ∷ []) both_are lawful)) allowed.0
             (client_obliged t (amid work) (amid served) (book_amid n stamp before work) n d.tid member d.from d.number own_test stamp reply (stands allowed.0)) (λ label k ticks act. absurd (cc act)) placed)

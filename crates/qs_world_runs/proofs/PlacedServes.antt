@@ -1,29 +1,8 @@
 -- What all places hold of a transaction goes on as a request is issued that has room, and as one that stands is served.
-use Rattle.std.proofs.Common.{◌≡◌, inl, ℕ, ◌+◌, ◌<◌, ◌≤◌, ◌&&◌, not, Bool, true, false, List, [], ◌∷◌, ◌++◌, length, Option, Some, None, suc, refl, sym, ap, subst, ◌∙◌, arith, if◌then◌else◌}
-use Rattle.std.specs.BTreeMap.{insert_entry, is_at}
-use Rattle.std.specs.List.{filter, find, list_all}
-use Rattle.std.specs.Map.{lookup, set_value}
-use Rattle.std.specs.Prelude.{is_some, unwrap_or}
-use Rattle.std.specs.declared.cmp.Ordering.{Ordering}
-use Rattle.std.specs.declared.cmp.Ordering.TheVariants.{Less, Equal, Greater}
-use Rattle.qs_base.proofs.Same.{same_member-true}
-use Rattle.qs_base.specs.Order.{same_member}
-use Rattle.qs_base.specs.declared.identifiers.Class.{Class}
+use Rattle.qs_world_runs.proofs.Words.{◌≡◌, inl, ℕ, ◌+◌, ◌<◌, ◌≤◌, ◌&&◌, not, Bool, true, false, List, [], ◌∷◌, ◌++◌, length, Option, Some, None, suc, refl, sym, ap, subst, ◌∙◌, arith, if◌then◌else◌, insert_entry, is_at, filter, find, list_all, lookup, set_value, is_some, unwrap_or, Ordering, Less, Equal, Greater, same_member-true, same_member, Class, Member, ServerNo, Tid, life_equal, life_itself, put_rises, request_total, TransactionValue, changed_value, is_standing, life, life_cmp}
+use Rattle.qs_world_runs.proofs.Words.{mark_served, no_part, request_cmp, requests_in, standing_request, Life, Part, Request, RequestNo, class_of, is_two_phase, at_server, Field, IsMember, IsPlaced, IsPresent, goes_there, standing, plus_zero, and_false, zero_le, same_Some, and_parts}
 use Rattle.qs_base.specs.declared.identifiers.Class.TheVariants as classes
-use Rattle.qs_base.specs.declared.identifiers.Member.{Member}
-use Rattle.qs_base.specs.declared.identifiers.ServerNo.{ServerNo}
-use Rattle.qs_base.specs.declared.identifiers.Tid.{Tid}
-use Rattle.qs_book_laws.proofs.Counts.{life_equal, life_itself}
-use Rattle.qs_book_laws.proofs.Rising.{put_rises}
-use Rattle.qs_book_machine.proofs.Present.{request_total}
-use Rattle.qs_book_machine.specs.Transaction.{TransactionValue, changed_value, is_standing, lent, life, life_cmp, made_part, mark_served, no_part, part_of, request_cmp, requests_in, served_in, serving_part, standing_request}
-use Rattle.qs_book_machine.specs.declared.transaction.Life.{Life}
-use Rattle.qs_book_machine.specs.declared.transaction.Part.{Part}
-use Rattle.qs_book_machine.specs.declared.transaction.Request.{Request}
-use Rattle.qs_book_machine.specs.declared.transaction.RequestNo.{RequestNo}
-use Rattle.qs_ops.specs.Members.{class_of, is_two_phase}
-use Rattle.qs_world_lawful.specs.Face.{at_server}
-use Rattle.qs_world_runs.specs.Placed.{Field, IsMember, IsPlaced, IsPresent, goes_there, standing}
+use Rattle.qs_book_machine.specs.Transaction.{lent, made_part, part_of, served_in, serving_part}
 use Rattle.qs_world_runs.proofs.Entries.{each_at, each_changed, each_on, each_put, changed_rises}
 use Rattle.qs_world_runs.proofs.PlacedTx.{Grows, HasRoom, IsBare, PlacedIn, SameNodes, back, bare_on, life_total, placed_on, request_equal, request_self, there}
 
@@ -61,21 +40,13 @@ module _ (member : Member) where
   marked m [] some = absurd (cc some)
   marked m (r ∷ rs) some = by (is_standing member r) refl some (marked m rs)
     where
-      and : (a b : Bool) → (a && b) ≡ true → (a ≡ true) × (b ≡ true)
-      and true b is = (refl, is)
-      and false b is = absurd (cc is)
-
-      off : (a : Bool) → (a && false) ≡ false
-      off true = refl
-      off false = refl
-
       by : (b : Bool) → is_standing member r ≡ b → is_some (find (is_standing member) (r ∷ rs)) ≡ true
           → (is_some (find (is_standing member) rs) ≡ true → length (filter (is_standing m) (mark_served member rs)) + one_if (same_member member m) ≡ length (filter (is_standing m) rs))
           → length (filter (is_standing m) (mark_served member (r ∷ rs))) + one_if (same_member member m) ≡ length (filter (is_standing m) (r ∷ rs))
-      by true is some more = rw (is, off (same_member r.member m)) (own (same_member member m) refl)
+      by true is some more = rw (is, and_false (same_member r.member m)) (own (same_member member m) refl)
         where
           its : (same_member r.member member ≡ true) × (not r.served ≡ true)
-          its = and (same_member r.member member) (not r.served) is
+          its = and_parts (same_member r.member member) (not r.served) is
 
           member_is : r.member ≡ member
           member_is = same_member-true r.member member its.0
@@ -83,12 +54,9 @@ module _ (member : Member) where
           more_one : (a : ℕ) → a + 1 ≡ suc a
           more_one a = omega arith
 
-          zero_more : (a : ℕ) → a + 0 ≡ a
-          zero_more a = omega arith
-
           own : (c : Bool) → same_member member m ≡ c → length (filter (is_standing m) rs) + one_if (same_member member m) ≡ length (filter (is_standing m) (r ∷ rs))
           own true same = let stands : is_standing m r ≡ true = ap (λ (x : Member). same_member x m && not r.served) member_is ∙ rw (same, its.1) refl in rw (same, stands) (more_one (length (filter (is_standing m) rs)))
-          own false apart = let stands : is_standing m r ≡ false = ap (λ (x : Member). same_member x m && not r.served) member_is ∙ rw apart refl in rw (apart, stands) (zero_more (length (filter (is_standing m) rs)))
+          own false apart = let stands : is_standing m r ≡ false = ap (λ (x : Member). same_member x m && not r.served) member_is ∙ rw apart refl in rw (apart, stands) (plus_zero (length (filter (is_standing m) rs)))
       by false is some more = rw is (either (is_standing m r) refl)
         where
           rest : length (filter (is_standing m) (mark_served member rs)) + one_if (same_member member m) ≡ length (filter (is_standing m) rs)
@@ -123,12 +91,9 @@ module _ (tid : Tid) (old new : Field) (g : Grows tid old new) (at : RequestNo) 
     from_in = subst (λ (k : ℕ). at.link.from.0 < k) g.nodes.size from_in;
     to_in = subst (λ (k : ℕ). at.link.to.0 < k) g.nodes.size to_in;
     there = refl;
-    runs = λ up server. least (there tid old at server);
-    stopped = λ off server. least (back tid old at server);
+    runs = λ up server. zero_le (there tid old at server);
+    stopped = λ off server. zero_le (back tid old at server);
   }
-    where
-      least : (a : ℕ) → 0 ≤ a
-      least a = omega arith
 
   one_more : (rs : List Request) → IsPlaced tid old at rs → IsPlaced tid new at (rs ++ request ∷ [])
   one_more rs p = record {
@@ -215,10 +180,7 @@ module _ {K X : Type 0} (cmp : K → K → Ordering) (k : K) (v : X) (f : X → 
 
       by : (o : Option X) → lookup (is_at (cmp k)) (insert_entry cmp es k v) ≡ o → (elim o [ None ↦ insert_entry cmp es k v | Some u ↦ set_value (is_at (cmp k)) (insert_entry cmp es k v) (f u) ]) ≡ insert_entry cmp es k (f v)
       by None none = absurd (let found : lookup (is_at (cmp k)) (insert_entry cmp es k v) ≡ Some v = some es in cc (none, found))
-      by (Some u) found = ap (λ (x : X). set_value (is_at (cmp k)) (insert_entry cmp es k v) (f x)) (same u v (sym found ∙ some es)) ∙ set es
-        where
-          same : (a b : X) → Some a ≡ Some b → a ≡ b
-          same a b is = cc is
+      by (Some u) found = ap (λ (x : X). set_value (is_at (cmp k)) (insert_entry cmp es k v) (f x)) (same_Some u v (sym found ∙ some es)) ∙ set es
 
 -- ---- the whole transaction, in that incarnation of its member
 

@@ -1,51 +1,17 @@
 -- A home that is ready at the turn of a transaction is shown there by a machine, beside the other nodes as they were: so where all places hold what they should, its commit is unanimous.
-use Rattle.std.proofs.Common.{◌≡◌, ◌⊎◌, ℕ, ◌<◌, ◌==◌, Bool, true, false, List, [], ◌∷◌, ◌++◌, fold, Some, None, refl, sym, ap, subst, ◌∙◌, append_assoc}
-use Rattle.std.proofs.lemmas.Bool.{eqb-true}
-use Rattle.qs_base.specs.declared.identifiers.Tid.{Tid}
-use Rattle.qs_engage.specs.Nodes.{same_node}
-use Rattle.qs_book_journal.specs.declared.entry.Act.{Act}
-use Rattle.qs_book_machine.specs.Book.{BookValue, find_transaction}
-use Rattle.qs_book_machine.specs.Lawful.{IsLawful, book_after}
-use Rattle.qs_book_machine.specs.Transaction.{TransactionValue, is_unanimous}
-use Rattle.qs_node_step.specs.Settling.{due_tids, may_answer, pass_rule, settle, settle_tid, try}
-use Rattle.qs_node_step.specs.State.{NodeValue, Work, part_of}
-use Rattle.qs_node_step.specs.Step.{effects_of, step_work, wait_on, waiting_clients}
-use Rattle.qs_node_step.specs.declared.event.Event.{Event}
-use Rattle.qs_tm.specs.declared.participant.Participant.{Participant}
-use Rattle.qs_world.specs.Histories.{opened_from}
-use Rattle.qs_world.specs.Moves.{Source, taken_by}
-use Rattle.qs_world.specs.Posting.{entries_of}
-use Rattle.qs_world.specs.World.{Opening, World}
+use Rattle.qs_world_runs.proofs.Words.{◌≡◌, ◌⊎◌, ℕ, ◌<◌, ◌==◌, Bool, true, false, List, [], ◌∷◌, ◌++◌, fold, Some, None, refl, sym, ap, subst, ◌∙◌, append_assoc, eqb-true, Tid, same_node, Act, BookValue, find_transaction, book_after, TransactionValue, is_unanimous, due_tids, may_answer, pass_rule, settle, settle_tid, try, Work, effects_of, step_work, wait_on, waiting_clients, Event, Participant, opened_from, Source, taken_by, entries_of, Opening, World, IsDoomed, doom_stays, taken_scene}
+use Rattle.qs_world_runs.proofs.Words.{Scene, same_flag, up_taken, known_sound, InRun, AtEach, done_work, HoldsStill, opens_soundly, still_held, MakesStep, nodes_in, Joined, book_in, CommitsSettled, PlacedOf, PlacesAt, Field, field_of, OpenPlaced, Here, PlacedAmid, book_amid, IsBeside, taken, Extends, AreLawful, IsReadyAt, ShownAt}
+use Rattle.qs_book_machine.specs.Lawful.{IsLawful}
+use Rattle.qs_node_step.specs.State.{NodeValue, part_of}
 use Rattle.qs_world_agree.specs.World as machine
-use Rattle.qs_world_agree.specs.Doomed.{IsDoomed}
-use Rattle.qs_world_agree.proofs.Doomed.{doom_stays}
-use Rattle.qs_world_refine.specs.MoveLaws.{taken_scene}
-use Rattle.qs_world_refine.specs.Shows.{Scene}
-use Rattle.qs_world_refine.specs.Sound.{same_flag}
 use Rattle.qs_world_refine.specs.Stands as shown
-use Rattle.qs_world_refine.proofs.Moving.{up_taken}
-use Rattle.qs_world_refine.proofs.SoundHolds.{known_sound}
-use Rattle.qs_world_lawful.specs.Amid.{GoesOn, InRun}
-use Rattle.qs_world_lawful.specs.Given.{AtEach}
-use Rattle.qs_world_lawful.specs.GivenStep.{done_work}
-use Rattle.qs_world_lawful.specs.Holds.{Holds, HoldsStill}
+use Rattle.qs_world_lawful.specs.Amid.{GoesOn}
+use Rattle.qs_world_lawful.specs.Holds.{Holds}
 use Rattle.qs_world_lawful.specs.Standing.{Stands}
 use Rattle.qs_world_lawful.proofs.BesideCommands.{goes_wait}
 use Rattle.qs_world_lawful.proofs.BesideGoes.{goes_fold}
-use Rattle.qs_world_lawful.proofs.CoherentOpenings.{opens_soundly}
-use Rattle.qs_world_lawful.proofs.Still.{still_held}
-use Rattle.qs_world_runs.specs.Agrees.{MakesStep, nodes_in}
-use Rattle.qs_world_runs.specs.Joined.{Joined, book_in}
-use Rattle.qs_world_runs.specs.JoinedLaws.{CommitsSettled}
-use Rattle.qs_world_runs.specs.JoinedPlaces.{PlacedOf, PlacesAt}
-use Rattle.qs_world_runs.specs.Placed.{Field, field_of}
-use Rattle.qs_world_runs.specs.PlacedActs.{OpenPlaced}
-use Rattle.qs_world_runs.specs.PlacesAmid.{Here, PlacedAmid, book_amid}
-use Rattle.qs_world_runs.specs.PlacesCommits.{IsBeside, ShowsField}
-use Rattle.qs_world_runs.specs.PlacesEnds.{taken}
-use Rattle.qs_world_runs.specs.PlacesGo.{Extends}
-use Rattle.qs_world_runs.specs.PlacesRules.{AreLawful}
-use Rattle.qs_world_runs.specs.PlacesTurns.{BeganAtTurn, IsPlacedThere, IsReadyAt, PlacedAtTurn, PlacedSettles, SettledBy, ShownAt}
+use Rattle.qs_world_runs.specs.PlacesCommits.{ShowsField}
+use Rattle.qs_world_runs.specs.PlacesTurns.{BeganAtTurn, IsPlacedThere, PlacedAtTurn, PlacedSettles, SettledBy}
 use Rattle.qs_world_runs.proofs.CommitsAmid.{home_commits, world_shows_field}
 use Rattle.qs_world_runs.proofs.LeftSteps.{rest_leaves, settle_leaves}
 use Rattle.qs_world_runs.proofs.OthersBeside.{others_beside}

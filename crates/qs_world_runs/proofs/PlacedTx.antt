@@ -1,27 +1,9 @@
 -- What all places hold of a transaction goes on as it changes: a request is issued, or served, a vote is cast, a loan is made, or given back.
-use Rattle.std.proofs.Common.{◌≡◌, ◌⊎◌, inl, inr, ℕ, ◌+◌, ◌<◌, ◌≤◌, true, false, List, [], ◌∷◌, Option, Some, refl, sym, ap, subst, ◌∙◌, arith}
-use Rattle.std.proofs.lemmas.Cmp.{nat_cmp_total, on_total, then_total, tied_itself}
-use Rattle.std.specs.declared.cmp.Ordering.TheVariants.{Equal}
-use Rattle.std.specs.BTreeMap.{is_at}
-use Rattle.std.specs.Cmp.{IsTotalOrder}
-use Rattle.std.specs.Map.{lookup}
-use Rattle.std.specs.Prelude.{unwrap_or}
-use Rattle.qs_base.specs.Order.{member_cmp}
-use Rattle.qs_base.specs.declared.identifiers.Class.{Class}
+use Rattle.qs_world_runs.proofs.Words.{◌≡◌, ◌⊎◌, inl, inr, ℕ, ◌+◌, ◌<◌, ◌≤◌, true, false, List, [], ◌∷◌, Option, Some, refl, sym, ap, subst, ◌∙◌, nat_cmp_total, tied_itself, Equal, is_at, IsTotalOrder, lookup, unwrap_or, member_cmp, Class, Member, ServerNo, Tid, life_equal, life_itself, IsRising, TransactionValue, agrees, agrees_in, changed_value, is_empty, life_cmp, no_part, request_cmp, Life, Part, Request, RequestNo, class_of, is_two_phase, AreIssued, Field, EachLives, EachPlaced, IsMember}
+use Rattle.qs_world_runs.proofs.Words.{IsPlaced, IsPresent, Placed, asked, standing, waiting, le_le}
+use Rattle.std.proofs.lemmas.Cmp.{on_total, then_total}
 use Rattle.qs_base.specs.declared.identifiers.Class.TheVariants as classes
-use Rattle.qs_base.specs.declared.identifiers.Member.{Member}
-use Rattle.qs_base.specs.declared.identifiers.ServerNo.{ServerNo}
-use Rattle.qs_base.specs.declared.identifiers.Tid.{Tid}
-use Rattle.qs_book_laws.proofs.Counts.{life_equal, life_itself}
 use Rattle.qs_book_laws.proofs.Requests.{request_exact}
-use Rattle.qs_book_laws.proofs.Rising.{IsRising}
-use Rattle.qs_book_machine.specs.Transaction.{TransactionValue, agrees, agrees_in, changed_value, is_empty, life_cmp, no_part, request_cmp}
-use Rattle.qs_book_machine.specs.declared.transaction.Life.{Life}
-use Rattle.qs_book_machine.specs.declared.transaction.Part.{Part}
-use Rattle.qs_book_machine.specs.declared.transaction.Request.{Request}
-use Rattle.qs_book_machine.specs.declared.transaction.RequestNo.{RequestNo}
-use Rattle.qs_ops.specs.Members.{class_of, is_two_phase}
-use Rattle.qs_world_runs.specs.Placed.{AreIssued, Field, EachLives, EachPlaced, IsMember, IsPlaced, IsPresent, Placed, asked, standing, waiting}
 use Rattle.qs_world_runs.proofs.Entries.{Each, each_changed, each_found, each_on, changed_rises}
 
 -- ---- orders of keys
@@ -127,12 +109,9 @@ placed_on tid old new same at room requests p = record {
   from_in = subst (λ (k : ℕ). at.link.from.0 < k) (sym same.size) p.from_in;
   to_in = subst (λ (k : ℕ). at.link.to.0 < k) (sym same.size) p.to_in;
   there = p.there;
-  runs = λ up server. longer (standing at server requests) (there tid old at server) (there tid new at server) (p.runs (sym (same.up at.link.to.0) ∙ up) server) (room.runs up server);
-  stopped = λ off server. longer (standing at server requests) (back tid old at server) (back tid new at server) (p.stopped (sym (same.up at.link.to.0) ∙ off) server) (room.stopped off server);
+  runs = λ up server. le_le (standing at server requests) (there tid old at server) (there tid new at server) (p.runs (sym (same.up at.link.to.0) ∙ up) server) (room.runs up server);
+  stopped = λ off server. le_le (standing at server requests) (back tid old at server) (back tid new at server) (p.stopped (sym (same.up at.link.to.0) ∙ off) server) (room.stopped off server);
 }
-  where
-    longer : (a b c : ℕ) → a ≤ b → b ≤ c → a ≤ c
-    longer a b c p q = omega (arith, p, q)
 
 pub in_grown : (tid : Tid) (old new : Field) → Grows tid old new → (requests : List (RequestNo × List Request)) (parts : List (Life × Part)) → PlacedIn tid old requests parts → PlacedIn tid new requests parts
 in_grown tid old new g requests parts p = record {

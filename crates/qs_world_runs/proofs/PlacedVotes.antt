@@ -1,30 +1,13 @@
 -- A vote for commit is cast, a loan is given back, and a request that was on its way comes to wait: all places hold on.
-use Rattle.std.proofs.Common.{◌≡◌, ℕ, ◌<◌, ◌≤◌, Bool, true, false, List, Some, None, refl, sym, ap, subst, ◌∙◌, arith, if◌then◌else◌}
-use Rattle.std.specs.Prelude.{nat_lt}
-use Rattle.qs_base.specs.declared.identifiers.ClientNo.{ClientNo}
-use Rattle.qs_base.specs.declared.identifiers.Member.{Member}
-use Rattle.qs_base.specs.declared.identifiers.ServerNo.{ServerNo}
-use Rattle.qs_base.specs.declared.identifiers.Tid.{Tid}
+use Rattle.qs_world_runs.proofs.Words.{◌≡◌, ℕ, ◌<◌, Bool, true, false, List, Some, None, refl, sym, ap, subst, ◌∙◌, if◌then◌else◌, nat_lt, ClientNo, Member, ServerNo, Tid, give_back, Inv, BookValue, inc_at, life, Vote, yield, enter, member_here, Work, here, with_doings, with_kept, enter_vote, log_vote, served_count, vote_with, Sending, sent_to, Field, IsPresent, asked, LeavesPlaces, PlacedAmid, book_amid, field_amid, is_against, eq_le, same_Some}
 use Rattle.qs_ipc.specs.Ipc as ipc
 use Rattle.qs_book_journal.specs.declared.entry.Act.TheVariants as acts
-use Rattle.qs_node_kept.specs.Loans.{give_back}
-use Rattle.qs_book_laws.proofs.Outcomes.{Inv}
-use Rattle.qs_book_machine.specs.Book.{BookValue, inc_at}
 use Rattle.qs_book_machine.specs.Lawful.{IsLawful}
-use Rattle.qs_book_machine.specs.Transaction.{borrower, life}
+use Rattle.qs_book_machine.specs.Transaction.{borrower}
 use Rattle.qs_ops.specs.declared.answer.Answer.TheVariants as answers
-use Rattle.qs_ops.specs.declared.vote.Vote.{Vote}
 use Rattle.qs_ops.specs.declared.vote.Vote.TheVariants as votes
-use Rattle.qs_node_step.specs.Borrowing.{yield}
-use Rattle.qs_node_step.specs.Bringing.{enter, member_here}
-use Rattle.qs_node_step.specs.State.{Work, here, with_doings, with_kept}
-use Rattle.qs_node_step.specs.Voting.{enter_vote, log_vote, served_count, vote_with}
-use Rattle.qs_node_step.specs.declared.event.Sending.{Sending}
-use Rattle.qs_world_refine.specs.Shows.{sent_to}
-use Rattle.qs_world_runs.specs.Placed.{Field, IsPresent, asked}
-use Rattle.qs_world_runs.specs.PlacesAmid.{LeavesPlaces, PlacedAmid, book_amid, counted, field_amid}
+use Rattle.qs_world_runs.specs.PlacesAmid.{counted}
 use Rattle.qs_world_runs.proofs.CountedQueues.{count_in}
-use Rattle.qs_world_runs.specs.PlacedActs.{is_against}
 use Rattle.qs_world_runs.proofs.PlacedActs.{vote_obliged, yield_obliged}
 use Rattle.qs_world_runs.proofs.PlacedAmid.{act_on, entries, lawful_then, left_on}
 use Rattle.qs_world_runs.proofs.FieldRoom.{more_grows}
@@ -35,15 +18,9 @@ module _ (t : Tid) (base : Field) (knows : ℕ → ℕ) (n stamp : ℕ) (before 
   abbrev amid : Work → Field
   amid w = field_amid base knows n w
 
-  itself : (a : ℕ) → a ≤ a
-  itself a = omega arith
-
   same_grows : (new : Work) → new.out.messages ≡ work.out.messages → new.node.queues ≡ work.node.queues → Grows t (amid work) (amid new)
-  same_grows new ms qs = more_grows t base knows n work new (λ at server. least (counted t at server work.node) (counted t at server new.node) (ap (λ (queues : ipc.IpcValue). count_in t at server queues) (sym qs)))
-      (λ q server number. least (asked t server number (sent_to q work.out.messages)) (asked t server number (sent_to q new.out.messages)) (ap (λ (xs : List Sending). asked t server number (sent_to q xs)) (sym ms)))
-    where
-      least : (a b : ℕ) → a ≡ b → a ≤ b
-      least a b e = omega (arith, e)
+  same_grows new ms qs = more_grows t base knows n work new (λ at server. eq_le (counted t at server work.node) (counted t at server new.node) (ap (λ (queues : ipc.IpcValue). count_in t at server queues) (sym qs)))
+      (λ q server number. eq_le (asked t server number (sent_to q work.out.messages)) (asked t server number (sent_to q new.out.messages)) (ap (λ (xs : List Sending). asked t server number (sent_to q xs)) (sym ms)))
 
   -- ---- votes
 
@@ -78,11 +55,8 @@ module _ (t : Tid) (base : Field) (knows : ℕ → ℕ) (n stamp : ℕ) (before 
       answered : LeavesPlaces t given (yield client t work)
       answered = answer_leaves t client answers.Done given
 
-      one : (a b : Member) → Some a ≡ Some b → a ≡ b
-      one a b e = cc e
-
       in_here : (b : Bool) (member : Member) → (if b then Some (borrower client (record { 0 = n })) else None) ≡ Some member → n ≡ member.node.0
-      in_here true member e = ap (λ (m : Member). m.node.0) (one (borrower client (record { 0 = n })) member e)
+      in_here true member e = ap (λ (m : Member). m.node.0) (same_Some (borrower client (record { 0 = n })) member e)
       in_here false member e = absurd (cc e)
 
       present : (member : Member) → n ≡ member.node.0 → IsPresent (amid given) (life member (inc_at (book_amid n stamp before work) (record { 0 = n })))

@@ -1,24 +1,13 @@
 -- As a run begins nothing is undecided whose home is in the run; and what the machine has undecided, or has of a home that runs, has begun.
-use Rattle.std.proofs.Common.{◌≡◌, inl, inr, ℕ, ◌+◌, ◌<◌, ◌≤◌, ◌==◌, ◌&&◌, ◌||◌, Bool, true, false, [], Some, refl, sym, ap, subst, ◌∙◌, arith, nat_lt, nat_le, is_some, if◌then◌else◌}
-use Rattle.std.proofs.lemmas.Bool.Decides.{nat_tests}
-use Rattle.std.specs.Prelude.{slice_get}
-use Rattle.qs_base.specs.declared.identifiers.Tid.{Tid}
-use Rattle.qs_book_machine.specs.Book.{BookValue, find_transaction}
+use Rattle.qs_world_runs.proofs.Words.{◌≡◌, inl, inr, ℕ, ◌+◌, ◌<◌, ◌≤◌, ◌==◌, ◌&&◌, ◌||◌, Bool, true, false, [], Some, refl, sym, ap, subst, ◌∙◌, arith, nat_lt, nat_le, is_some, if◌then◌else◌, nat_tests, slice_get, Tid, BookValue, find_transaction, TransactionValue, names_transaction, book_of, IsOpening, Opening, World, inc_of, start, count_in, inc_in, IsShown, IsShownWorld, home_in_run, HoldsStill, Lasts, HoldsNodeAt, HoldsWorld, state, state_there, same_Some, eq-eqb, or_left, lt-ltb}
 use Rattle.qs_book_machine.specs.Nodes as machine
-use Rattle.qs_book_machine.specs.Transaction.{TransactionValue, is_open}
-use Rattle.qs_restart.specs.Recovery.{names_transaction}
-use Rattle.qs_world.specs.Histories.{book_of}
-use Rattle.qs_world.specs.Openings.{IsOpening}
-use Rattle.qs_world.specs.World.{Opening, World, inc_of, start}
-use Rattle.qs_world_refine.specs.Begun.{count_in, has_begun, inc_in}
+use Rattle.qs_book_machine.specs.Transaction.{is_open}
+use Rattle.qs_world_refine.specs.Begun.{has_begun}
 use Rattle.qs_world_refine.specs.Links.{node_no}
-use Rattle.qs_world_refine.specs.ShownWorlds.{IsShown, IsShownWorld}
 use Rattle.qs_world_refine.proofs.EveryRunShown.{every_run_shown}
-use Rattle.qs_world_refine.proofs.ShownMoves.{home_in_run}
-use Rattle.qs_world_lawful.specs.Holds.{HasBegun, HoldsStill}
-use Rattle.qs_world_lawful.specs.Lasting.{IsOfNow, Lasts}
-use Rattle.qs_world_lawful.specs.Worlds.{HoldsNodeAt, HoldsWorld}
-use Rattle.qs_world_lawful.proofs.OpenedFresh.{lasts, state, state_there}
+use Rattle.qs_world_lawful.specs.Holds.{HasBegun}
+use Rattle.qs_world_lawful.specs.Lasting.{IsOfNow}
+use Rattle.qs_world_lawful.proofs.OpenedFresh.{lasts}
 use Rattle.qs_world_runs.specs.PlacesLaws.{OpensPlaces}
 
 -- ---- as a run begins
@@ -46,12 +35,6 @@ opens_places o opens tid begun = record {
 has : (a b c d : Bool) → a ≡ true → b ≡ true → (c || d) ≡ true → (a && (b && (c || d))) ≡ true
 has a b c d p q r = rw (p, q) r
 
-earlier : (a b : Bool) → a ≡ true → (a || b) ≡ true
-earlier a b p = rw p refl
-
-is_in : (k size : ℕ) → k < size → nat_lt k size ≡ true
-is_in k size low = grind (arith, nat_tests, low)
-
 module _ (book : BookValue) (world : World) (lasts : Lasts book) (held : HoldsWorld book world) (tid : Tid) (tx : TransactionValue) (found : find_transaction book tid ≡ Some tx) (undecided : is_open tx.cell ≡ true) (low : tid.home.0 < world.size) where
   abbrev k : ℕ
   k = tid.home.0
@@ -66,7 +49,7 @@ module _ (book : BookValue) (world : World) (lasts : Lasts book) (held : HoldsWo
   begun_inc = now.inc ∙ at.inc_is
 
   pub begun_down : world.channels.up k ≡ false → has_begun world tid ≡ true
-  begun_down off = has (names_transaction tid) (nat_lt k world.size) (nat_lt tid.inc (inc_in world k)) _ (lasts.named tid (ap is_some found)) (is_in k world.size low) (earlier (nat_lt tid.inc (inc_in world k)) _ less)
+  begun_down off = has (names_transaction tid) (nat_lt k world.size) (nat_lt tid.inc (inc_in world k)) _ (lasts.named tid (ap is_some found)) (lt-ltb k world.size low) (or_left (nat_lt tid.inc (inc_in world k)) _ less)
     where
       below : (a b : ℕ) → a ≡ b → nat_lt a (b + 1) ≡ true
       below a b same = grind (arith, nat_tests, same)
@@ -87,17 +70,14 @@ module _ (book : BookValue) (world : World) (lasts : Lasts book) (held : HoldsWo
   still = (at_home.runs on).still
 
   inc_is : (world.hosts home).node.setting.inc ≡ inc_in world home
-  inc_is = sym still.same.inc ∙ (ap (λ (s : machine.NodeValue). s.inc) (one still.state at_home.state (sym still.there ∙ (ap (slice_get book.nodes) at_home.node ∙ at_home.there)))
+  inc_is = sym still.same.inc ∙ (ap (λ (s : machine.NodeValue). s.inc) (same_Some still.state at_home.state (sym still.there ∙ (ap (slice_get book.nodes) at_home.node ∙ at_home.there)))
       ∙ (at_home.inc_is ∙ subst (λ (b : Bool). inc_of world home ≡ (if b then world.channels.inc home else world.channels.inc home + 1)) (sym on) refl))
-    where
-      one : (a b : machine.NodeValue) → Some a ≡ Some b → a ≡ b
-      one a b e = cc e
 
   count_is : (world.hosts home).node.manager.begun ≡ count_in world home
   count_is = subst (λ (b : Bool). (world.hosts home).node.manager.begun ≡ (if b then (world.hosts home).node.manager.begun else 0)) (sym on) refl
 
   pub begun_up : has_begun world tid ≡ true
-  begun_up = has (names_transaction tid) (nat_lt home world.size) (nat_lt tid.inc (inc_in world home)) ((tid.inc == inc_in world home) && nat_le tid.seq (count_in world home)) (lasts.named tid some) (is_in home world.size low)
+  begun_up = has (names_transaction tid) (nat_lt home world.size) (nat_lt tid.inc (inc_in world home)) ((tid.inc == inc_in world home) && nat_le tid.seq (count_in world home)) (lasts.named tid some) (lt-ltb home world.size low)
       (by (still.begun tid (ap (λ (n : ℕ). node_no n) (sym at_home.node)) some))
     where
       less : (a b c : ℕ) → a < b → b ≡ c → nat_lt a c ≡ true
@@ -107,12 +87,9 @@ module _ (book : BookValue) (world : World) (lasts : Lasts book) (held : HoldsWo
       later true b c p q = refl
       later false b c p q = rw (p, q) refl
 
-      equal : (a b : ℕ) → a ≡ b → (a == b) ≡ true
-      equal a b e = grind (arith, nat_tests, e)
-
       at_most : (a b c : ℕ) → a ≤ b → b ≡ c → nat_le a c ≡ true
       at_most a b c e p = grind (arith, nat_tests, e, p)
 
       by : HasBegun (world.hosts home).node.setting.inc (world.hosts home).node.manager.begun tid → (nat_lt tid.inc (inc_in world home) || ((tid.inc == inc_in world home) && nat_le tid.seq (count_in world home))) ≡ true
-      by (inl before) = earlier (nat_lt tid.inc (inc_in world home)) _ (less tid.inc (world.hosts home).node.setting.inc (inc_in world home) before inc_is)
-      by (inr (same, counted)) = later (nat_lt tid.inc (inc_in world home)) _ _ (equal tid.inc (inc_in world home) (same ∙ inc_is)) (at_most tid.seq (world.hosts home).node.manager.begun (count_in world home) counted count_is)
+      by (inl before) = or_left (nat_lt tid.inc (inc_in world home)) _ (less tid.inc (world.hosts home).node.setting.inc (inc_in world home) before inc_is)
+      by (inr (same, counted)) = later (nat_lt tid.inc (inc_in world home)) _ _ (eq-eqb tid.inc (inc_in world home) (same ∙ inc_is)) (at_most tid.seq (world.hosts home).node.manager.begun (count_in world home) counted count_is)

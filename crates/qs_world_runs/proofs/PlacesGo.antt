@@ -1,33 +1,10 @@
 -- From a rule to the next: each adds entries, keeps what is said of its node, and lets what all places hold go on, or the transaction is doomed.
-use Rattle.std.proofs.Common.{◌≡◌, ◌⊎◌, inl, inr, ℕ, ◌+◌, ◌==◌, ◌&&◌, ◌||◌, Bool, true, false, List, [], ◌∷◌, ◌++◌, fold, Option, Some, None, refl, sym, ap, ◌∙◌, append_assoc, append-nil, arith, if◌then◌else◌}
-use Rattle.std.proofs.lemmas.Bool.Decides.{nat_tests}
-use Rattle.std.specs.List.{list_any}
-use Rattle.qs_base.specs.Order.{same_tid}
-use Rattle.qs_base.specs.declared.identifiers.NodeNo.{NodeNo}
-use Rattle.qs_base.specs.declared.identifiers.Tid.{Tid}
-use Rattle.qs_engage.specs.Nodes.{same_node}
-use Rattle.qs_book_journal.specs.declared.entry.Act.{Act}
+use Rattle.qs_world_runs.proofs.Words.{◌≡◌, ◌⊎◌, inl, inr, ℕ, ◌+◌, ◌==◌, ◌||◌, Bool, true, false, List, [], ◌∷◌, ◌++◌, fold, Option, Some, None, refl, sym, ap, ◌∙◌, append_assoc, append-nil, arith, if◌then◌else◌, nat_tests, list_any, same_tid, NodeNo, Tid, same_node, Act, restarts, paced, BookValue, inc_at, book_after, effect, Op, where_undecided, issue_as, issue_away, issue_here, Work, here, Setting, is_undecided, Outstanding, Participant, entries_of, entry_of, IsDoomed, AtEach, Field}
+use Rattle.qs_world_runs.proofs.Words.{is_loud, loud, LeavesPlaces, PlacedAmid, book_amid, Extends, HoldsOr, IssuesWell, AreLawful, IsAmid, eqb-true, or_parts, and_false}
 use Rattle.qs_book_journal.specs.declared.entry.Act.TheVariants as acts
-use Rattle.qs_book_laws.specs.Lives.{restarts}
-use Rattle.qs_book_laws.proofs.LinkSteps.{paced}
-use Rattle.qs_book_machine.specs.Book.{BookValue, inc_at}
-use Rattle.qs_book_machine.specs.Lawful.{IsLawful, book_after, effect}
-use Rattle.qs_ops.specs.declared.operation.Op.{Op}
-use Rattle.qs_node_step.specs.Asking.{where_undecided}
-use Rattle.qs_node_step.specs.Requests.{issue_as, issue_away, issue_here}
-use Rattle.qs_node_step.specs.State.{Work, here, part_of}
-use Rattle.qs_node_step.specs.declared.setting.Setting.{Setting}
-use Rattle.qs_tm.specs.Participant.{is_undecided}
-use Rattle.qs_tm.specs.declared.participant.Outstanding.{Outstanding}
-use Rattle.qs_tm.specs.declared.participant.Participant.{Participant}
-use Rattle.qs_world.specs.Posting.{entries_of, entry_of}
-use Rattle.qs_world_agree.specs.Doomed.{IsDoomed}
-use Rattle.qs_world_lawful.specs.Given.{AtEach}
-use Rattle.qs_world_runs.specs.Placed.{Field}
-use Rattle.qs_world_runs.specs.PlacedActs.{is_loud, loud}
-use Rattle.qs_world_runs.specs.PlacesAmid.{LeavesPlaces, PlacedAmid, book_amid}
-use Rattle.qs_world_runs.specs.PlacesGo.{Extends, Goes, HoldsOr, IssueGoes, IssuesWell, is_restart}
-use Rattle.qs_world_runs.specs.PlacesRules.{AreLawful, IsAmid}
+use Rattle.qs_book_machine.specs.Lawful.{IsLawful}
+use Rattle.qs_node_step.specs.State.{part_of}
+use Rattle.qs_world_runs.specs.PlacesGo.{Goes, IssueGoes, is_restart}
 use Rattle.qs_world_runs.proofs.LeftRequests.{issue_as_leaves}
 use Rattle.qs_world_runs.proofs.PlacedAmid.{book_is, lawful_then, left_on, rest_of}
 use Rattle.qs_world_runs.proofs.PlacedIssue.{issued_away, issued_here}
@@ -90,33 +67,25 @@ extends_then a b c e f = record {
 
 pub inc_stays : (n stamp : ℕ) (es : List Act) (book : BookValue) → list_any is_restart es ≡ false → IsLawful book (entries_of n stamp es) → inc_at (book_after book (entries_of n stamp es)) (record { 0 = n }) ≡ inc_at book (record { 0 = n })
 inc_stays n stamp [] book none lawful = refl
-inc_stays n stamp (act ∷ es) book none lawful = inc_stays n stamp es (effect book (entry_of n stamp act)) (two (is_restart act) (list_any is_restart es) none).1 lawful.1
-    ∙ (paced (record { home = record { 0 = 0 }; inc = 0; seq = 0 }) (record { 0 = n }) book (entry_of n stamp act) lawful.0).still (record { 0 = n }) (quiet act (two (is_restart act) (list_any is_restart es) none).0)
+inc_stays n stamp (act ∷ es) book none lawful = inc_stays n stamp es (effect book (entry_of n stamp act)) (or_parts (is_restart act) (list_any is_restart es) none).1 lawful.1
+    ∙ (paced (record { home = record { 0 = 0 }; inc = 0; seq = 0 }) (record { 0 = n }) book (entry_of n stamp act) lawful.0).still (record { 0 = n }) (quiet act (or_parts (is_restart act) (list_any is_restart es) none).0)
   where
-    two : (a b : Bool) → (a || b) ≡ false → (a ≡ false) × (b ≡ false)
-    two true b so = absurd (cc so)
-    two false b so = (refl, so)
-
-    off : (b : Bool) → (b && false) ≡ false
-    off true = refl
-    off false = refl
-
     quiet : (act : Act) → is_restart act ≡ false → restarts (record { 0 = n }) (entry_of n stamp act) ≡ false
     quiet (acts.Restart inc pend done) so = absurd (cc so)
-    quiet (acts.Begin u label client) so = off (n == n)
-    quiet (acts.Issue u issuer member number op) so = off (n == n)
-    quiet (acts.Serve u member from number reply) so = off (n == n)
-    quiet (acts.Vote u member ballot covers) so = off (n == n)
-    quiet (acts.Ask u) so = off (n == n)
-    quiet (acts.Counted u peer up_to) so = off (n == n)
-    quiet (acts.Decide u outcome cause) so = off (n == n)
-    quiet (acts.Ending u member) so = off (n == n)
-    quiet (acts.Learn u member outcome) so = off (n == n)
-    quiet (acts.Answer client line said) so = off (n == n)
-    quiet (acts.Loan u client) so = off (n == n)
-    quiet (acts.Yield u client) so = off (n == n)
-    quiet acts.Tick so = off (n == n)
-    quiet (acts.Crash cause) so = off (n == n)
+    quiet (acts.Begin u label client) so = and_false (n == n)
+    quiet (acts.Issue u issuer member number op) so = and_false (n == n)
+    quiet (acts.Serve u member from number reply) so = and_false (n == n)
+    quiet (acts.Vote u member ballot covers) so = and_false (n == n)
+    quiet (acts.Ask u) so = and_false (n == n)
+    quiet (acts.Counted u peer up_to) so = and_false (n == n)
+    quiet (acts.Decide u outcome cause) so = and_false (n == n)
+    quiet (acts.Ending u member) so = and_false (n == n)
+    quiet (acts.Learn u member outcome) so = and_false (n == n)
+    quiet (acts.Answer client line said) so = and_false (n == n)
+    quiet (acts.Loan u client) so = and_false (n == n)
+    quiet (acts.Yield u client) so = and_false (n == n)
+    quiet acts.Tick so = and_false (n == n)
+    quiet (acts.Crash cause) so = and_false (n == n)
 
 module _ (D : Type 0) (t : Tid) (base : Field) (knows : ℕ → ℕ) (n stamp : ℕ) (before : BookValue) where
   abbrev G : Work → Work → Type 0
@@ -183,13 +152,10 @@ module _ (D : Type 0) (t : Tid) (base : Field) (knows : ℕ → ℕ) (n stamp : 
   issue_goes_on work request op well = goes_by (beside t) work (issue_as t request op work) (issue_as_leaves (beside t) t (is_beside t) request op work) (λ is lawful placed. by well is lawful placed)
     where
       node_of : (a b : NodeNo) → (a.0 == b.0) ≡ true → a ≡ b
-      node_of a b so = ap (λ (k : ℕ). node_as k) (same a.0 b.0 so)
+      node_of a b so = ap (λ (k : ℕ). node_as k) (eqb-true a.0 b.0 so)
         where
           node_as : ℕ → NodeNo
           node_as k = record { 0 = k }
-
-          same : (x y : ℕ) → (x == y) ≡ true → x ≡ y
-          same x y e = grind (arith, nat_tests, e)
 
       by : D ⊎ IssuesWell t base knows n stamp before request op work → IsAmid base n stamp before work → Lawfully (issue_as t request op work) → PlacedAmid t base knows n stamp before work → HoldsOr D t base knows n stamp before (issue_as t request op work)
       by (inl doomed) is lawful placed = inl doomed

@@ -1,43 +1,15 @@
 -- What all places hold goes on through a whole step of a world in which all stands together.
-use Rattle.std.proofs.Common.{◌≡◌, ◌⊎◌, inl, inr, ℕ, ◌+◌, ◌≤◌, Bool, true, false, List, ◌++◌, length, length-append, Option, Some, None, refl, sym, ap, subst, ◌∙◌, arith}
-use Rattle.qs_base.specs.declared.identifiers.Tid.{Tid}
-use Rattle.qs_book_laws.proofs.Steps.{after_both}
-use Rattle.qs_book_machine.specs.Book.{BookValue, find_transaction}
-use Rattle.qs_book_machine.specs.Lawful.{IsLawful, book_after}
+use Rattle.qs_world_runs.proofs.Words.{◌≡◌, ◌⊎◌, inl, inr, ℕ, ◌+◌, ◌≤◌, Bool, true, false, List, ◌++◌, length, length-append, Option, Some, None, refl, sym, ap, subst, ◌∙◌, arith, Tid, after_both, BookValue, find_transaction, book_after, TransactionValue, work_on, Event, book_of, opened_from, Source, step_with, taken_by, Opening, Parcel, World, IsDoomed, doom_stays, StepMay, step_may, up_taken, HoldsNodeAt, opens_soundly, lasts_first, lasts_ran, LastsWell, opened_numbered, opening_named}
+use Rattle.qs_world_runs.proofs.Words.{MakesStep, Joined, book_in, entries_in, PlacesAt, Field, HoldsPlaced, Placed, field_of, OpenPlaced, Here, AreInOrder, IsAmid, some_same}
+use Rattle.qs_book_machine.specs.Lawful.{IsLawful}
 use Rattle.qs_book_machine.specs.Nodes as book_nodes
-use Rattle.qs_book_machine.specs.Transaction.{TransactionValue, is_open}
-use Rattle.qs_node_step.specs.State.{work_on}
-use Rattle.qs_node_step.specs.declared.event.Event.{Event}
-use Rattle.qs_world.specs.Histories.{book_of, opened_from}
-use Rattle.qs_world.specs.Moves.{Source, step_with, taken_by}
-use Rattle.qs_world.specs.World.{Opening, Parcel, World}
+use Rattle.qs_book_machine.specs.Transaction.{is_open}
 use Rattle.qs_world_agree.specs.World as machine
-use Rattle.qs_world_agree.specs.Doomed.{IsDoomed}
-use Rattle.qs_world_agree.proofs.Doomed.{doom_stays}
 use Rattle.qs_world_refine.proofs.Channelled.{IsWell}
-use Rattle.qs_world_refine.proofs.MoveGoes.{StepMay, step_may}
-use Rattle.qs_world_refine.proofs.Moving.{up_taken}
 use Rattle.qs_world_refine.proofs.Seating.{well_seated, well_taken}
-use Rattle.qs_world_lawful.specs.Worlds.{HoldsNodeAt}
-use Rattle.qs_world_lawful.proofs.CoherentOpenings.{opens_soundly}
-use Rattle.qs_world_lawful.proofs.LastsOpening.{lasts_first, lasts_ran}
-use Rattle.qs_world_lawful.proofs.LastsWell.{LastsWell}
-use Rattle.qs_world_lawful.proofs.NumberedLogs.{opened_numbered, opening_named}
-use Rattle.qs_world_runs.specs.Agrees.{MakesStep}
-use Rattle.qs_world_runs.specs.Joined.{Joined, book_in}
-use Rattle.qs_world_runs.specs.JoinedLaws.{entries_in}
-use Rattle.qs_world_runs.specs.JoinedPlaces.{PlacesAt}
-use Rattle.qs_world_runs.specs.Placed.{Field, HoldsPlaced, Placed, field_of}
-use Rattle.qs_world_runs.specs.PlacedActs.{OpenPlaced}
-use Rattle.qs_world_runs.specs.PlacesAmid.{Here}
-use Rattle.qs_world_runs.specs.PlacesEnds.{AreInOrder}
 use Rattle.qs_world_runs.specs.PlacesJoined.{WasPlaced, WholeStepHolds, WholeStepPlaces}
-use Rattle.qs_world_runs.specs.PlacesRules.{IsAmid}
 use Rattle.qs_world_runs.specs.PlacesWhole.{StepsWell}
 use Rattle.qs_world_runs.proofs.StepsWhole.{step_places}
-
-one : {A : Type 0} {a b : A} → Some a ≡ Some b → a ≡ b
-one e = cc e
 
 -- ---- what all places hold, with what dooms said of all of it or of each
 
@@ -48,11 +20,11 @@ module _ (tid : Tid) (book : BookValue) (field : Field) (D : Type 0) where
     where
       of_tx : (tx : TransactionValue) → find_transaction book tid ≡ Some tx → IsDoomed w ⊎ Placed tid tx field → D ⊎ Here tid (OpenPlaced tid field) book
       of_tx tx found (inl doomed) = inl (dooms doomed)
-      of_tx tx found (inr placed) = inr (λ other there undecided. subst (λ (x : TransactionValue). Placed tid x field) (one (sym found ∙ there)) placed)
+      of_tx tx found (inr placed) = inr (λ other there undecided. subst (λ (x : TransactionValue). Placed tid x field) (some_same (sym found ∙ there)) placed)
 
       of_cell : (tx : TransactionValue) → find_transaction book tid ≡ Some tx → (b : Bool) → is_open tx.cell ≡ b → D ⊎ Here tid (OpenPlaced tid field) book
       of_cell tx found true undecided = of_tx tx found (holds tx found undecided)
-      of_cell tx found false over = inr (λ other there undecided. absurd (cc (ap (λ (x : TransactionValue). is_open x.cell) (one (sym found ∙ there)), over, undecided)))
+      of_cell tx found false over = inr (λ other there undecided. absurd (cc (ap (λ (x : TransactionValue). is_open x.cell) (some_same (sym found ∙ there)), over, undecided)))
 
       by : (x : Option TransactionValue) → find_transaction book tid ≡ x → D ⊎ Here tid (OpenPlaced tid field) book
       by None none = inr (λ tx found. absurd (cc (none, found)))

@@ -1,6 +1,5 @@
 -- What all places hold through every move but a whole step.
-use Rattle.qs_world.specs.Moves.{Cut, Meet, Rise, Step, Stop}
-use Rattle.qs_world_runs.specs.JoinedPlaces.{PlacesAt}
+use Rattle.qs_world_runs.proofs.Words.{Cut, Meet, Rise, Step, Stop, PlacesAt}
 use Rattle.qs_world_runs.specs.PlacesLaws.{KeepsPlaces}
 use Rattle.qs_world_runs.proofs.CutUnanimous.{cuts_unanimous}
 use Rattle.qs_world_runs.proofs.JoinedAs.{placed_joined}

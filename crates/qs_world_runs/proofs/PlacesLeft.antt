@@ -1,53 +1,25 @@
 -- What a rule does that leaves the places of a transaction: its entries do not bear on it, and no request of it is sent, comes to wait or is served.
-use Rattle.std.proofs.Common.{◌≡◌, ℕ, ◌+◌, ◌==◌, Bool, true, false, List, [], ◌∷◌, ◌++◌, length, map, Option, Some, None, suc, refl, sym, ap, ◌∙◌, append_assoc, append-nil, fold, arith, if◌then◌else◌}
+use Rattle.qs_world_runs.proofs.Words.{◌≡◌, ℕ, ◌+◌, ◌==◌, Bool, true, false, List, [], ◌∷◌, ◌++◌, length, map, Option, Some, None, suc, refl, sym, ap, ◌∙◌, append_assoc, append-nil, fold, arith, if◌then◌else◌, is_at, filter, lookup, nat_lt, unwrap_or, ClientNo, NodeNo, ServerNo, Tid, IpcValue, queue_at, server_cmp, QueueValue, Delivery, Act, RequestNo, Answer, Message, Record, where_undecided, answer, is_other, log_if, send, send_each, send_next, Work, client_cmp, with_queues, drop_counts}
+use Rattle.qs_world_runs.proofs.Words.{Sending, is_undecided, Participant, sent_to, is_asking_for, asked, is_loud, loud, LeavesPlaces, is_zero_plus, plus_zero}
 use Rattle.std.proofs.lemmas.List.Elements.{filter-append}
-use Rattle.std.specs.BTreeMap.{is_at}
-use Rattle.std.specs.List.{filter, flat_map}
-use Rattle.std.specs.Map.{lookup}
-use Rattle.std.specs.Prelude.{nat_lt, unwrap_or}
-use Rattle.qs_base.specs.declared.identifiers.ClientNo.{ClientNo}
-use Rattle.qs_base.specs.declared.identifiers.NodeNo.{NodeNo}
-use Rattle.qs_base.specs.declared.identifiers.ServerNo.{ServerNo}
-use Rattle.qs_base.specs.declared.identifiers.Tid.{Tid}
+use Rattle.std.specs.List.{flat_map}
 use Rattle.qs_ipc.specs.Ipc as ipc
-use Rattle.qs_ipc.specs.Ipc.{IpcValue, forgotten_below, mark_queue, queue_at, server_cmp, servers}
-use Rattle.qs_ipc.specs.Queue.{QueueValue, forgotten, is_of, mark_stale, no_queue}
-use Rattle.qs_ipc.specs.declared.delivery.Delivery.{Delivery}
-use Rattle.qs_book_journal.specs.declared.entry.Act.{Act}
+use Rattle.qs_ipc.specs.Ipc.{forgotten_below, mark_queue, servers}
+use Rattle.qs_ipc.specs.Queue.{forgotten, is_of, mark_stale, no_queue}
 use Rattle.qs_book_journal.specs.declared.entry.Act.TheVariants as acts
-use Rattle.qs_book_machine.specs.declared.transaction.RequestNo.{RequestNo}
-use Rattle.qs_ops.specs.declared.answer.Answer.{Answer}
-use Rattle.qs_packet.specs.declared.message.Message.{Message}
-use Rattle.qs_record.specs.declared.record.Record.{Record}
-use Rattle.qs_node_step.specs.Asking.{where_undecided}
-use Rattle.qs_node_step.specs.Bringing.{answer, is_other, log_if, send, send_each, send_next}
-use Rattle.qs_node_step.specs.State.{Work, client_cmp, part_of, with_queues}
-use Rattle.qs_node_step.specs.Telling.{drop_counts}
-use Rattle.qs_node_step.specs.declared.event.Sending.{Sending}
-use Rattle.qs_tm.specs.Participant.{is_undecided}
-use Rattle.qs_tm.specs.declared.participant.Participant.{Participant}
-use Rattle.qs_world_refine.specs.Shows.{sent_to}
+use Rattle.qs_node_step.specs.State.{part_of}
 use Rattle.qs_world_lawful.specs.Face.{is_numbered}
-use Rattle.qs_world_lawful.specs.Parcels.{is_asking_for}
-use Rattle.qs_world_runs.specs.Placed.{asked}
-use Rattle.qs_world_runs.specs.PlacedActs.{is_loud, loud}
-use Rattle.qs_world_runs.specs.PlacesAmid.{LeavesPlaces, counted}
+use Rattle.qs_world_runs.specs.PlacesAmid.{counted}
 
 -- ---- counts of messages
 
 flat_more : {A B : Type 0} (f : A → List B) (xs ys : List A) → length (flat_map f (xs ++ ys)) ≡ length (flat_map f xs) + length (flat_map f ys)
-flat_more f [] ys = by (length (flat_map f ys))
-  where
-    by : (a : ℕ) → a ≡ 0 + a
-    by a = omega arith
+flat_more f [] ys = is_zero_plus (length (flat_map f ys))
 flat_more f (x ∷ xs) ys = by (length (f x ++ flat_map f (xs ++ ys))) (length (f x)) (length (flat_map f (xs ++ ys))) (length (f x ++ flat_map f xs)) (length (flat_map f xs)) (length (flat_map f ys))
     (length_more (f x) (flat_map f (xs ++ ys))) (length_more (f x) (flat_map f xs)) (flat_more f xs ys)
   where
     length_more : {B : Type 0} (cs bs : List B) → length (cs ++ bs) ≡ length cs + length bs
-    length_more [] bs = none (length bs)
-      where
-        none : (a : ℕ) → a ≡ 0 + a
-        none a = omega arith
+    length_more [] bs = is_zero_plus (length bs)
     length_more (a ∷ cs) bs = one (length (cs ++ bs)) (length cs) (length bs) (length_more cs bs)
       where
         one : (a b c : ℕ) → a ≡ b + c → suc a ≡ suc b + c
@@ -123,12 +95,9 @@ send_leaves t to message work nothing = by (is_other work.node.setting to)
     last : (q : ℕ) (server : ServerNo) (number : ℕ) → asked t server number (sent_to q sent.out.messages) ≡ asked t server number (sent_to q work.out.messages)
     last q server number = sent_more t server number q work.out.messages (record { to = to; message = message }) ∙ none (to.0 == q) refl
       where
-        plus_none : (a : ℕ) → a + 0 ≡ a
-        plus_none a = omega arith
-
         none : (b : Bool) → (to.0 == q) ≡ b → asked t server number (sent_to q work.out.messages) + asked t server number (sent_to q (record { to = to; message = message } ∷ [])) ≡ asked t server number (sent_to q work.out.messages)
-        none true is = rw (is, nothing server number) (plus_none (asked t server number (sent_to q work.out.messages)))
-        none false is = rw is (plus_none (asked t server number (sent_to q work.out.messages)))
+        none true is = rw (is, nothing server number) (plus_zero (asked t server number (sent_to q work.out.messages)))
+        none false is = rw is (plus_zero (asked t server number (sent_to q work.out.messages)))
 
     by : (b : Bool) → LeavesPlaces t work (if b then sent else work)
     by true = record { more = []; entries = sym (append-nil work.out.entries); silent = refl; asks = last; waits = λ at server. refl; setting = refl }

@@ -1,45 +1,21 @@
 -- What all places hold through a first meeting: what was kept back for an incarnation that stopped dooms, and so does what an earlier one has on its way.
-use Rattle.std.proofs.Common.{◌≡◌, ◌≢◌, ◌⊎◌, inl, inr, ℕ, ◌+◌, ◌<◌, ◌≤◌, ◌==◌, ◌&&◌, ◌||◌, Bool, true, false, List, [], ◌∷◌, map, refl, sym, ap, subst, ◌∙◌, arith, nat_lt, nat_le, if◌then◌else◌}
-use Rattle.std.proofs.lemmas.Bool.{eqb-true}
-use Rattle.std.proofs.lemmas.Bool.Decides.{nat_tests}
-use Rattle.qs_base.specs.declared.identifiers.Tid.{Tid}
-use Rattle.qs_book_machine.specs.Transaction.{TransactionValue, is_open}
-use Rattle.qs_book_machine.specs.declared.transaction.Request.{Request}
-use Rattle.qs_book_machine.specs.declared.transaction.RequestNo.{RequestNo}
+use Rattle.qs_world_runs.proofs.Words.{◌≡◌, ◌≢◌, ◌⊎◌, inl, inr, ℕ, ◌+◌, ◌<◌, ◌≤◌, ◌==◌, ◌&&◌, ◌||◌, Bool, true, false, List, [], ◌∷◌, map, refl, sym, ap, subst, ◌∙◌, arith, nat_lt, nat_le, if◌then◌else◌, eqb-true, nat_tests, Tid, TransactionValue, Request, RequestNo, Meet, may_move, moved, Opening, World, Open, Committed, Aborted, IsDoomed, IsLeft, IsPast, doom_stays, has_request, AllGoes, ShowsAll, link, waiting_link, all_said, place, requested, invariant, pending, AreSound, Joined, nodes_in}
+use Rattle.qs_world_runs.proofs.Words.{WaitsAt, AreAwaited, AwaitedAt, AwaitedOf, PlacedOf, EachPlaced, Placed, field_of, message_of, equal_apart}
+use Rattle.qs_book_machine.specs.Transaction.{is_open}
 use Rattle.qs_node_step.specs.State.{NodeValue}
-use Rattle.qs_world.specs.Moves.{Meet, may_move, moved}
-use Rattle.qs_world.specs.World.{Opening, World}
 use Rattle.qs_world_agree.specs.World as machine
-use Rattle.qs_world_agree.specs.World.{Outcome, Open, Committed, Aborted}
-use Rattle.qs_world_agree.specs.Doomed.{IsDoomed, IsLeft, IsPast}
-use Rattle.qs_world_agree.proofs.Doomed.{doom_stays, left_behind_dooms, left_dooms}
+use Rattle.qs_world_agree.specs.World.{Outcome}
+use Rattle.qs_world_agree.proofs.Doomed.{left_behind_dooms, left_dooms}
 use Rattle.qs_world_refine.specs.Begun.{has_begun}
-use Rattle.qs_world_refine.specs.CommitLaws.{has_request}
-use Rattle.qs_world_refine.specs.EachMove.{AllGoes, ShowsAll}
-use Rattle.qs_world_refine.specs.Links.{link, waiting_link}
 use Rattle.qs_world_refine.specs.MeetLaws.{MeetsAlone}
 use Rattle.qs_world_refine.specs.MeetingLaws.{met_at}
-use Rattle.qs_world_refine.specs.Messages.{all_said}
-use Rattle.qs_world_refine.specs.Places.{place}
-use Rattle.qs_world_refine.proofs.CommitIdles.{requested}
-use Rattle.qs_world_refine.proofs.Facts.{invariant}
 use Rattle.qs_world_refine.proofs.MeetsAlone.{Meets, meet_goes_alone, meets_may}
-use Rattle.qs_world_lawful.specs.Parcels.{pending}
-use Rattle.qs_world_lawful.specs.WayLaws.{AreSound}
-use Rattle.qs_world_runs.specs.Joined.{Joined}
-use Rattle.qs_world_runs.specs.Agrees.{nodes_in}
-use Rattle.qs_world_runs.specs.Awaited.{WaitsAt}
-use Rattle.qs_world_runs.specs.Awaiting.{AreAwaited, AwaitedAt, AwaitedOf}
-use Rattle.qs_world_runs.specs.JoinedPlaces.{PlacedOf}
-use Rattle.qs_world_runs.specs.Placed.{EachPlaced, Placed, field_of, message_of}
 use Rattle.qs_world_runs.proofs.JoinedParts.{seated_sound}
 use Rattle.qs_world_runs.proofs.MetFields.{room_then, same_nodes}
 use Rattle.qs_world_runs.proofs.PlacedIssued.{issued_left}
 use Rattle.qs_world_runs.proofs.PlacedTx.{HasRoom, bare_lives, bare_on, lives_bare, placed_on}
 use Rattle.qs_world_runs.proofs.Entries.{each_on}
-
-not_so : (a b : ℕ) → a ≡ b → (a == b) ≡ false → ⊥
-not_so a b e off = grind (arith, nat_tests, e, off)
+use Rattle.qs_base_lemmas.proofs.Tests.{le_zero}
 
 at_pair : (a b : ℕ) (f : ℕ → ℕ → ℕ) (x k l : ℕ) → k ≡ a → l ≡ b → machine.with_at2 f a b x k l ≡ x
 at_pair a b f x k l p q = grind (arith, nat_tests, p, q)
@@ -99,7 +75,7 @@ module _ (o : Opening) (world : World) (j : Joined AwaitedAt o world) (n stamp m
     node_it = all.seen.shown.stage.nodes m inc its.m_in
 
     same_place : (k : ℕ) → place m k ≢ me
-    same_place k same = not_so m n (sym (all.seen.shown.stage.nodes m k its.m_in) ∙ (ap w.node same ∙ node_me)) its.apart
+    same_place k same = equal_apart m n (sym (all.seen.shown.stage.nodes m k its.m_in) ∙ (ap w.node same ∙ node_me)) its.apart
 
     -- an earlier incarnation of the other has a request on its way
     left : (i : ℕ) → i < inc → has_request (all_said tid (map message_of (pending world.channels m n i (world.channels.inc n)))) ≡ true → IsDoomed v
@@ -134,11 +110,8 @@ module _ (o : Opening) (world : World) (j : Joined AwaitedAt o world) (n stamp m
             below a b d e h q = omega (arith, h, q)
 
         none_taken : w.received it me ≡ 0
-        none_taken = zero_is (w.received it me) (w.posted me it) ((invariant w all.seen.lawful).counts.received_posted it me) ((invariant w all.seen.lawful).counts.posted_known me it below)
+        none_taken = le_zero (w.received it me) (w.posted me it) ((invariant w all.seen.lawful).counts.received_posted it me) ((invariant w all.seen.lawful).counts.posted_known me it below)
           where
-            zero_is : (a b : ℕ) → a ≤ b → b ≡ 0 → a ≡ 0
-            zero_is a b h e = omega (arith, h, e)
-
             under : (a b d : ℕ) → a ≡ 0 → 1 ≤ b → a < place d b
             under a b d e h = omega (arith, e, h)
 

@@ -1,48 +1,14 @@
 -- What all places hold through a restart: what is undecided after it was so before, and is doomed, or so placed as before.
-use Rattle.std.proofs.Common.{◌≡◌, ◌⊎◌, inl, inr, ℕ, ◌+◌, ◌<◌, ◌≤◌, ◌==◌, ◌&&◌, ◌||◌, not, Bool, true, false, List, [], ◌∷◌, Some, refl, sym, ap, subst, ◌∙◌, arith, nat_lt, nat_le, if◌then◌else◌}
-use Rattle.std.proofs.lemmas.Bool.{eqb-true}
-use Rattle.std.proofs.lemmas.Bool.Decides.{nat_tests}
-use Rattle.std.specs.BTreeMap.{is_at}
-use Rattle.std.specs.List.{find}
-use Rattle.std.specs.Map.{lookup}
-use Rattle.std.specs.Prelude.{is_some}
-use Rattle.qs_base.specs.declared.identifiers.Tid.{Tid}
-use Rattle.qs_book_journal.specs.declared.entry.Entry.{Entry}
-use Rattle.qs_book_journal.specs.declared.entry.Found.{Found}
-use Rattle.qs_book_machine.specs.Book.{BookValue, find_transaction}
-use Rattle.qs_book_machine.specs.Nodes.{is_recoverable}
+use Rattle.qs_world_runs.proofs.Words.{◌≡◌, ◌⊎◌, inl, inr, ℕ, ◌+◌, ◌<◌, ◌≤◌, ◌==◌, ◌&&◌, ◌||◌, not, Bool, true, false, List, [], ◌∷◌, Some, refl, sym, ap, subst, ◌∙◌, arith, nat_lt, nat_le, if◌then◌else◌, eqb-true, not-true, nat_tests, is_at, find, lookup, is_some, Tid, Entry, Found, BookValue, find_transaction, is_recoverable, TransactionValue, is_empty, is_standing, life_cmp, link_cmp, request_cmp, requests_in, sent_in, sent_on, standing_request, Link, Request, RequestNo, Sent}
+use Rattle.qs_world_runs.proofs.Words.{names_transaction, recovery, Recovered, recovered_of, Rise, may_move, moved, risen_host, Opening, World, IsDoomed, doom_stays, AllGoes, IsShown, IsShownWorld, each_begun_shown, home_in_run, move_shown, in_run, Lasts, Every, found_votes, rise_entry, in_runs, nodes_in, WaitsAt, Joined, book_in, AreAwaited, AwaitedAt, AwaitedOf, PlacedOf, AreIssued, IsIssued, IsPlaced, Placed, field_of}
 use Rattle.qs_book_machine.specs.Restart.{restart}
-use Rattle.qs_book_machine.specs.Transaction.{TransactionValue, is_empty, is_open, is_standing, life_cmp, link_cmp, request_cmp, requests_in, sent_in, sent_on, standing_request}
-use Rattle.qs_book_machine.specs.declared.transaction.Link.{Link}
-use Rattle.qs_book_machine.specs.declared.transaction.Request.{Request}
-use Rattle.qs_book_machine.specs.declared.transaction.RequestNo.{RequestNo}
-use Rattle.qs_book_machine.specs.declared.transaction.Sent.{Sent}
-use Rattle.qs_restart.specs.Recovery.{names_transaction, recovery}
-use Rattle.qs_restart.specs.declared.recovered.Recovered.{Recovered}
-use Rattle.qs_node_step.specs.Opening.{recovered_of}
+use Rattle.qs_book_machine.specs.Transaction.{is_open}
 use Rattle.qs_node_step.specs.State.{NodeValue}
-use Rattle.qs_world.specs.Moves.{Rise, is_in_order, may_move, moved, risen_host}
-use Rattle.qs_world.specs.World.{Opening, World}
-use Rattle.qs_world_agree.specs.Doomed.{IsDoomed}
-use Rattle.qs_world_agree.proofs.Doomed.{doom_stays}
+use Rattle.qs_world.specs.Moves.{is_in_order}
 use Rattle.qs_world_refine.specs.Begun.{has_begun}
-use Rattle.qs_world_refine.specs.EachMove.{AllGoes}
-use Rattle.qs_world_refine.specs.ShownWorlds.{IsShown, IsShownWorld}
-use Rattle.qs_world_refine.proofs.ShownBegins.{each_begun_shown}
-use Rattle.qs_world_refine.proofs.ShownMoves.{home_in_run, move_shown, shown_goes}
-use Rattle.qs_world_refine.proofs.MoveGoes.{in_run}
+use Rattle.qs_world_refine.proofs.ShownMoves.{shown_goes}
 use Rattle.qs_world_refine.proofs.SoundParts.{and_both}
-use Rattle.qs_world_lawful.specs.Lasting.{Lasts}
-use Rattle.qs_world_lawful.specs.Logs.{Every, found_votes}
-use Rattle.qs_world_lawful.specs.WorldLaws.{rise_entry}
-use Rattle.qs_world_lawful.proofs.LastsAlways.{in_runs}
 use Rattle.qs_world_lawful.proofs.Turning.{stood}
-use Rattle.qs_world_runs.specs.Agrees.{nodes_in}
-use Rattle.qs_world_runs.specs.Awaited.{WaitsAt}
-use Rattle.qs_world_runs.specs.Joined.{Joined, book_in}
-use Rattle.qs_world_runs.specs.Awaiting.{AreAwaited, AwaitedAt, AwaitedOf}
-use Rattle.qs_world_runs.specs.JoinedPlaces.{PlacedOf}
-use Rattle.qs_world_runs.specs.Placed.{AreIssued, IsIssued, IsPlaced, Placed, field_of}
 use Rattle.qs_world_runs.proofs.Entries.{each_on}
 use Rattle.qs_world_runs.proofs.JoinedParts.{book_on}
 use Rattle.qs_world_runs.proofs.PlacedTx.{EachBare, IsBare, PlacedIn, placed_in, placed_of}
@@ -66,12 +32,8 @@ module _ (o : Opening) (world : World) (j : Joined AwaitedAt o world) (n stamp i
   abbrev pend : List Found
   pend = found_votes (recovery (world.hosts n).log)
 
-  not_so : (b : Bool) → not b ≡ true → b ≡ false
-  not_so true is = absurd (cc is)
-  not_so false is = refl
-
   off : world.channels.up n ≡ false
-  off = not_so (world.channels.up n) (and_both (not (world.channels.up n)) _ may).0
+  off = not-true (world.channels.up n) (and_both (not (world.channels.up n)) _ may).0
 
   tests : (is_in_order world n stamp ≡ true) × (nat_lt (world.channels.inc n) inc ≡ true)
   tests = and_both (is_in_order world n stamp) (nat_lt (world.channels.inc n) inc) (and_both (not (world.channels.up n)) _ may).1

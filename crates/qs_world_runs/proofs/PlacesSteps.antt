@@ -1,30 +1,9 @@
 -- What all places hold of each transaction goes on through each step: what had begun is shown by a machine that the one before leads to, and what begins in it was not there.
-use Rattle.std.proofs.Common.{◌≡◌, inl, inr, ℕ, ◌+◌, ◌<◌, ◌==◌, ◌&&◌, ◌||◌, Bool, true, false, Option, Some, None, is_some, refl, sym, ap, subst, ◌∙◌, nat_lt, nat_le, if◌then◌else◌}
-use Rattle.std.proofs.lemmas.Bool.{eqb-true}
-use Rattle.qs_base.specs.declared.identifiers.Tid.{Tid}
-use Rattle.qs_book_machine.specs.Book.{find_transaction}
+use Rattle.qs_world_runs.proofs.Words.{◌≡◌, inl, inr, ℕ, ◌+◌, ◌<◌, ◌==◌, ◌&&◌, ◌||◌, Bool, true, false, Option, Some, None, is_some, refl, sym, ap, subst, ◌∙◌, nat_lt, nat_le, if◌then◌else◌, eqb-true, Tid, find_transaction, TransactionValue, names_transaction, after_step, effects_of, Event, book_of, Cut, Meet, Rise, Source, Step, Stop, event_of, may_move, moved, step_with, stepped_host, taken_by, Opening, World, ShowsAll, IsShown, IsShownWorld, StepMay, step_may, inc_taken, up_taken, inc_all}
+use Rattle.qs_world_runs.proofs.Words.{up_all, each_begun_shown, move_shown, in_runs, MakesStep, Joined, book_in, entries_in, PlacedOf, PlacesAt, WholeFound}
 use Rattle.qs_book_machine.specs.Lawful.{IsLawful}
-use Rattle.qs_book_machine.specs.Transaction.{TransactionValue}
-use Rattle.qs_restart.specs.Recovery.{names_transaction}
-use Rattle.qs_node_step.specs.Step.{after_step, effects_of}
-use Rattle.qs_node_step.specs.declared.event.Event.{Event}
-use Rattle.qs_world.specs.Histories.{book_of}
-use Rattle.qs_world.specs.Moves.{Cut, Meet, Rise, Source, Step, Stop, event_of, may_move, moved, step_with, stepped_host, taken_by}
-use Rattle.qs_world.specs.World.{Opening, World}
 use Rattle.qs_world_refine.specs.Begun.{has_begun}
-use Rattle.qs_world_refine.specs.EachMove.{ShowsAll}
-use Rattle.qs_world_refine.specs.ShownWorlds.{IsShown, IsShownWorld}
-use Rattle.qs_world_refine.proofs.MoveGoes.{StepMay, step_may}
-use Rattle.qs_world_refine.proofs.Moving.{inc_taken, up_taken}
-use Rattle.qs_world_refine.proofs.Posted.{inc_all, up_all}
-use Rattle.qs_world_refine.proofs.ShownBegins.{each_begun_shown}
-use Rattle.qs_world_refine.proofs.ShownMoves.{move_shown}
-use Rattle.qs_world_lawful.proofs.LastsAlways.{in_runs}
-use Rattle.qs_world_runs.specs.Agrees.{MakesStep}
-use Rattle.qs_world_runs.specs.Joined.{Joined, book_in}
-use Rattle.qs_world_runs.specs.JoinedLaws.{entries_in}
-use Rattle.qs_world_runs.specs.JoinedPlaces.{PlacedOf, PlacesAt}
-use Rattle.qs_world_runs.specs.PlacesSteps.{StepsKeepPlaces, WholeFound}
+use Rattle.qs_world_runs.specs.PlacesSteps.{StepsKeepPlaces}
 use Rattle.qs_world_runs.proofs.FreshFinds.{fresh_find}
 use Rattle.qs_world_runs.proofs.JoinedParts.{lawful_more}
 use Rattle.qs_world_runs.proofs.PlacesBegin.{begun_up}

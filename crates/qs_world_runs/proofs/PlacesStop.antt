@@ -1,51 +1,21 @@
 -- What all places hold through a crash, between two steps or in one: it is doomed, or so placed as before.
-use Rattle.std.proofs.Common.{◌≡◌, ◌⊎◌, inl, inr, ℕ, ◌+◌, ◌<◌, ◌==◌, ◌&&◌, ◌||◌, Bool, is_some, true, false, List, [], ◌∷◌, Option, Some, None, refl, sym, ap, subst, ◌∙◌, nat_lt, nat_le, if◌then◌else◌}
-use Rattle.std.proofs.lemmas.Bool.{eqb-true}
-use Rattle.qs_base.specs.declared.identifiers.Tid.{Tid}
+use Rattle.qs_world_runs.proofs.Words.{◌≡◌, ◌⊎◌, inl, inr, ℕ, ◌+◌, ◌<◌, ◌==◌, ◌&&◌, ◌||◌, Bool, is_some, true, false, List, [], ◌∷◌, Option, Some, None, refl, sym, ap, subst, ◌∙◌, nat_lt, nat_le, if◌then◌else◌, eqb-true, Tid, CrashCause, Entry, BookValue, find_transaction, is_crash, TransactionValue, is_unanimous, Record, names_transaction, after_step, effects_of, Event, Cut, Move, Source, Stop, cut_log, cut_with, event_of, is_later, may_move, may_step, moved, stopped, stopped_host, entry_of}
+use Rattle.qs_world_runs.proofs.Words.{Opening, World, Open, Committed, IsDoomed, doom_stays, AllGoes, ShowsAll, IsShown, IsShownWorld, StepMay, in_run, step_may, each_begun_shown, home_in_run, move_shown, node_stopped, Lasts, in_runs, held_at, Joined, book_in, nodes_in, WaitsAt, AreAwaited, AwaitedAt, AwaitedOf, HoldsAwaited, PlacedOf, LeavesNone, HoldsPlaced, field_of}
 use Rattle.qs_book_journal.specs.declared.entry.Act.TheVariants as acts
-use Rattle.qs_book_journal.specs.declared.entry.CrashCause.{CrashCause}
-use Rattle.qs_book_journal.specs.declared.entry.Entry.{Entry}
-use Rattle.qs_book_machine.specs.Book.{BookValue, find_transaction}
-use Rattle.qs_book_machine.specs.Clauses.{is_crash}
-use Rattle.qs_book_machine.specs.Transaction.{TransactionValue, is_open, is_unanimous}
-use Rattle.qs_record.specs.declared.record.Record.{Record}
-use Rattle.qs_restart.specs.Recovery.{names_transaction}
+use Rattle.qs_book_machine.specs.Transaction.{is_open}
 use Rattle.qs_node_step.specs.State.{NodeValue}
-use Rattle.qs_node_step.specs.Step.{after_step, effects_of}
-use Rattle.qs_node_step.specs.declared.event.Event.{Event}
-use Rattle.qs_world.specs.Moves.{Cut, Move, Source, Stop, cut_log, cut_with, event_of, is_in_order, is_later, may_move, may_step, moved, stopped, stopped_host}
-use Rattle.qs_world.specs.Posting.{entry_of}
-use Rattle.qs_world.specs.World.{Opening, World}
+use Rattle.qs_world.specs.Moves.{is_in_order}
 use Rattle.qs_world_agree.specs.World as machine
-use Rattle.qs_world_agree.specs.World.{Open, Committed}
-use Rattle.qs_world_agree.specs.Doomed.{IsDoomed}
-use Rattle.qs_world_agree.proofs.Doomed.{doom_stays}
 use Rattle.qs_world_refine.specs.Begun.{has_begun}
 use Rattle.qs_world_refine.specs.CutLaws.{CutsOff, StopsAlone}
-use Rattle.qs_world_refine.specs.EachMove.{AllGoes, ShowsAll}
 use Rattle.qs_world_refine.specs.MoveLaws.{is_cut_with}
-use Rattle.qs_world_refine.specs.ShownWorlds.{IsShown, IsShownWorld}
 use Rattle.qs_world_refine.proofs.CutsAlone.{cut_goes_alone, stop_goes_alone}
 use Rattle.qs_world_refine.proofs.CutsKept.{cut_goes_kept}
-use Rattle.qs_world_refine.proofs.MoveGoes.{StepMay, in_run, step_may}
-use Rattle.qs_world_refine.proofs.ShownBegins.{each_begun_shown}
-use Rattle.qs_world_refine.proofs.ShownMoves.{home_in_run, move_shown}
 use Rattle.qs_world_refine.proofs.SoundParts.{and_both}
-use Rattle.qs_world_refine.proofs.StepAll.{node_stopped}
 use Rattle.qs_world_lawful.specs.Holds.{Holds}
-use Rattle.qs_world_lawful.specs.Lasting.{Lasts}
-use Rattle.qs_world_lawful.proofs.LastsAlways.{in_runs}
-use Rattle.qs_world_lawful.proofs.Still.{held_at}
-use Rattle.qs_world_runs.specs.Joined.{Joined, book_in}
-use Rattle.qs_world_runs.specs.Agrees.{nodes_in}
-use Rattle.qs_world_runs.specs.Awaited.{WaitsAt}
-use Rattle.qs_world_runs.specs.Awaiting.{AreAwaited, AwaitedAt, AwaitedOf, HoldsAwaited}
-use Rattle.qs_world_runs.specs.JoinedPlaces.{PlacedOf}
-use Rattle.qs_world_runs.specs.PlacesApart.{LeavesNone}
 use Rattle.qs_world_runs.specs.StopLaws.{book_stopped}
 use Rattle.qs_world_runs.proofs.ApartHere.{leaves_none}
 use Rattle.qs_world_runs.specs.JoinedLaws.{CutsUnanimous}
-use Rattle.qs_world_runs.specs.Placed.{HoldsPlaced, field_of}
 use Rattle.qs_world_runs.proofs.JoinedParts.{book_on}
 use Rattle.qs_world_runs.proofs.PlacesBegin.{begun_up}
 use Rattle.qs_world_runs.proofs.StopsPlaced.{cut_holds, stop_holds}

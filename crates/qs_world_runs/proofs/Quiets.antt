@@ -1,29 +1,10 @@
 -- Where nothing waits at nodes that run, nothing is on its way, and all present lives agree, a transaction that is so placed is unanimous.
-use Rattle.std.proofs.Common.{◌≡◌, ◌⊎◌, inl, inr, ℕ, ◌+◌, ◌≤◌, ◌&&◌, Bool, true, false, List, [], ◌∷◌, length, suc, is_some, refl, sym, ap, ◌∙◌, arith, if◌then◌else◌}
-use Rattle.std.proofs.lemmas.Bool.Decides.{nat_tests}
-use Rattle.std.specs.List.{filter, list_all}
-use Rattle.qs_base.specs.Order.{same_member}
-use Rattle.qs_base.specs.declared.identifiers.ServerNo.{ServerNo}
-use Rattle.qs_base.specs.declared.identifiers.Tid.{Tid}
-use Rattle.qs_ipc.specs.Ipc.{queue_at}
+use Rattle.qs_world_runs.proofs.Words.{◌≡◌, ◌⊎◌, inl, inr, ℕ, ◌+◌, ◌≤◌, ◌&&◌, Bool, true, false, List, [], ◌∷◌, length, suc, is_some, refl, sym, ap, ◌∙◌, arith, if◌then◌else◌, nat_tests, filter, list_all, same_member, ServerNo, Tid, queue_at, Delivery, TransactionValue, agrees, all_served, is_empty, is_served, is_standing, Life, Part, Request, RequestNo, none_waits, at_server, Field, standing, waiting, asked, goes_there, IsPlaced, EachPlaced, IsLife, EachLives, Placed, suc_not_zero}
+use Rattle.qs_world_runs.proofs.Words.{next_not_zero, and_from, and_parts}
 use Rattle.qs_ipc.specs.Queue.{count_of, is_of}
-use Rattle.qs_ipc.specs.declared.delivery.Delivery.{Delivery}
-use Rattle.qs_book_machine.specs.Transaction.{TransactionValue, agrees, all_served, is_empty, is_served, is_standing}
-use Rattle.qs_book_machine.specs.declared.transaction.Life.{Life}
-use Rattle.qs_book_machine.specs.declared.transaction.Part.{Part}
-use Rattle.qs_book_machine.specs.declared.transaction.Request.{Request}
-use Rattle.qs_book_machine.specs.declared.transaction.RequestNo.{RequestNo}
-use Rattle.qs_world_refine.proofs.NodeReady.{none_waits}
-use Rattle.qs_world_lawful.specs.Face.{at_server, is_numbered}
-use Rattle.qs_world_runs.specs.Placed.{Field, standing, waiting, asked, goes_there, IsPlaced, EachPlaced, IsLife, EachLives, Placed}
+use Rattle.qs_world_lawful.specs.Face.{is_numbered}
 use Rattle.qs_world_runs.specs.PlacedLaws.{IsQuiet, QuietUnanimous}
-
-both : (a b : Bool) → a ≡ true → b ≡ true → (a && b) ≡ true
-both a b p q = rw (p, q) refl
-
-two : (a b : Bool) → (a && b) ≡ true → (a ≡ true) × (b ≡ true)
-two true b is = (refl, is)
-two false b is = absurd (cc is)
+use Rattle.qs_base_lemmas.proofs.Tests.{le_zero}
 
 -- ---- what does not wait
 
@@ -31,11 +12,8 @@ pub none_counted : (tid : Tid) (ds : List Delivery) → count_of tid ds ≡ 0 �
 none_counted tid [] none = refl
 none_counted tid (d ∷ ds) none = by (is_of tid d) refl none (none_counted tid ds)
   where
-    some : (a : ℕ) → a + 1 ≡ 0 → ⊥
-    some a is = omega (arith, is)
-
     by : (b : Bool) → is_of tid d ≡ b → (if b then count_of tid ds + 1 else count_of tid ds) ≡ 0 → (count_of tid ds ≡ 0 → filter (is_of tid) ds ≡ []) → filter (is_of tid) (d ∷ ds) ≡ []
-    by true is zero_is more = absurd (some (count_of tid ds) zero_is)
+    by true is zero_is more = absurd (next_not_zero (count_of tid ds) zero_is)
     by false is zero_is more = rw is (more zero_is)
 
 -- ---- what stands nowhere was served
@@ -43,16 +21,13 @@ none_counted tid (d ∷ ds) none = by (is_of tid d) refl none (none_counted tid 
 module _ (at : RequestNo) where
   all_were : (requests : List Request) → list_all (goes_there at) requests ≡ true → ((server : ServerNo) → standing at server requests ≡ 0) → list_all is_served requests ≡ true
   all_were [] there none = refl
-  all_were (request ∷ requests) there none = by request.served refl (all_were requests (two (goes_there at request) (list_all (goes_there at) requests) there).1)
+  all_were (request ∷ requests) there none = by request.served refl (all_were requests (and_parts (goes_there at request) (list_all (goes_there at) requests) there).1)
     where
       here : goes_there at request ≡ true
-      here = (two (goes_there at request) (list_all (goes_there at) requests) there).0
+      here = (and_parts (goes_there at request) (list_all (goes_there at) requests) there).0
 
       less : (b : Bool) (xs : List Request) → length (if b then request ∷ xs else xs) ≡ 0 → length xs ≡ 0
-      less true xs is = absurd (some (length xs) is)
-        where
-          some : (k : ℕ) → suc k ≡ 0 → ⊥
-          some k so = omega (arith, so)
+      less true xs is = absurd (suc_not_zero (length xs) is)
       less false xs is = is
 
       rest : (server : ServerNo) → standing at server requests ≡ 0
@@ -60,11 +35,8 @@ module _ (at : RequestNo) where
 
       own : (b : Bool) → request.served ≡ b → b ≡ false → ⊥
       own true is so = cc so
-      own false is so = some (length (filter (is_standing (at_server at.link.to request.member.server)) requests)) (sym counted ∙ none request.member.server)
+      own false is so = suc_not_zero (length (filter (is_standing (at_server at.link.to request.member.server)) requests)) (sym counted ∙ none request.member.server)
         where
-          some : (k : ℕ) → suc k ≡ 0 → ⊥
-          some k zero_is = omega (arith, zero_is)
-
           same : same_member request.member (at_server at.link.to request.member.server) ≡ true
           same = grind (arith, nat_tests, here)
 
@@ -75,7 +47,7 @@ module _ (at : RequestNo) where
           counted = rw stands refl
 
       by : (b : Bool) → request.served ≡ b → (((server : ServerNo) → standing at server requests ≡ 0) → list_all is_served requests ≡ true) → list_all is_served (request ∷ requests) ≡ true
-      by true is more = both request.served (list_all is_served requests) is (more rest)
+      by true is more = and_from request.served (list_all is_served requests) is (more rest)
       by false is more = absurd (own false is refl)
 
 module _ (tid : Tid) (tx : TransactionValue) (field : Field) (quiet : IsQuiet tid tx field) where
@@ -84,9 +56,6 @@ module _ (tid : Tid) (tx : TransactionValue) (field : Field) (quiet : IsQuiet ti
     where
       below : (a b c d : ℕ) → a ≤ b + (c + d) → b ≡ 0 → c ≡ 0 → d ≡ 0 → a ≡ 0
       below a b c d less p q r = omega (arith, less, p, q, r)
-
-      least : (a b : ℕ) → a ≤ b → b ≡ 0 → a ≡ 0
-      least a b less p = omega (arith, less, p)
 
       none_kept : asked tid server at.number (field.kept at.link.from.0 at.link.to.0) ≡ 0
       none_kept = quiet.keeps at.link.from.0 at.link.to.0 placed.from_in placed.to_in server at.number
@@ -98,21 +67,21 @@ module _ (tid : Tid) (tx : TransactionValue) (field : Field) (quiet : IsQuiet ti
       by : (b : Bool) → field.up at.link.to.0 ≡ b → standing at server requests ≡ 0
       by true up = below (standing at server requests) (waiting tid field at server) (asked tid server at.number (field.sent at.link.from.0 at.link.to.0)) (asked tid server at.number (field.kept at.link.from.0 at.link.to.0)) (placed.runs up server) (none_waiting up)
           (quiet.ways at.link.from.0 at.link.to.0 placed.from_in placed.to_in up server at.number) none_kept
-      by false down = least (standing at server requests) (asked tid server at.number (field.kept at.link.from.0 at.link.to.0)) (placed.stopped down server) none_kept
+      by false down = le_zero (standing at server requests) (asked tid server at.number (field.kept at.link.from.0 at.link.to.0)) (placed.stopped down server) none_kept
 
   served_all : (entries : List (RequestNo × List Request)) → EachPlaced tid field entries → list_all (λ (entry : RequestNo × List Request). list_all is_served entry.1) entries ≡ true
   served_all [] each = refl
-  served_all (entry ∷ entries) each = both (list_all is_served entry.1) _ (all_were entry.0 entry.1 each.0.there (none_placed entry.0 entry.1 each.0)) (served_all entries each.1)
+  served_all (entry ∷ entries) each = and_from (list_all is_served entry.1) _ (all_were entry.0 entry.1 each.0.there (none_placed entry.0 entry.1 each.0)) (served_all entries each.1)
 
   agree_all : (entries : List (Life × Part)) → EachLives tx field entries → list_all agrees entries ≡ true
   agree_all [] each = refl
-  agree_all (entry ∷ entries) each = both (agrees entry) (list_all agrees entries) (by each.0.lives) (agree_all entries each.1)
+  agree_all (entry ∷ entries) each = and_from (agrees entry) (list_all agrees entries) (by each.0.lives) (agree_all entries each.1)
     where
       by : Rattle.qs_world_runs.specs.Placed.IsPresent field entry.0 ⊎ (agrees (entry.0, entry.1) ≡ true) → agrees entry ≡ true
       by (inl present) = quiet.lives entry.0 entry.1 each.0 present
       by (inr agreed) = agreed
 
 pub quiet_unanimous : QuietUnanimous
-quiet_unanimous tid tx field placed asked quiet = both (is_some tx.asked && all_served tx) (list_all agrees tx.parts && (is_empty tx.refusals && is_empty tx.crossed))
-    (both (is_some tx.asked) (all_served tx) asked (served_all tid tx field quiet tx.requests placed.requests))
-    (both (list_all agrees tx.parts) (is_empty tx.refusals && is_empty tx.crossed) (agree_all tid tx field quiet tx.parts placed.lives) (both (is_empty tx.refusals) (is_empty tx.crossed) placed.unrefused placed.uncrossed))
+quiet_unanimous tid tx field placed asked quiet = and_from (is_some tx.asked && all_served tx) (list_all agrees tx.parts && (is_empty tx.refusals && is_empty tx.crossed))
+    (and_from (is_some tx.asked) (all_served tx) asked (served_all tid tx field quiet tx.requests placed.requests))
+    (and_from (list_all agrees tx.parts) (is_empty tx.refusals && is_empty tx.crossed) (agree_all tid tx field quiet tx.parts placed.lives) (and_from (is_empty tx.refusals) (is_empty tx.crossed) placed.unrefused placed.uncrossed))

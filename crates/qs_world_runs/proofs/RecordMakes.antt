@@ -1,25 +1,12 @@
 -- Rules in a row make the records that each of them makes; a rule that makes none leaves what was made.
-use Rattle.std.proofs.Common.{◌≡◌, ◌⊎◌, inl, inr, ℕ, ◌≤◌, ◌+◌, arith, ◌++◌, ◌||◌, append-nil, append_assoc, Bool, true, false, List, [], ◌∷◌, Option, Some, None, fold, refl, sym, ap, subst, ◌∙◌, if◌then◌else◌}
-use Rattle.std.specs.List.{list_any}
-use Rattle.std.proofs.lemmas.List.Folds.{list_any-append}
-use Rattle.qs_base.specs.declared.identifiers.NodeNo.{NodeNo}
-use Rattle.qs_base.specs.declared.identifiers.Tid.{Tid}
-use Rattle.qs_book_journal.specs.declared.entry.Act.{Act}
+use Rattle.qs_world_runs.proofs.Words.{◌≡◌, ◌⊎◌, inl, inr, ℕ, ◌≤◌, ◌+◌, arith, ◌++◌, ◌||◌, append-nil, append_assoc, Bool, true, false, List, [], ◌∷◌, Option, Some, None, fold, refl, sym, ap, subst, ◌∙◌, if◌then◌else◌, list_any, list_any-append, NodeNo, Tid, Act, Record, where_undecided, Work, here, is_undecided, Participant, Every, every_on, every_append, Quiet, commits_of, decides_of, one_if, is_prepare_at, plus_zero, zero_plus, is_zero_plus, zero_le}
 use Rattle.qs_book_journal.specs.declared.entry.Act.TheVariants as acts
 use Rattle.qs_ops.specs.declared.vote.Vote.TheVariants as votes
-use Rattle.qs_record.specs.declared.record.Record.{Record}
 use Rattle.qs_record.specs.declared.record.Record.TheVariants as made
-use Rattle.qs_node_step.specs.Asking.{where_undecided}
-use Rattle.qs_node_step.specs.State.{Work, here, part_of}
-use Rattle.qs_tm.specs.Participant.{is_undecided}
-use Rattle.qs_tm.specs.declared.participant.Participant.{Participant}
+use Rattle.qs_node_step.specs.State.{part_of}
 use Rattle.qs_world_lawful.specs.Logged.{IsPlain}
-use Rattle.qs_world_lawful.specs.Logs.{Every}
-use Rattle.qs_world_lawful.proofs.LogFrames.{every_on}
-use Rattle.qs_world_lawful.proofs.LogRecords.{every_append}
-use Rattle.qs_world_lawful.proofs.Recordless.{Quiet}
-use Rattle.qs_world_runs.specs.CutRecords.{IsEntered, commits_of, decides_commit, decides_of, is_commit_record, one_if}
-use Rattle.qs_world_runs.specs.OnRecord.{IsPut, is_prepare_at}
+use Rattle.qs_world_runs.specs.CutRecords.{IsEntered, decides_commit, is_commit_record}
+use Rattle.qs_world_runs.specs.OnRecord.{IsPut}
 
 -- ---- among more entries
 
@@ -55,25 +42,19 @@ put_more front made back act is = tt
 
 -- ---- counts
 
-zero_left : (n : ℕ) → n ≡ 0 + n
-zero_left n = grind (arith)
-
 pub commits_both : (tid : Tid) (xs ys : List Record) → commits_of tid (xs ++ ys) ≡ commits_of tid xs + commits_of tid ys
-commits_both tid [] ys = zero_left (commits_of tid ys)
+commits_both tid [] ys = is_zero_plus (commits_of tid ys)
 commits_both tid (x ∷ xs) ys = ap (λ (n : ℕ). one_if (is_commit_record tid x) + n) (commits_both tid xs ys) ∙ sums (one_if (is_commit_record tid x)) (commits_of tid xs) (commits_of tid ys)
   where
     sums : (a b c : ℕ) → a + (b + c) ≡ a + b + c
     sums a b c = grind (arith)
 
 decides_both : (tid : Tid) (xs ys : List Act) → decides_of tid (xs ++ ys) ≡ decides_of tid xs + decides_of tid ys
-decides_both tid [] ys = zero_left (decides_of tid ys)
+decides_both tid [] ys = is_zero_plus (decides_of tid ys)
 decides_both tid (x ∷ xs) ys = ap (λ (n : ℕ). one_if (decides_commit tid x) + n) (decides_both tid xs ys) ∙ sums (one_if (decides_commit tid x)) (decides_of tid xs) (decides_of tid ys)
   where
     sums : (a b c : ℕ) → a + (b + c) ≡ a + b + c
     sums a b c = grind (arith)
-
-least : (n : ℕ) → 0 ≤ n
-least n = grind (arith)
 
 -- ---- rules; beside what was entered a record may have another source, and a Commit that was told
 
@@ -96,7 +77,7 @@ module _ (me : NodeNo) (Else : Record → Type 0) where
 
   -- it enters some, and makes none
   pub makes_none : (work new : Work) (more : List Act) → new.out.entries ≡ work.out.entries ++ more → new.out.records ≡ work.out.records → new.node.setting ≡ work.node.setting → Every (IsPut []) more → Makes none_told work new
-  makes_none work new more entries records setting puts = record { more = more; made = []; entries = entries; records = records ∙ sym (append-nil work.out.records); setting = setting; from = λ is. tt; once = λ tid. least (decides_of tid more + 0); puts = puts }
+  makes_none work new more entries records setting puts = record { more = more; made = []; entries = entries; records = records ∙ sym (append-nil work.out.records); setting = setting; from = λ is. tt; once = λ tid. zero_le (decides_of tid more + 0); puts = puts }
 
   pub makes_quiet : (work new : Work) → Quiet work new → Makes none_told work new
   makes_quiet work new q = makes_none work new q.more q.entries q.records q.setting (all_plain [] q.more q.plain)
@@ -134,16 +115,10 @@ module _ (me : NodeNo) (Else : Record → Type 0) where
 
   -- the one or the other after rules that were told nothing
   pub makes_then : (told : Tid → ℕ) (work mid new : Work) → Makes told work mid → Makes none_told mid new → Makes told work new
-  makes_then told = makes_both told none_told told (λ tid. right (told tid))
-    where
-      right : (n : ℕ) → n + 0 ≡ n
-      right n = grind (arith)
+  makes_then told = makes_both told none_told told (λ tid. plus_zero (told tid))
 
   pub then_makes : (told : Tid → ℕ) (work mid new : Work) → Makes none_told work mid → Makes told mid new → Makes told work new
-  then_makes told = makes_both none_told told told (λ tid. left (told tid))
-    where
-      left : (n : ℕ) → 0 + n ≡ n
-      left n = grind (arith)
+  then_makes told = makes_both none_told told told (λ tid. zero_plus (told tid))
 
   pub makes_if : (b : Bool) (work x y : Work) → Makes none_told work x → Makes none_told work y → Makes none_told work (if b then x else y)
   makes_if true work x y p q = p

@@ -1,50 +1,28 @@
 -- Which records a node makes of itself at the end of a step: a Prepare with a vote, and a Commit or an Aborted with a decision.
-use Rattle.std.proofs.Common.{◌≡◌, inl, ℕ, ◌≤◌, ◌+◌, ◌==◌, arith, append-nil, zero, suc, Bool, true, false, List, [], ◌∷◌, Option, Some, None, refl, sym, ap, ◌∙◌, if◌then◌else◌}
-use Rattle.std.proofs.lemmas.Bool.Decides.{nat_tests}
-use Rattle.std.specs.BTreeMap.{is_at}
-use Rattle.std.specs.Prelude.{slice_set, slice_index_or}
-use Rattle.qs_base.proofs.Same.{same_tid-self}
-use Rattle.qs_base.specs.Order.{tid_cmp}
-use Rattle.qs_base.specs.declared.identifiers.NodeNo.{NodeNo}
+use Rattle.qs_world_runs.proofs.Words.{◌≡◌, inl, ℕ, ◌≤◌, ◌+◌, arith, append-nil, zero, suc, Bool, true, false, List, [], ◌∷◌, Option, Some, None, refl, sym, ap, ◌∙◌, if◌then◌else◌, is_at, slice_set, slice_index_or, same_tid-self, tid_cmp, NodeNo, ServerNo, Tid, release_of, listed, changed_none, is_empty, changes_in, vote_of, Cause, Note, Vote, Record, server_at, enter, member_here, send_each, decide_as, end_members, give_notices, keep_outcome, learners_at, answer_superior, due_tids}
+use Rattle.qs_world_runs.proofs.Words.{forget_rule, is_pass_due, is_quiet, may_answer, pass_rule, ready, ready_rule, refusal_goes_to, refuse_elsewhere, refuse_home, refuse_rule, say_yes, send_refusal, settle, settle_tid, try, Work, doings_of, here, with_manager, forget, change_count, due_votes, enter_vote, issue_note, owes_note, served_count, vote_frame, vote_next, vote_pass, vote_with, no_member, told_with_own, is_forgotten, member_of, MemberPart, Participant, Every, quiet_send, zero_le}
+use Rattle.qs_world_runs.proofs.Words.{eqb-self}
 use Rattle.qs_base.specs.declared.identifiers.Outcome.{Outcome}
 use Rattle.qs_base.specs.declared.identifiers.Outcome.TheVariants as outcomes
-use Rattle.qs_base.specs.declared.identifiers.ServerNo.{ServerNo}
-use Rattle.qs_base.specs.declared.identifiers.Tid.{Tid}
-use Rattle.qs_engage.specs.Engage.{release_of}
-use Rattle.qs_engage.specs.Nodes.{listed}
 use Rattle.qs_book_journal.specs.declared.entry.Act.TheVariants as acts
-use Rattle.qs_book_laws.proofs.Maps.{changed_none, lookup_changed}
-use Rattle.qs_book_machine.specs.Transaction.{is_empty}
-use Rattle.qs_ops.specs.Server.{changes_in, vote_of}
-use Rattle.qs_ops.specs.declared.answer.Cause.{Cause}
+use Rattle.qs_book_laws.proofs.Maps.{lookup_changed}
 use Rattle.qs_ops.specs.declared.answer.Cause.TheVariants as causes
-use Rattle.qs_ops.specs.declared.operation.Op.TheVariants.{Note}
-use Rattle.qs_ops.specs.declared.vote.Vote.{Vote}
 use Rattle.qs_ops.specs.declared.vote.Vote.TheVariants as votes
 use Rattle.qs_packet.specs.declared.message.Message.TheVariants as messages
-use Rattle.qs_record.specs.declared.record.Record.{Record}
 use Rattle.qs_record.specs.declared.record.Record.TheVariants as made
-use Rattle.qs_node_servers.specs.Servers.{audit_no, server_at}
-use Rattle.qs_node_step.specs.Bringing.{enter, log, member_here, send_each}
-use Rattle.qs_node_step.specs.Deciding.{decide, decide_as, decide_commit, end_members, give_notices, keep_outcome, learners_at}
-use Rattle.qs_node_step.specs.Settling.{answer_superior, due_tids, forget_rule, is_pass_due, is_quiet, may_answer, pass_rule, ready, ready_rule, refusal_goes_to, refuse_elsewhere, refuse_home, refuse_rule, say_yes, send_refusal, settle, settle_tid, try}
-use Rattle.qs_node_step.specs.State.{Work, doings_of, here, part_of, with_manager}
-use Rattle.qs_node_step.specs.Telling.{forget}
-use Rattle.qs_node_step.specs.Voting.{change_count, due_votes, enter_vote, issue_note, note_text, owes_note, served_count, vote_frame, vote_next, vote_pass, vote_with}
+use Rattle.qs_node_servers.specs.Servers.{audit_no}
+use Rattle.qs_node_step.specs.Bringing.{log}
+use Rattle.qs_node_step.specs.Deciding.{decide, decide_commit}
+use Rattle.qs_node_step.specs.State.{part_of}
+use Rattle.qs_node_step.specs.Voting.{note_text}
 use Rattle.qs_tm.specs.Manager as tm
-use Rattle.qs_tm.specs.Members.{no_member}
 use Rattle.qs_tm.specs.Members as members
 use Rattle.qs_tm.specs.Outcomes as outcome_rules
-use Rattle.qs_tm.specs.Outcomes.{told_with_own}
 use Rattle.qs_tm.specs.Participant as participant
-use Rattle.qs_tm.specs.Participant.{is_forgotten, member_of}
-use Rattle.qs_tm.specs.declared.members.MemberPart.{MemberPart}
-use Rattle.qs_tm.specs.declared.participant.Participant.{Participant}
-use Rattle.qs_world_lawful.specs.Logs.{Every}
 use Rattle.qs_world_lawful.proofs.LogEndings.{quiet_ends, quiet_notices}
 use Rattle.qs_world_lawful.proofs.LogLearning.{Learns, learn_acts, learns}
 use Rattle.qs_world_lawful.proofs.QuietRequests.{quiet_issue}
-use Rattle.qs_world_lawful.proofs.Recordless.{quiet_send, quiet_sends}
+use Rattle.qs_world_lawful.proofs.Recordless.{quiet_sends}
 use Rattle.qs_world_runs.specs.OnRecord.{IsPut}
 use Rattle.qs_world_runs.proofs.VotesKeep.{vote_has_changes, vote_keeps_changes}
 use Rattle.qs_world_runs.proofs.RecordMakes.{Makes, makes_fold, makes_if, makes_none, makes_quiet, makes_self, makes_then, makes_where, none_told}
@@ -74,12 +52,6 @@ covers_same tid server ballot work = by (part_of tid work) refl
 
 at_most : (n : ℕ) → n ≤ n + 0
 at_most n = grind (arith)
-
-least : (n : ℕ) → 0 ≤ n
-least n = grind (arith)
-
-itself : (n : ℕ) → (n == n) ≡ true
-itself n = grind (arith, nat_tests)
 
 learns_put : (node : NodeNo) (tid : Tid) (servers : List ServerNo) → Every (IsPut []) (learn_acts node tid servers)
 learns_put node tid [] = tt
@@ -119,8 +91,8 @@ module _ (me : NodeNo) (Else : Record → Type 0) where
       ),
       tt,
     );
-    once = λ t. least _;
-    puts = (rw (same_tid-self tid, itself server.0) refl, tt);
+    once = λ t. zero_le _;
+    puts = (rw (same_tid-self tid, eqb-self server.0) refl, tt);
   }
     where
       voted : Work
@@ -169,7 +141,7 @@ module _ (me : NodeNo) (Else : Record → Type 0) where
       records = refl;
       setting = refl;
       from = λ is. (inl (record { before = []; cause = cause; after = []; is = refl }), tt);
-      once = λ t. least _;
+      once = λ t. zero_le _;
       puts = (tt, tt);
     }
 

@@ -1,59 +1,31 @@
 -- Which records a whole step makes: what the node opened with, what comes, what it does of itself, and commands that stayed open.
-use Rattle.std.proofs.Common.{◌≡◌, inr, ℕ, ◌≤◌, ◌+◌, ◌++◌, Bool, true, false, List, [], ◌∷◌, Option, Some, None, fold, refl, sym, ap, subst, ◌∙◌, if◌then◌else◌}
-use Rattle.std.specs.BTreeMap.{is_at}
-use Rattle.std.specs.Map.{lookup, set_value}
-use Rattle.qs_base.specs.Order.{tid_cmp}
-use Rattle.qs_base.specs.declared.identifiers.ClientNo.{ClientNo}
-use Rattle.qs_base.specs.declared.identifiers.NodeNo.{NodeNo}
+use Rattle.qs_world_runs.proofs.Words.{◌≡◌, inr, ℕ, ◌≤◌, ◌+◌, ◌++◌, Bool, true, false, List, [], ◌∷◌, Option, Some, None, fold, refl, sym, ap, subst, ◌∙◌, if◌then◌else◌, is_at, lookup, set_value, tid_cmp, ClientNo, NodeNo, Tid, listed, Act, Command, ScriptLine, Begun, Decided, Answer, ticked, Message, Record, kept_outcome, borrower_command, is_aborted, answer, enter, log_if, send, send_each, ask, begin_as, begin_or_refuse, decided_answer, open_command, owner_command, request_command}
+use Rattle.qs_world_runs.proofs.Words.{give_notices, begin_incarnation, known_tids, resume_home, resume_part, resume_tid, label_at, put_label, settle, Work, change_server, client_cmp, with_manager, with_node, work_on, abort_old, age_rule, answer_waiting, borrower_waits, command_came, happen, is_owner, labelled, message_came, obey, owner_waits, step_work, tick, wait_command, wait_on, waiting_clients, waits_at, with_command, Event, Issued, OpenCommand, BeginFault, Participant, Every, Quiet}
+use Rattle.qs_world_runs.proofs.Words.{quiet_send, IsSource, commits_of, decides_of, told_commit, zero_le}
 use Rattle.qs_base.specs.declared.identifiers.Outcome.{Outcome}
 use Rattle.qs_base.specs.declared.identifiers.Outcome.TheVariants as outcomes
-use Rattle.qs_base.specs.declared.identifiers.Tid.{Tid}
-use Rattle.qs_engage.specs.Nodes.{listed}
-use Rattle.qs_book_journal.specs.declared.entry.Act.{Act}
 use Rattle.qs_book_journal.specs.declared.entry.Act.TheVariants as acts
-use Rattle.qs_book_journal.specs.declared.script_line.Command.{Command}
 use Rattle.qs_book_journal.specs.declared.script_line.Command.TheVariants as commands
-use Rattle.qs_book_journal.specs.declared.script_line.ScriptLine.{ScriptLine}
-use Rattle.qs_node_kept.specs.declared.kept.KeptLabel.{KeptLabel}
-use Rattle.qs_node_kept.specs.declared.kept.Decided.{Decided}
-use Rattle.qs_ops.specs.declared.answer.Answer.{Answer}
 use Rattle.qs_ops.specs.declared.answer.Answer.TheVariants as answers
 use Rattle.qs_ops.specs.declared.answer.Cause.TheVariants as causes
-use Rattle.qs_ops.specs.Timers.{ticked}
-use Rattle.qs_packet.specs.declared.message.Message.{Message}
 use Rattle.qs_packet.specs.declared.message.Message.TheVariants as messages
-use Rattle.qs_record.specs.declared.record.Record.{Record}
 use Rattle.qs_record.specs.declared.record.Record.TheVariants as made
 use Rattle.qs_node_servers.specs.Servers.{timers_no}
-use Rattle.qs_node_step.specs.Answering.{kept_outcome}
-use Rattle.qs_node_step.specs.Borrowing.{borrower_command, is_aborted}
-use Rattle.qs_node_step.specs.Bringing.{answer, enter, log_if, send, send_each}
-use Rattle.qs_node_step.specs.Commands.{ask, begin_as, begin_or_refuse, decided_answer, open_command, owner_command, request_command}
-use Rattle.qs_node_step.specs.Deciding.{decide, give_notices}
-use Rattle.qs_node_step.specs.Restarts.{begin_incarnation, known_tids, resume_home, resume_part, resume_tid}
-use Rattle.qs_node_step.specs.Serving.{label_at, put_label}
-use Rattle.qs_node_step.specs.Settling.{settle}
-use Rattle.qs_node_step.specs.State.{NodeValue, Work, change_server, client_cmp, part_of, with_manager, with_node, work_on}
-use Rattle.qs_node_step.specs.Step.{abort_old, age_rule, answer_waiting, borrower_waits, command_came, happen, is_owner, labelled, message_came, obey, owner_waits, step_work, tick, wait_command, wait_on, waiting_clients, waits_at, with_command}
-use Rattle.qs_node_step.specs.declared.event.Event.{Event}
+use Rattle.qs_node_step.specs.Deciding.{decide}
+use Rattle.qs_node_step.specs.State.{NodeValue, part_of}
 use Rattle.qs_node_step.specs.declared.event.Event.TheVariants as events
-use Rattle.qs_node_step.specs.declared.state.Issued.{Issued}
-use Rattle.qs_node_step.specs.declared.state.OpenCommand.{OpenCommand}
 use Rattle.qs_tm.specs.Manager as tm
 use Rattle.qs_tm.specs.Outcomes as outcome_rules
-use Rattle.qs_tm.specs.declared.manager.BeginFault.{BeginFault}
 use Rattle.qs_tm.specs.declared.manager.BeginFault.TheVariants as faults
-use Rattle.qs_tm.specs.declared.participant.Participant.{Participant}
-use Rattle.qs_world_lawful.specs.Logs.{Every}
 use Rattle.qs_world_lawful.proofs.LogEndings.{quiet_notices}
 use Rattle.qs_world_lawful.proofs.LogHappening.{quiet_restarted}
 use Rattle.qs_world_lawful.proofs.QuietCommands.{quiet_ask, quiet_ask_came, quiet_borrower, quiet_closer, quiet_inquiry, quiet_refusal, quiet_refuse, quiet_request_command}
 use Rattle.qs_world_lawful.proofs.QuietRequests.{quiet_reply, quiet_request, quiet_serve_all}
-use Rattle.qs_world_lawful.proofs.Recordless.{Quiet, quiet_answer, quiet_send, quiet_sends}
+use Rattle.qs_world_lawful.proofs.Recordless.{quiet_answer, quiet_sends}
 use Rattle.qs_world_runs.specs.OnRecord.{IsPut, StepsPutVotes}
-use Rattle.qs_world_runs.specs.CutRecords.{IsResumed, IsSource, StepsMakeRecords, commits_of, decides_of, told_commit}
+use Rattle.qs_world_runs.specs.CutRecords.{IsResumed, StepsMakeRecords}
 use Rattle.qs_world_runs.proofs.RecordMakes.{all_plain, makes_fold, makes_if, makes_none, makes_then, makes_where, then_makes}
-use Rattle.qs_world_runs.proofs.RecordTold.{Back, Else, K, T, WasSo, back_aborted, back_on, back_self, k_then, least, me, quiet, self, told_less, told_makes, tell_makes}
+use Rattle.qs_world_runs.proofs.RecordTold.{Back, Else, K, T, WasSo, back_aborted, back_on, back_self, k_then, me, quiet, self, told_less, told_makes, tell_makes}
 use Rattle.qs_world_runs.proofs.RecordRules.{decide_makes, settle_makes, still}
 
 module _ (start : NodeValue) (event : Event) where
@@ -75,7 +47,7 @@ module _ (start : NodeValue) (event : Event) where
       by None = open_makes client tid command work
       by (Some decided) = quiet start event work (answer client (decided_answer decided command) work) (quiet_answer client (decided_answer decided command) work)
 
-  labelled_makes : (client : ClientNo) (begun : KeptLabel) (command : Command) (work : Work) → K start event work (labelled client begun command work)
+  labelled_makes : (client : ClientNo) (begun : Begun) (command : Command) (work : Work) → K start event work (labelled client begun command work)
   labelled_makes client begun command work = makes_if (me start event) (Else start event) (is_owner client begun.owner) work (owner_command client begun.tid command work) _ (owner_makes client begun.tid command work) (by begun.tid)
     where
       by : (o : Option Tid) → K start event work (elim o [ None ↦ work | Some tid ↦ borrower_command client tid command work ])
@@ -97,7 +69,7 @@ module _ (start : NodeValue) (event : Event) where
       w : Work
       w = with_command line work
 
-      met : (command : Command) (o : Option KeptLabel) → K start event w (elim o [ None ↦ w | Some begun ↦ labelled line.client begun command w ])
+      met : (command : Command) (o : Option Begun) → K start event w (elim o [ None ↦ w | Some begun ↦ labelled line.client begun command w ])
       met command None = self start event w
       met command (Some begun) = labelled_makes line.client begun command w
 
@@ -178,7 +150,7 @@ module _ (start : NodeValue) (event : Event) where
           records = ap (λ (rs : List Record). rs ++ made.Aborted tid ∷ []) q.records;
           setting = q.setting;
           from = λ at. (inr (inr (inr source)), tt);
-          once = λ t. least _;
+          once = λ t. zero_le _;
           puts = all_plain (made.Aborted tid ∷ []) q.more q.plain;
         };
         back = of (part_of tid done) refl;
@@ -238,7 +210,7 @@ module _ (start : NodeValue) (event : Event) where
       borrowers c None None = self start event work
       borrowers c None (Some tid) = quiet start event work (borrower_command client tid c work) (quiet_borrower client tid c work)
 
-      of : (command : OpenCommand) (o : Option KeptLabel) → K start event work (elim o [ None ↦ work | Some begun ↦ waits_at client command begun work ])
+      of : (command : OpenCommand) (o : Option Begun) → K start event work (elim o [ None ↦ work | Some begun ↦ waits_at client command begun work ])
       of command None = self start event work
       of command (Some begun) = makes_if (me start event) (Else start event) (is_owner client begun.owner) work (owner_waits client begun.tid command.line.command work) (borrower_waits client command.issued begun.tid command.line.command work)
           (owners command.line.command begun.tid) (borrowers command.line.command command.issued begun.tid)

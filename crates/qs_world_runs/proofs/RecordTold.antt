@@ -1,38 +1,21 @@
 -- Which record an outcome makes that a node is told, and the last acknowledgement of a Commit; what the log has marked then it had marked as the step began.
-use Rattle.std.proofs.Common.{◌≡◌, ◌⊎◌, inl, inr, ℕ, ◌≤◌, ◌+◌, arith, append-nil, ◌&&◌, ◌||◌, Bool, true, false, List, [], ◌∷◌, Option, Some, None, refl, sym, ap, subst, ◌∙◌, if◌then◌else◌}
-use Rattle.std.specs.BTreeMap.{is_at}
-use Rattle.qs_base.specs.Order.{same_tid, tid_cmp}
-use Rattle.qs_base.specs.declared.identifiers.NodeNo.{NodeNo}
+use Rattle.qs_world_runs.proofs.Words.{◌≡◌, ◌⊎◌, inl, inr, ℕ, ◌≤◌, ◌+◌, arith, append-nil, ◌||◌, Bool, true, false, List, [], ◌∷◌, Option, Some, None, refl, sym, ap, subst, ◌∙◌, if◌then◌else◌, is_at, same_tid, tid_cmp, NodeNo, Tid, same_node, at_exact, Record, log_if, send, give_notices, Work, here, with_manager, end_record, end_told, learn, learn_unknown, names_at, take_names, take_outcome, take_told, tell_came, told_at_home, told_came, told_known, told_unknown, Event, is_undecided, Manager}
+use Rattle.qs_world_runs.proofs.Words.{InLog, Participant, Quiet, quiet_send, decides_of, one_if, told_commit, and_first, some_same, zero_le, or_right}
 use Rattle.qs_base.specs.declared.identifiers.Outcome.{Outcome}
 use Rattle.qs_base.specs.declared.identifiers.Outcome.TheVariants as outcomes
-use Rattle.qs_base.specs.declared.identifiers.Tid.{Tid}
-use Rattle.qs_engage.specs.Nodes.{same_node}
-use Rattle.qs_book_laws.proofs.Alikes.{at_exact}
 use Rattle.qs_packet.specs.declared.message.Message.TheVariants as messages
-use Rattle.qs_record.specs.declared.record.Record.{Record}
 use Rattle.qs_record.specs.declared.record.Record.TheVariants as made
-use Rattle.qs_node_step.specs.Bringing.{log, log_if, send}
-use Rattle.qs_node_step.specs.Deciding.{give_notices}
-use Rattle.qs_node_step.specs.State.{NodeValue, Work, here, part_of, with_manager}
-use Rattle.qs_node_step.specs.Telling.{end_record, end_told, learn, learn_unknown, names_at, take_names, take_outcome, take_told, tell_came, told_at_home, told_came, told_known, told_unknown}
-use Rattle.qs_node_step.specs.declared.event.Event.{Event}
+use Rattle.qs_node_step.specs.Bringing.{log}
+use Rattle.qs_node_step.specs.State.{NodeValue, part_of}
 use Rattle.qs_node_step.specs.declared.event.Event.TheVariants as events
 use Rattle.qs_tm.specs.Manager as tm
 use Rattle.qs_tm.specs.Outcomes as outcome_rules
-use Rattle.qs_tm.specs.Participant.{is_undecided}
-use Rattle.qs_tm.specs.declared.manager.Manager.{Manager}
-use Rattle.qs_tm.specs.declared.participant.InLog.{InLog}
-use Rattle.qs_tm.specs.declared.participant.Participant.{Participant}
 use Rattle.qs_world_lawful.proofs.LogMarks.{ChangesPart, changes_part}
 use Rattle.qs_world_lawful.proofs.Marks.{KnowsOn, MarksOn}
 use Rattle.qs_world_lawful.proofs.QuietCommands.{quiet_learn_unknown, quiet_names, quiet_told_unknown}
-use Rattle.qs_world_lawful.proofs.Recordless.{Quiet, quiet_send}
-use Rattle.qs_world_runs.specs.CutRecords.{IsLastTold, IsResumed, IsTold, decides_of, one_if, told_commit}
+use Rattle.qs_world_runs.specs.CutRecords.{IsLastTold, IsResumed, IsTold}
 use Rattle.qs_world_runs.proofs.RecordMakes.{Makes, makes_if, makes_quiet, makes_self, makes_then, none_told, then_makes}
 use Rattle.qs_world_runs.proofs.RecordRules.{M, noticed, still}
-
-pub least : (n : ℕ) → 0 ≤ n
-least n = grind (arith)
 
 more_told : (n k m : ℕ) → n ≤ k + 0 → n ≤ k + m
 more_told n k m p = grind (arith, p)
@@ -71,11 +54,8 @@ back_aborted start old t q there back tid part known marked = by (is_at (tid_cmp
     c : ChangesPart t old (tm.logged t (made.Aborted t) old) q (outcome_rules.logged (made.Aborted t) q)
     c = changes_part t (outcome_rules.logged (made.Aborted t)) old q there
 
-    of_some : {x y : Participant} → Some x ≡ Some y → x ≡ y
-    of_some e = cc e
-
     by : (b : Bool) → is_at (tid_cmp tid) t ≡ b → WasSo start tid part
-    by true near = absurd (let same : outcome_rules.logged (made.Aborted t) q ≡ part = of_some (sym c.now ∙ subst (λ (x : Tid). tm.part_of x (tm.logged t (made.Aborted t) old) ≡ Some part) (at_exact tid t near) known) in
+    by true near = absurd (let same : outcome_rules.logged (made.Aborted t) q ≡ part = some_same (sym c.now ∙ subst (λ (x : Tid). tm.part_of x (tm.logged t (made.Aborted t) old) ≡ Some part) (at_exact tid t near) known) in
         let off : is_marked part ≡ false = ap is_marked (sym same) in cc (off, marked))
     by false far = was_on start tid (tm.part_of tid old) part (subst (MarksOn (tm.part_of tid old)) known (c.others tid far)) (λ x is m. back tid x is m) marked
 
@@ -149,7 +129,7 @@ module _ (start : NodeValue) (event : Event) where
             records = refl;
             setting = refl;
             from = λ at. (inr (source prepared (made.Aborted tid) (ap (end_record tid) (sym is))), tt);
-            once = λ t. least _;
+            once = λ t. zero_le _;
             puts = tt;
           }
 
@@ -187,15 +167,7 @@ module _ (start : NodeValue) (event : Event) where
 
         of : (o : Option Participant) → part_of tid work ≡ o → ◌≡◌ {A = Bool} (elim o [ None ↦ false | Some part ↦ outcome_rules.is_all_told (outcome_rules.acknowledged peer part) ]) true → IsLastTold start (made.End tid)
         of None none is = absurd (cc is)
-        of (Some part) known is = let w : WasSo start.manager tid part = back tid part known (or_right part.log.prepared part.log.listed (and_left part.log.listed _ is)) in record { tid = tid; part = w.was; known = w.known; listed = w.listed (and_left part.log.listed _ is); is = refl }
-          where
-            and_left : (a b : Bool) → (a && b) ≡ true → a ≡ true
-            and_left true b e = refl
-            and_left false b e = absurd (cc e)
-
-            or_right : (a b : Bool) → b ≡ true → (a || b) ≡ true
-            or_right true b e = refl
-            or_right false b e = e
+        of (Some part) known is = let w : WasSo start.manager tid part = back tid part known (or_right part.log.prepared part.log.listed (and_first part.log.listed _ is)) in record { tid = tid; part = w.was; known = w.known; listed = w.listed (and_first part.log.listed _ is); is = refl }
 
         by : (b : Bool) → tm.all_acknowledged tid peer work.node.manager ≡ b → K acked (end_told b tid acked)
         by false is = self acked
@@ -206,7 +178,7 @@ module _ (start : NodeValue) (event : Event) where
           records = refl;
           setting = refl;
           from = λ at. (inr (inr (inl (of (part_of tid work) refl is))), tt);
-          once = λ t. least _;
+          once = λ t. zero_le _;
           puts = tt;
         }
 

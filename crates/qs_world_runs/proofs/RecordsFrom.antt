@@ -1,36 +1,18 @@
 -- What is on record at a node after a step of its was so before it, or a vote of the step put it there.
-use Rattle.std.proofs.Common.{◌≡◌, ◌⊎◌, inl, inr, ℕ, ◌==◌, ◌||◌, Bool, true, false, List, [], ◌∷◌, Option, Some, None, refl, sym, ap, subst, ◌∙◌, arith}
-use Rattle.std.proofs.lemmas.Bool.Decides.{nat_tests}
-use Rattle.std.specs.Prelude.{slice_get, is_some}
-use Rattle.std.specs.Option.{option_map}
-use Rattle.std.specs.List.{list_any}
-use Rattle.std.specs.Map.{lookup}
-use Rattle.std.specs.BTreeMap.{is_at}
-use Rattle.qs_base.proofs.Same.{same_tid-self}
-use Rattle.qs_base.specs.Order.{same_tid}
-use Rattle.qs_base.specs.declared.identifiers.Member.{Member}
+use Rattle.qs_world_runs.proofs.Words.{◌≡◌, ◌⊎◌, inl, inr, ℕ, ◌==◌, ◌||◌, Bool, true, false, List, [], ◌∷◌, Option, Some, None, refl, sym, ap, subst, ◌∙◌, arith, nat_tests, slice_get, is_some, option_map, list_any, lookup, is_at, same_tid-self, same_tid, Member, Tid, Act, voter_exact, changed_at_here, Inv, BookValue, book_after, effect, OnRecord, Voter, entries_of, entry_of, is_recording, or_parts, or_left, or_right}
 use Rattle.qs_base.specs.declared.identifiers.Outcome.TheVariants as outcomes
-use Rattle.qs_base.specs.declared.identifiers.Tid.{Tid}
-use Rattle.qs_book_journal.specs.declared.entry.Act.{Act}
 use Rattle.qs_book_journal.specs.declared.entry.Act.TheVariants as acts
-use Rattle.qs_book_laws.proofs.Alikes.{voter_equal, voter_exact}
+use Rattle.qs_book_laws.proofs.Alikes.{voter_equal}
 use Rattle.qs_book_laws.proofs.Faces.{vote_by, recorded_by}
-use Rattle.qs_book_laws.proofs.Maps.{changed_at_here, lookup_put_apart, removed_none}
-use Rattle.qs_book_laws.proofs.Outcomes.{Inv}
+use Rattle.qs_book_laws.proofs.Maps.{lookup_put_apart, removed_none}
 use Rattle.qs_book_laws.proofs.Steps.{stepped}
 use Rattle.qs_book_laws.proofs.Stills.{Facet, facet}
-use Rattle.qs_book_machine.specs.Book.{BookValue}
-use Rattle.qs_book_machine.specs.Lawful.{IsLawful, book_after, effect}
+use Rattle.qs_book_machine.specs.Lawful.{IsLawful}
 use Rattle.qs_book_machine.specs.Nodes as machine
-use Rattle.qs_book_machine.specs.declared.state.OnRecord.{OnRecord}
-use Rattle.qs_book_machine.specs.declared.state.Voter.{Voter}
 use Rattle.qs_ops.specs.declared.vote.Vote.TheVariants as votes
-use Rattle.qs_world.specs.Posting.{entries_of, entry_of}
 use Rattle.qs_world_lawful.specs.Logged.{is_plain}
 use Rattle.qs_world_lawful.proofs.LogActs.{next, next_there, plain_facets, records_are, with_facet}
-use Rattle.qs_world_runs.specs.OnRecord.{is_recording}
 use Rattle.qs_world_runs.specs.PlacesGo.{is_restart}
-use Rattle.qs_world_runs.proofs.DueParts.{both_or}
 
 abbrev HasRecord : machine.NodeValue → Tid → ℕ → Type 0
 HasRecord state tid s = is_some (machine.record_of state tid s) ≡ true
@@ -88,22 +70,15 @@ module _ (n stamp : ℕ) where
       → From n (book_after book (entries_of n stamp done)) state (λ tid s. list_any (is_recording tid s) done)
   all_from [] still book i lawful state there = record { next = state; there = there; from = λ tid s has. inl has }
   all_from (act ∷ done) still book i lawful state there =
-      let both = both_or (is_restart act) (list_any is_restart done) still in
+      let both = or_parts (is_restart act) (list_any is_restart done) still in
       let one : OneFrom act book state = one_from act both.0 book i state there in
       let more = all_from done both.1 (effect book (entry_of n stamp act)) (stepped book (entry_of n stamp act) i lawful.0).inv lawful.1 one.next one.there in
       record { next = more.next; there = more.there; from = λ tid s has. by tid s one (more.from tid s has) }
     where
-      or_first : (a b : Bool) → a ≡ true → (a || b) ≡ true
-      or_first a b is = rw is refl
-
-      or_last : (a b : Bool) → b ≡ true → (a || b) ≡ true
-      or_last true b is = refl
-      or_last false b is = is
-
       by : (tid : Tid) (s : ℕ) → (one : OneFrom act book state) → HasRecord one.next tid s ⊎ (list_any (is_recording tid s) done ≡ true) → HasRecord state tid s ⊎ ((is_recording tid s act || list_any (is_recording tid s) done) ≡ true)
-      by tid s one (inr later) = inr (or_last (is_recording tid s act) (list_any (is_recording tid s) done) later)
+      by tid s one (inr later) = inr (or_right (is_recording tid s act) (list_any (is_recording tid s) done) later)
       by tid s one (inl has) = of (one.from tid s has)
         where
           of : HasRecord state tid s ⊎ (is_recording tid s act ≡ true) → HasRecord state tid s ⊎ ((is_recording tid s act || list_any (is_recording tid s) done) ≡ true)
           of (inl was) = inl was
-          of (inr now) = inr (or_first (is_recording tid s act) (list_any (is_recording tid s) done) now)
+          of (inr now) = inr (or_left (is_recording tid s act) (list_any (is_recording tid s) done) now)

@@ -1,23 +1,10 @@
 -- What is on record of a node that runs is of a transaction that the machine has: it is aborted, or the log has its Commit, or a vote of it.
-use Rattle.std.proofs.Common.{◌≡◌, inl, inr, ℕ, ◌||◌, Bool, true, false, List, [], ◌∷◌, Option, Some, None, is_none, is_some, refl, sym, ap, subst, ◌∙◌}
-use Rattle.std.specs.List.{list_any}
-use Rattle.qs_base.specs.Order.{same_tid}
-use Rattle.qs_base.proofs.Same.{same_tid-true}
-use Rattle.qs_base.specs.declared.identifiers.Tid.{Tid}
-use Rattle.qs_book_journal.specs.declared.entry.Found.{Found}
-use Rattle.qs_book_machine.specs.Book.{BookValue, cell_of_transaction, find_transaction}
+use Rattle.qs_world_runs.proofs.Words.{◌≡◌, inl, inr, ℕ, ◌||◌, Bool, true, false, List, [], ◌∷◌, Option, Some, None, is_none, is_some, refl, sym, ap, subst, ◌∙◌, list_any, same_tid, same_tid-true, Tid, Found, BookValue, cell_of_transaction, find_transaction, is_among, is_found_as, TransactionValue, OnRecord, extra_no, Prepared, Recovery, names_transaction, HasCommitted, HoldsLogged, IsRecordSafe, StandsIn, Every, found_votes, every_filter, every_map, left_true}
 use Rattle.qs_book_machine.specs.Clauses.{has_no_record}
 use Rattle.qs_book_machine.specs.Nodes as machine
-use Rattle.qs_book_machine.specs.Restart.{is_among, is_found_as}
-use Rattle.qs_book_machine.specs.Transaction.{TransactionValue}
-use Rattle.qs_book_machine.specs.declared.state.OnRecord.{OnRecord}
-use Rattle.qs_ops.specs.Servers.{audit_no, extra_no, files_no}
-use Rattle.qs_restart.specs.Recovery.{Prepared, Recovery, names_transaction, open_vote}
+use Rattle.qs_ops.specs.Servers.{audit_no, files_no}
+use Rattle.qs_restart.specs.Recovery.{open_vote}
 use Rattle.qs_world.specs.Moves as moves
-use Rattle.qs_world_lawful.specs.Logged.{HasCommitted, HoldsLogged, IsRecordSafe, StandsIn}
-use Rattle.qs_world_lawful.specs.Logs.{Every, found_votes}
-use Rattle.qs_world_lawful.proofs.LogRecords.{every_filter, every_map}
-use Rattle.qs_world_lawful.proofs.Truths.{left_true}
 
 module _ (here : ℕ) (book : BookValue) (state : machine.NodeValue) (log : Recovery) (h : HoldsLogged here book state log) (committed : (tid : Tid) → is_among log.committed tid ≡ true → HasCommitted book tid) (tid : Tid) (nothing : find_transaction book tid ≡ None) where
   abbrev Stands : Found → Type 0

@@ -1,41 +1,15 @@
 -- That a node gave a number, and that the request under it stands no more, stays so through each entry of a history, while the node begins no later incarnation.
-use Rattle.std.proofs.Common.{◌≡◌, ◌⊎◌, inl, inr, ℕ, ◌+◌, ◌≤◌, ◌<◌, Bool, true, false, List, Option, Some, None, refl, sym, ap, subst, ◌∙◌, arith}
-use Rattle.std.specs.BTreeMap.{insert_entry, is_at}
-use Rattle.std.specs.List.{find}
-use Rattle.std.specs.Map.{lookup}
-use Rattle.std.specs.Prelude.{is_some}
-use Rattle.qs_base.proofs.Same.{same_tid-true}
-use Rattle.qs_base.specs.Order.{member_cmp, same_tid}
-use Rattle.qs_base.specs.declared.identifiers.Member.{Member}
+use Rattle.qs_world_runs.proofs.Words.{◌≡◌, ◌⊎◌, inl, inr, ℕ, ◌+◌, ◌≤◌, ◌<◌, Bool, true, false, List, Option, Some, None, refl, sym, ap, subst, ◌∙◌, arith, insert_entry, is_at, find, lookup, is_some, same_tid-true, member_cmp, same_tid, Member, Tid, Act, Entry, paced, Inv, Gives, GivesFor, Obliged, step_turns, restarts, BookValue, find_transaction, inc_at, borrower_at, link_to, broken, effect, TransactionValue, crossed_by, is_crossed, is_standing, issued, link_cmp, requests_in, sent_in}
+use Rattle.qs_world_runs.proofs.Words.{sent_on, standing_request, Request, RequestNo, Op, entry_of, way_between, HasGiven, IsOfLast, IsServed, le_le}
 use Rattle.qs_base.specs.declared.identifiers.Outcome.TheVariants as outcomes
-use Rattle.qs_base.specs.declared.identifiers.Tid.{Tid}
-use Rattle.qs_book_journal.specs.declared.entry.Act.{Act}
 use Rattle.qs_book_journal.specs.declared.entry.Act.TheVariants as acts
-use Rattle.qs_book_journal.specs.declared.entry.Entry.{Entry}
 use Rattle.qs_book_laws.proofs.LinkCounts.{Paced}
-use Rattle.qs_book_laws.proofs.LinkSteps.{paced}
 use Rattle.qs_book_laws.proofs.Maps.{put_known}
-use Rattle.qs_book_laws.proofs.Outcomes.{Inv}
 use Rattle.qs_book_laws.proofs.Reaching.{link_exact}
-use Rattle.qs_book_laws.proofs.Turns.{Gives, GivesFor, Obliged, step_turns}
-use Rattle.qs_book_laws.specs.Lives.{restarts}
-use Rattle.qs_book_machine.specs.Book.{BookValue, find_transaction, inc_at}
-use Rattle.qs_book_machine.specs.Clauses.{borrower_at, link_to}
-use Rattle.qs_book_machine.specs.Lawful.{broken, effect}
-use Rattle.qs_book_machine.specs.Transaction.{TransactionValue, counted, crossed_by, is_crossed, is_standing, issued, link_cmp, requests_in, sent_in, sent_on, served_in, standing_request}
-use Rattle.qs_book_machine.specs.declared.transaction.Request.{Request}
-use Rattle.qs_book_machine.specs.declared.transaction.RequestNo.{RequestNo}
-use Rattle.qs_ops.specs.declared.operation.Op.{Op}
-use Rattle.qs_world.specs.Posting.{entry_of}
-use Rattle.qs_world_lawful.specs.Parcels.{way_between}
-use Rattle.qs_world_runs.specs.RepliesTrue.{GivenStays, HasGiven, IsOfLast, IsServed, ServedStays}
+use Rattle.qs_book_machine.specs.Transaction.{counted, served_in}
+use Rattle.qs_world_runs.specs.RepliesTrue.{GivenStays, ServedStays}
 use Rattle.qs_world_runs.proofs.PlacedIssued.{counted_given, given_other, given_own, numbered_next, stood_or_new, stood_served}
-
-longer : (a b c : ℕ) → a ≤ b → b ≤ c → a ≤ c
-longer a b c p q = omega (arith, p, q)
-
-same_least : (a b : ℕ) → b ≡ a → a ≤ b
-same_least a b e = omega (arith, e)
+use Rattle.qs_base_lemmas.proofs.Tests.{le_lt_le}
 
 -- ---- crossings stay
 
@@ -66,7 +40,7 @@ module _ (n i m number : ℕ) where
       own : at.link ≡ (way_between n m number).link → HasGiven n i m number new
       own is = subst (λ l. number ≤ sent_in i (sent_on new l)) is
           (subst (λ (k : ℕ). number ≤ sent_in k (sent_on new at.link)) (now (ap (λ l. l.from.0) is))
-          (longer number (sent_in request.inc (sent_on tx at.link)) (sent_in request.inc (sent_on new at.link))
+          (le_le number (sent_in request.inc (sent_on tx at.link)) (sent_in request.inc (sent_on new at.link))
           (subst (λ (k : ℕ). number ≤ sent_in k (sent_on tx at.link)) (sym (now (ap (λ l. l.from.0) is))) (subst (λ l. number ≤ sent_in i (sent_on tx l)) (sym is) h))
           (more _ _ (given_own tx at request peer_inc place))))
 
@@ -208,15 +182,12 @@ stays book entry n i tid P Q inv fine obliged last = of (restarts (record { 0 = 
     pace : Paced tid (record { 0 = n }) entry (inc_at book) (inc_at (effect book entry))
     pace = paced tid (record { 0 = n }) book entry fine
 
-    past : (a b c : ℕ) → a ≤ b → b < c → a ≤ c
-    past a b c p q = omega (arith, p, q)
-
     never : (a b c : ℕ) → a ≤ b → b < c → c ≡ a → ⊥
     never a b c p q e = omega (arith, p, q, e)
 
     of : (b : Bool) → restarts (record { 0 = n }) entry ≡ b → IsOfLast (effect book entry) n i tid Q
     of true is = record {
-      begun = past _ _ _ last.begun (pace.later (record { 0 = n }) is);
+      begun = le_lt_le _ _ _ last.begun (pace.later (record { 0 = n }) is);
       holds = λ now. absurd (never _ _ _ last.begun (pace.later (record { 0 = n }) is) now);
     }
     of false is = record {

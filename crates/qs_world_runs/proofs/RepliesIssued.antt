@@ -1,22 +1,14 @@
 -- A request that is issued has a number that its node gave in the incarnation in which it is.
-use Rattle.std.proofs.Common.{◌≡◌, ℕ, ◌+◌, ◌≤◌, false, sym, ◌∙◌, arith}
-use Rattle.qs_base.proofs.Same.{same_tid-self}
-use Rattle.qs_base.specs.Order.{same_tid}
+use Rattle.qs_world_runs.proofs.Words.{◌≡◌, ℕ, ◌+◌, ◌≤◌, false, sym, ◌∙◌, arith, le_refl, same_tid-self, same_tid, inc_at, link_to, TransactionValue, issued, sent_in, sent_on, Request, RequestNo, entry_of, HasGiven}
 use Rattle.qs_book_journal.specs.declared.entry.Act.TheVariants as acts
-use Rattle.qs_book_machine.specs.Book.{inc_at}
-use Rattle.qs_book_machine.specs.Clauses.{link_to}
-use Rattle.qs_book_machine.specs.Transaction.{TransactionValue, issued, sent_in, sent_on}
-use Rattle.qs_book_machine.specs.declared.transaction.Request.{Request}
-use Rattle.qs_book_machine.specs.declared.transaction.RequestNo.{RequestNo}
-use Rattle.qs_world.specs.Posting.{entry_of}
-use Rattle.qs_world_runs.specs.RepliesTrue.{HasGiven, IssuesGive}
+use Rattle.qs_world_runs.specs.RepliesTrue.{IssuesGive}
 use Rattle.qs_world_runs.proofs.PlacedIssued.{given_own, numbered_next}
 use Rattle.qs_world_runs.proofs.RepliesEntries.{stays}
 
 pub issues_give : IssuesGive
 issues_give book n stamp tid issuer member number op tx inv found fine = stays book (entry_of n stamp (acts.Issue tid issuer member number op)) n inc tid Next (HasGiven n inc member.node.0 number) inv fine
     (λ now. record { own = λ same t there next. given t next; other = λ apart. absurd (far apart) })
-    (record { begun = least inc; holds = λ now. record { tx = tx; found = found; holds = numbered_next book n stamp tid issuer member number op fine tx found } })
+    (record { begun = le_refl inc; holds = λ now. record { tx = tx; found = found; holds = numbered_next book n stamp tid issuer member number op fine tx found } })
   where
     inc : ℕ
     inc = inc_at book (record { 0 = n })
@@ -29,9 +21,6 @@ issues_give book n stamp tid issuer member number op tx inv found fine = stays b
 
     Next : TransactionValue → Type 0
     Next t = number ≡ sent_in inc (sent_on t at.link) + 1
-
-    least : (a : ℕ) → a ≤ a
-    least a = omega arith
 
     last : (a b c : ℕ) → a ≡ b + 1 → c ≡ b + 1 → a ≤ c
     last a b c p q = omega (arith, p, q)

@@ -1,41 +1,13 @@
 -- What was posted and what waits says of numbers that were given, and of requests that were served, stays so as a node crashes, restarts, or meets another.
-use Rattle.std.proofs.Common.{◌≡◌, ℕ, ◌≤◌, ◌<◌, ◌==◌, ◌&&◌, not, Bool, true, false, List, [], ◌∷◌, ◌++◌, Option, Some, None, refl, sym, ap, subst, ◌∙◌, arith, nat_lt, if◌then◌else◌}
-use Rattle.std.proofs.lemmas.Bool.{eqb-true}
-use Rattle.qs_base.specs.declared.identifiers.Member.{Member}
-use Rattle.qs_base.specs.declared.identifiers.ServerNo.{ServerNo}
-use Rattle.qs_base.specs.declared.identifiers.Tid.{Tid}
-use Rattle.qs_session_channels.specs.Channels.{Channels}
-use Rattle.qs_session_channels.specs.Network.{with_at2}
-use Rattle.qs_ipc.specs.declared.delivery.Delivery.{Delivery}
+use Rattle.qs_world_runs.proofs.Words.{◌≡◌, ℕ, ◌≤◌, ◌<◌, ◌==◌, ◌&&◌, not, Bool, true, false, List, [], ◌∷◌, ◌++◌, Option, Some, None, refl, sym, ap, subst, ◌∙◌, arith, nat_lt, if◌then◌else◌, eqb-true, Member, ServerNo, Tid, Channels, with_at2, Delivery, CrashCause, Entry, BookValue, book_after, effect, Message, Record, recovered_of, effects_of, Event, book_of, Cut, Meet, Move, Rise, Step, Stop, cut_log, cut_with, event_of, is_later, may_move, moved, risen_host, stopped, entry_of, Opening}
+use Rattle.qs_world_runs.proofs.Words.{Parcel, World, known_of, node_stopped, Every, rise_entry, lasts_on, LastsWell, every_on, at_two, every_more, Joined, book_in, IsBetweenSteps, PlacesAt, HasGiven, IsOfKnown, IsOfLast, IsServed, RepliesAt}
 use Rattle.qs_book_journal.specs.declared.entry.Act.TheVariants as acts
-use Rattle.qs_book_journal.specs.declared.entry.CrashCause.{CrashCause}
-use Rattle.qs_book_journal.specs.declared.entry.Entry.{Entry}
-use Rattle.qs_book_machine.specs.Book.{BookValue}
-use Rattle.qs_book_machine.specs.Lawful.{IsLawful, book_after, effect}
-use Rattle.qs_packet.specs.declared.message.Message.{Message}
+use Rattle.qs_book_machine.specs.Lawful.{IsLawful}
 use Rattle.qs_packet.specs.declared.message.Message.TheVariants as messages
-use Rattle.qs_record.specs.declared.record.Record.{Record}
-use Rattle.qs_node_step.specs.Opening.{recovered_of}
 use Rattle.qs_node_step.specs.State.{NodeValue}
-use Rattle.qs_node_step.specs.Step.{effects_of}
-use Rattle.qs_node_step.specs.declared.event.Event.{Event}
-use Rattle.qs_world.specs.Histories.{book_of}
-use Rattle.qs_world.specs.Moves.{Cut, Meet, Move, Rise, Step, Stop, cut_log, cut_with, event_of, is_later, may_move, moved, risen_host, stopped}
-use Rattle.qs_world.specs.Posting.{entry_of}
-use Rattle.qs_world.specs.World.{Opening, Parcel, World, known_of}
 use Rattle.qs_world_refine.proofs.SoundParts.{and_both}
-use Rattle.qs_world_refine.proofs.StepAll.{node_stopped}
 use Rattle.qs_world_lawful.specs.Face.{waiting_at}
-use Rattle.qs_world_lawful.specs.Logs.{Every}
-use Rattle.qs_world_lawful.specs.WorldLaws.{rise_entry}
-use Rattle.qs_world_lawful.proofs.LastsEntry.{lasts_on}
-use Rattle.qs_world_lawful.proofs.LastsWell.{LastsWell}
-use Rattle.qs_world_lawful.proofs.LogFrames.{every_on}
-use Rattle.qs_world_lawful.proofs.ParcelsKept.{at_two, every_more}
-use Rattle.qs_world_runs.specs.Joined.{Joined, book_in}
-use Rattle.qs_world_runs.specs.JoinedLaws.{IsBetweenSteps}
-use Rattle.qs_world_runs.specs.JoinedPlaces.{PlacesAt}
-use Rattle.qs_world_runs.specs.RepliesTrue.{AreFresh, BetweenKeepReplies, HasGiven, HoldsReplies, IsFresh, IsKeptBack, IsOfKnown, IsOfLast, IsServed, IsTold, OpensReplies, RepliesAt}
+use Rattle.qs_world_runs.specs.RepliesTrue.{AreFresh, BetweenKeepReplies, HoldsReplies, IsFresh, IsKeptBack, IsTold, OpensReplies}
 use Rattle.qs_world_runs.proofs.JoinedParts.{book_on, lawful_more}
 use Rattle.qs_world_runs.proofs.JoinedWays.{lasts_now}
 use Rattle.qs_world_runs.proofs.RepliesEntries.{given_stays, served_stays}

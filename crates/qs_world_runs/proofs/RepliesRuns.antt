@@ -1,13 +1,7 @@
 -- What was posted and what waits says of numbers that were given, and of requests that were served, stays so through each move.
-use Rattle.std.proofs.Common.{◌≡◌, Option, Some, None, refl}
+use Rattle.qs_world_runs.proofs.Words.{◌≡◌, Option, Some, None, refl, Event, book_of, Cut, Meet, Rise, Step, Stop, event_of, step_with, book_in, entries_in, RepliesAt}
 use Rattle.qs_book_machine.specs.Lawful.{IsLawful}
-use Rattle.qs_node_step.specs.declared.event.Event.{Event}
-use Rattle.qs_world.specs.Histories.{book_of}
-use Rattle.qs_world.specs.Moves.{Cut, Meet, Rise, Step, Stop, event_of, step_with}
-use Rattle.qs_world_runs.specs.Joined.{book_in}
-use Rattle.qs_world_runs.specs.JoinedLaws.{entries_in}
 use Rattle.qs_world_runs.specs.RepliesRuns.{MovesKeepReplies}
-use Rattle.qs_world_runs.specs.RepliesTrue.{RepliesAt}
 use Rattle.qs_world_runs.proofs.JoinedParts.{lawful_more}
 use Rattle.qs_world_runs.proofs.RepliesMoves.{between_keep_replies}
 use Rattle.qs_world_runs.proofs.RepliesSteps.{step_keeps_replies}

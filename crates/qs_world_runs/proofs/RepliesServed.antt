@@ -1,21 +1,10 @@
 -- A request that is served stands no more: where its transaction is not crossed at the member, no other stood there under its number.
-use Rattle.std.proofs.Common.{◌≡◌, ◌⊎◌, inl, inr, ℕ, suc, ◌≤◌, ◌&&◌, Bool, true, false, List, [], ◌∷◌, Option, Some, None, refl, sym, ap, ◌∙◌, arith, length}
-use Rattle.std.specs.BTreeMap.{is_at}
-use Rattle.std.specs.List.{filter, find}
-use Rattle.std.specs.Map.{lookup}
-use Rattle.std.specs.Prelude.{unwrap_or}
-use Rattle.qs_base.proofs.Same.{same_tid-self}
-use Rattle.qs_base.specs.Order.{same_member, same_tid}
-use Rattle.qs_base.specs.declared.identifiers.Member.{Member}
+use Rattle.qs_world_runs.proofs.Words.{◌≡◌, ◌⊎◌, inl, inr, ℕ, suc, ◌≤◌, Bool, true, false, List, [], ◌∷◌, Option, Some, None, refl, sym, ap, ◌∙◌, arith, length, is_at, filter, find, lookup, unwrap_or, same_tid-self, same_member, same_tid, Member, changed_none, inc_at, TransactionValue, changed_value, is_crossed, is_standing, mark_served, request_cmp, requests_at, standing_request, Request, RequestNo, entry_of, way_between, HasGiven, IsServed, and_false}
 use Rattle.qs_book_journal.specs.declared.entry.Act.TheVariants as acts
-use Rattle.qs_book_laws.proofs.Maps.{changed_none, lookup_changed}
-use Rattle.qs_book_machine.specs.Book.{inc_at, is_done}
-use Rattle.qs_book_machine.specs.Transaction.{TransactionValue, changed_value, is_crossed, is_standing, mark_served, request_cmp, requests_at, served_in, standing_request}
-use Rattle.qs_book_machine.specs.declared.transaction.Request.{Request}
-use Rattle.qs_book_machine.specs.declared.transaction.RequestNo.{RequestNo}
-use Rattle.qs_world.specs.Posting.{entry_of}
-use Rattle.qs_world_lawful.specs.Parcels.{way_between}
-use Rattle.qs_world_runs.specs.RepliesTrue.{HasGiven, IsServed, ServesOnce}
+use Rattle.qs_book_laws.proofs.Maps.{lookup_changed}
+use Rattle.qs_book_machine.specs.Book.{is_done}
+use Rattle.qs_book_machine.specs.Transaction.{served_in}
+use Rattle.qs_world_runs.specs.RepliesTrue.{ServesOnce}
 use Rattle.qs_world_runs.proofs.RepliesEntries.{stays}
 
 -- ---- of the requests under a number
@@ -25,10 +14,6 @@ module _ (member : Member) where
   none_left [] few = refl
   none_left (r ∷ rs) few = by (is_standing member r) refl (none_left rs)
     where
-      off : (b : Bool) → (b && false) ≡ false
-      off true = refl
-      off false = refl
-
       no_more : (a : ℕ) → suc a ≤ 1 → a ≡ 0
       no_more a h = omega arith
 
@@ -45,7 +30,7 @@ module _ (member : Member) where
           of false is more = rw is (more (rw is at e))
 
       by : (b : Bool) → is_standing member r ≡ b → (length (filter (is_standing member) rs) ≤ 1 → find (is_standing member) (mark_served member rs) ≡ None) → find (is_standing member) (mark_served member (r ∷ rs)) ≡ None
-      by true is more = let served : is_standing member (record r { served = true }) ≡ false = off (same_member r.member member) in
+      by true is more = let served : is_standing member (record r { served = true }) ≡ false = and_false (same_member r.member member) in
           let last : suc (length (filter (is_standing member) rs)) ≤ 1 = rw is at few in
           rw is (rw served (none_in rs (empty (filter (is_standing member) rs) (no_more (length (filter (is_standing member) rs)) last))))
       by false is more = rw is (rw is (more (rw is at few)))

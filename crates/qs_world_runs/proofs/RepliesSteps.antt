@@ -1,28 +1,12 @@
 -- What was posted and what waits says of numbers that were given, and of requests that were served, stays so through a whole step, where what it sends and what waits then is so.
-use Rattle.std.proofs.Common.{◌≡◌, ℕ, ◌≤◌, ◌<◌, ◌==◌, Bool, true, false, List, [], ◌∷◌, ◌++◌, Option, Some, None, refl, sym, ap, subst, ◌∙◌, arith, if◌then◌else◌}
-use Rattle.std.proofs.lemmas.Bool.{eqb-true}
+use Rattle.qs_world_runs.proofs.Words.{◌≡◌, ℕ, ◌≤◌, ◌<◌, ◌==◌, Bool, true, false, List, [], ◌∷◌, ◌++◌, Option, Some, None, refl, sym, ap, subst, ◌∙◌, arith, if◌then◌else◌, eqb-true, Channels, with_at2, Delivery, BookValue, book_after, Message, after_step, effects_of, Event, Sending, Clock, Commanded, Handed, Noticed, Queues, Source, hand_next, step_with, stepped_host, taken_by, next_parcel, post_all, Opening, Parcel, World, Every, every_on, at_two, every_more, Joined, book_in, entries_in}
+use Rattle.qs_world_runs.proofs.Words.{PlacesAt, HasGiven, IsOfKnown, IsOfLast, RepliesAt}
 use Rattle.qs_session_channels.specs.Channels as channel
-use Rattle.qs_session_channels.specs.Channels.{Channels}
-use Rattle.qs_session_channels.specs.Network.{with_at2}
-use Rattle.qs_ipc.specs.declared.delivery.Delivery.{Delivery}
-use Rattle.qs_book_machine.specs.Book.{BookValue}
-use Rattle.qs_book_machine.specs.Lawful.{IsLawful, book_after}
-use Rattle.qs_packet.specs.declared.message.Message.{Message}
+use Rattle.qs_book_machine.specs.Lawful.{IsLawful}
 use Rattle.qs_packet.specs.declared.message.Message.TheVariants as messages
-use Rattle.qs_node_step.specs.Step.{after_step, effects_of}
-use Rattle.qs_node_step.specs.declared.event.Event.{Event}
-use Rattle.qs_node_step.specs.declared.event.Sending.{Sending}
-use Rattle.qs_world.specs.Moves.{Clock, Commanded, Handed, Noticed, Queues, Source, hand_next, step_with, stepped_host, taken_by}
-use Rattle.qs_world.specs.Posting.{next_parcel, post_all, post_next}
-use Rattle.qs_world.specs.World.{Opening, Parcel, World}
+use Rattle.qs_world.specs.Posting.{post_next}
 use Rattle.qs_world_lawful.specs.Face.{waiting_at}
-use Rattle.qs_world_lawful.specs.Logs.{Every}
-use Rattle.qs_world_lawful.proofs.LogFrames.{every_on}
-use Rattle.qs_world_lawful.proofs.ParcelsKept.{at_two, every_more}
-use Rattle.qs_world_runs.specs.Joined.{Joined, book_in}
-use Rattle.qs_world_runs.specs.JoinedLaws.{entries_in}
-use Rattle.qs_world_runs.specs.JoinedPlaces.{PlacesAt}
-use Rattle.qs_world_runs.specs.RepliesTrue.{AreFresh, HasGiven, HoldsReplies, IsFresh, IsKeptBack, IsOfKnown, IsOfLast, IsSentSo, IsTold, RepliesAt, StepKeepsReplies, TellsSo}
+use Rattle.qs_world_runs.specs.RepliesTrue.{AreFresh, HoldsReplies, IsFresh, IsKeptBack, IsSentSo, IsTold, StepKeepsReplies, TellsSo}
 use Rattle.qs_world_runs.proofs.JoinedParts.{book_on}
 use Rattle.qs_world_runs.proofs.JoinedWays.{lasts_now}
 use Rattle.qs_world_runs.proofs.RepliesMoves.{replies_on}

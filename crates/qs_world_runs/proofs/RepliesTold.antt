@@ -1,42 +1,17 @@
 -- Through all that the rules of a step do, what it sent so far is of numbers that its node gave, and of requests that were served; and what waits is of
 -- incarnations that its node knows, or stale.
-use Rattle.std.proofs.Common.{◌≡◌, ℕ, ◌==◌, ◌&&◌, Bool, true, false, List, [], ◌∷◌, ◌++◌, Option, Some, None, refl, sym, ap, subst, ◌∙◌, arith}
-use Rattle.std.proofs.lemmas.Bool.Decides.{nat_tests}
-use Rattle.std.specs.Prelude.{unwrap_or}
-use Rattle.std.specs.List.{filter}
-use Rattle.qs_base.specs.declared.identifiers.ClientNo.{ClientNo}
-use Rattle.qs_base.specs.declared.identifiers.Member.{Member}
-use Rattle.qs_base.specs.declared.identifiers.NodeNo.{NodeNo}
-use Rattle.qs_base.specs.declared.identifiers.ServerNo.{ServerNo}
-use Rattle.qs_base.specs.declared.identifiers.Tid.{Tid}
-use Rattle.qs_engage.specs.Nodes.{same_node}
+use Rattle.qs_world_runs.proofs.Words.{◌≡◌, ℕ, ◌==◌, false, List, [], ◌∷◌, ◌++◌, Option, Some, None, refl, sym, ap, subst, ◌∙◌, arith, nat_tests, unwrap_or, filter, ClientNo, Member, NodeNo, ServerNo, Tid, same_node, IpcValue, queue_at, Delivery, Act, BookValue, find_transaction, inc_at, broken, effect, TransactionValue, Op, Reply, Message, drop_counts, Sending, entry_of, Every, LastsWell, every_on, every_more, Deeds, IsStill, traced, IsKeptAt, IsKeptFirst, HasGiven, IsOfKnown, IsOfLast}
+use Rattle.qs_world_runs.proofs.Words.{and_right}
 use Rattle.qs_ipc.specs.Ipc as ipc
-use Rattle.qs_ipc.specs.Ipc.{IpcValue, queue_at}
 use Rattle.qs_ipc.specs.Queue.{is_of}
-use Rattle.qs_ipc.specs.declared.delivery.Delivery.{Delivery}
-use Rattle.qs_book_journal.specs.declared.entry.Act.{Act}
 use Rattle.qs_book_journal.specs.declared.entry.Act.TheVariants as acts
 use Rattle.qs_book_laws.proofs.Gone.{inc_as}
 use Rattle.qs_book_laws.proofs.Lives.{same_life}
 use Rattle.qs_book_laws.specs.Lives.{is_restart}
-use Rattle.qs_book_machine.specs.Book.{BookValue, find_transaction, inc_at}
-use Rattle.qs_book_machine.specs.Lawful.{broken, effect}
-use Rattle.qs_book_machine.specs.Transaction.{TransactionValue}
 use Rattle.qs_ops.specs.declared.answer.Answer.TheVariants as answers
-use Rattle.qs_ops.specs.declared.operation.Op.{Op}
-use Rattle.qs_ops.specs.declared.reply.Reply.{Reply}
-use Rattle.qs_packet.specs.declared.message.Message.{Message}
 use Rattle.qs_packet.specs.declared.message.Message.TheVariants as messages
-use Rattle.qs_node_step.specs.Telling.{drop_counts}
-use Rattle.qs_node_step.specs.declared.event.Sending.{Sending}
-use Rattle.qs_world.specs.Posting.{entry_of}
-use Rattle.qs_world_lawful.specs.Logs.{Every}
-use Rattle.qs_world_lawful.proofs.LastsWell.{LastsWell}
-use Rattle.qs_world_lawful.proofs.LogFrames.{every_on}
-use Rattle.qs_world_lawful.proofs.ParcelsKept.{every_more}
-use Rattle.qs_world_runs.specs.Deeds.{Deeds, IsStill, traced}
-use Rattle.qs_world_runs.specs.DeedsReplied.{IsKeptAt, IsKeptFirst, IsPlain, lent, served}
-use Rattle.qs_world_runs.specs.RepliesTrue.{HasGiven, IsFresh, IsFreshIn, IsOfKnown, IsOfLast, IsSentSo, KeepFresh}
+use Rattle.qs_world_runs.specs.DeedsReplied.{IsPlain, lent, served}
+use Rattle.qs_world_runs.specs.RepliesTrue.{IsFresh, IsFreshIn, IsSentSo, KeepFresh}
 use Rattle.qs_world_runs.specs.Traces.{member_at, sent}
 use Rattle.qs_world_runs.proofs.EntriesMore as more
 use Rattle.qs_world_runs.proofs.FreshQueues.{fresh_queues}
@@ -82,14 +57,10 @@ module _ (n stamp i : ℕ) (knows : ℕ → ℕ) where
 
     goes_on : (queued : ℕ → ℕ) (sendings : List Sending) (queues : IpcValue) → is_restart act ≡ false → Says queued sendings queues book → Says queued sendings queues next
     goes_on queued sendings queues lives s = record {
-      now = inc_as next (record { 0 = n }) ∙ (ap (λ (o : Option ℕ). unwrap_or o 0) (same_life (record { 0 = n }) book (entry_of n stamp act) (off (n == n) (is_restart act) lives) fine) ∙ (sym (inc_as book (record { 0 = n })) ∙ s.now));
+      now = inc_as next (record { 0 = n }) ∙ (ap (λ (o : Option ℕ). unwrap_or o 0) (same_life (record { 0 = n }) book (entry_of n stamp act) (and_right (n == n) (is_restart act) lives) fine) ∙ (sym (inc_as book (record { 0 = n })) ∙ s.now));
       told = every_on (λ (x : Sending). IsSentSo book n i knows x.to.0 x.message) (λ (x : Sending). IsSentSo next n i knows x.to.0 x.message) sent_on sendings s.told;
       fresh = λ tid server. every_on (IsFresh book queued n) (IsFresh next queued n) (fresh_on (entry_of n stamp act ∷ []) book w (fine, tt) queued n) (filter (is_of tid) (queue_at queues server).waiting) (s.fresh tid server);
     }
-      where
-        off : (a b : Bool) → b ≡ false → (a && b) ≡ false
-        off true b is = is
-        off false b is = refl
 
   -- ---- a step so far
 

@@ -1,33 +1,13 @@
 -- A reply that is handed up was posted to the present incarnation of its node: so it is true.
-use Rattle.std.proofs.Common.{◌≡◌, ◌⊎◌, inl, inr, ℕ, Bool, true, List, [], ◌∷◌, length, Option, Some, None, sym, ap, subst, ◌∙◌}
-use Rattle.std.specs.Map.{lookup}
-use Rattle.std.specs.Prelude.{is_some, slice_get}
-use Rattle.qs_base.specs.declared.identifiers.Member.{Member}
-use Rattle.qs_base.specs.declared.identifiers.NodeNo.{NodeNo}
-use Rattle.qs_base.specs.declared.identifiers.Tid.{Tid}
+use Rattle.qs_world_runs.proofs.Words.{◌≡◌, ◌⊎◌, inl, inr, ℕ, Bool, true, List, [], ◌∷◌, length, Option, Some, None, sym, ap, subst, ◌∙◌, lookup, is_some, slice_get, Member, NodeNo, Tid, BookValue, find_transaction, inc_at, TransactionValue, is_crossed, is_empty, standing_request, Reply, Message, Event, Clock, Commanded, Handed, Noticed, Queues, Source, event_of, Opening, Parcel, World, from_client, from_node, from_notice, steady, way_between, HoldsNodeAt, Joined, book_in, PlacesAt, Placed}
+use Rattle.qs_world_runs.proofs.Words.{field_of, IsOfLast, IsServed, RepliesAt, some_same}
 use Rattle.qs_book_laws.proofs.Turns.{Stands}
-use Rattle.qs_book_machine.specs.Book.{BookValue, find_transaction, inc_at}
 use Rattle.qs_book_machine.specs.Nodes as book_nodes
-use Rattle.qs_book_machine.specs.Transaction.{TransactionValue, is_crossed, is_empty, standing_request}
-use Rattle.qs_ops.specs.declared.reply.Reply.{Reply}
-use Rattle.qs_packet.specs.declared.message.Message.{Message}
 use Rattle.qs_packet.specs.declared.message.Message.TheVariants as messages
-use Rattle.qs_node_step.specs.declared.event.Event.{Event}
 use Rattle.qs_node_step.specs.declared.event.Event.TheVariants as events
-use Rattle.qs_world.specs.Moves.{Clock, Commanded, Handed, Noticed, Queues, Source, event_of, node_no}
-use Rattle.qs_world.specs.World.{Opening, Parcel, World}
-use Rattle.qs_world_refine.proofs.EachMay.{from_client, from_node, from_notice}
-use Rattle.qs_world_refine.proofs.ShownMoves.{steady}
-use Rattle.qs_world_lawful.specs.Parcels.{way_between}
-use Rattle.qs_world_lawful.specs.Worlds.{HoldsNodeAt}
-use Rattle.qs_world_runs.specs.Joined.{Joined, book_in}
-use Rattle.qs_world_runs.specs.JoinedPlaces.{PlacesAt}
-use Rattle.qs_world_runs.specs.Placed.{Placed, field_of}
-use Rattle.qs_world_runs.specs.RepliesTrue.{IsOfLast, IsServed, IsTold, RepliesAt, RepliesTrue}
+use Rattle.qs_world.specs.Moves.{node_no}
+use Rattle.qs_world_runs.specs.RepliesTrue.{IsTold, RepliesTrue}
 use Rattle.qs_world_runs.proofs.ComesUnknown.{every_get}
-
-one : {A : Type 0} {a b : A} → Some a ≡ Some b → a ≡ b
-one e = cc e
 
 none_in : {A : Type 0} (p : A → Bool) (xs : List (A × ℕ)) → is_empty xs ≡ true → is_some (lookup p xs) ≡ true → ⊥
 none_in p [] empty is = cc is
@@ -48,7 +28,7 @@ module _ (o : Opening) (world : World) (n stamp : ℕ) (peer : NodeNo) (tid : Ti
   Goal = standing_request tx (way_between n member.node.0 number) member ≡ None
 
   of_last : inc_at book (record { 0 = n }) ≡ world.channels.inc n → IsOfLast book n (world.channels.inc n) tid (IsServed n (world.channels.inc n) member number) → Goal
-  of_last now last = by (subst (λ (x : TransactionValue). IsServed n (world.channels.inc n) member number x) (one (sym stands.found ∙ found)) stands.holds).none
+  of_last now last = by (subst (λ (x : TransactionValue). IsServed n (world.channels.inc n) member number x) (some_same (sym stands.found ∙ found)) stands.holds).none
     where
       stands : Stands tid (IsServed n (world.channels.inc n) member number) book
       stands = last.holds now

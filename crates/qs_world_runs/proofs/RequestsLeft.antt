@@ -1,20 +1,13 @@
 -- All entries of a step but begins, issues and serves leave the requests of each transaction.
-use Rattle.std.proofs.Common.{◌≡◌, ℕ, List, [], fold, Option, Some, None, refl, sym, ◌∙◌}
-use Rattle.std.specs.Prelude.{⊤, slice_get}
-use Rattle.qs_base.specs.declared.identifiers.ClientNo.{ClientNo}
-use Rattle.qs_base.specs.declared.identifiers.Member.{Member}
+use Rattle.qs_world_runs.proofs.Words.{◌≡◌, ℕ, List, [], fold, Option, Some, None, refl, sym, ◌∙◌, ⊤, slice_get, ClientNo, Member, Tid, Act, BookValue, find_transaction, inc_at, with_transaction, borrower_at, TransactionValue, decided_at, given_back, Owner, turned_by}
 use Rattle.qs_base.specs.declared.identifiers.Outcome.{Outcome}
 use Rattle.qs_base.specs.declared.identifiers.Outcome.TheVariants as outcomes
-use Rattle.qs_base.specs.declared.identifiers.Tid.{Tid}
-use Rattle.qs_book_journal.specs.declared.entry.Act.{Act}
 use Rattle.qs_book_journal.specs.declared.entry.Act.TheVariants as acts
-use Rattle.qs_book_machine.specs.Book.{BookValue, find_transaction, give_back_from, hear, inc_at, loan_to, waiting_of, with_owner, with_transaction}
-use Rattle.qs_book_machine.specs.Clauses.{borrower_at}
+use Rattle.qs_book_machine.specs.Book.{give_back_from, hear, loan_to, waiting_of, with_owner}
 use Rattle.qs_book_machine.specs.Lawful.{effect_act}
-use Rattle.qs_book_machine.specs.Transaction.{TransactionValue, asked_at, counted, decided_at, ended, given_back, heard, learnt, lent, voted}
+use Rattle.qs_book_machine.specs.Transaction.{asked_at, counted, ended, heard, learnt, lent, voted}
 use Rattle.qs_book_machine.specs.declared.state.Asking.{Asking}
-use Rattle.qs_book_machine.specs.declared.state.Owner.{Owner}
-use Rattle.qs_world_lawful.proofs.Turning.{Turned, turned_by, turned_fold, turned_same}
+use Rattle.qs_world_lawful.proofs.Turning.{Turned, turned_fold, turned_same}
 
 abbrev pub LeavesRequests : Act → Type 0
 LeavesRequests (acts.Begin tid label client) = ⊥

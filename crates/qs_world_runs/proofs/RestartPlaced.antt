@@ -1,27 +1,15 @@
 -- What a restart of a node makes of a transaction that is undecided after it: the lives of votes that were found are new, and all else is left.
-use Rattle.std.proofs.Common.{◌≡◌, inl, ℕ, ◌<◌, nat_lt, Bool, true, false, List, [], ◌∷◌, Option, Some, None, refl, ◌∙◌, arith, is_some, fold, map, if◌then◌else◌}
-use Rattle.std.proofs.lemmas.Bool.Decides.{nat_tests}
-use Rattle.std.specs.List.{filter}
+use Rattle.qs_world_runs.proofs.Words.{◌≡◌, inl, ℕ, ◌<◌, nat_lt, Bool, true, false, List, [], ◌∷◌, Option, Some, None, refl, ◌∙◌, arith, is_some, fold, map, if◌then◌else◌, nat_tests, filter, Tid, Found, life_equal, life_itself, IsRising, put_rises, BookValue, find_transaction, inc_at, with_transaction, is_recoverable, is_among, put_new_votes, record_at, TransactionValue, decided_at, life, life_cmp, Life, Part, extra_no, Cause, Prepared, names_transaction, Every, turned_by, Field}
 use Rattle.qs_base.specs.declared.identifiers.Outcome.{Outcome}
 use Rattle.qs_base.specs.declared.identifiers.Outcome.TheVariants as outcomes
-use Rattle.qs_base.specs.declared.identifiers.Tid.{Tid}
-use Rattle.qs_book_journal.specs.declared.entry.Found.{Found}
-use Rattle.qs_book_laws.proofs.Counts.{life_equal, life_itself}
-use Rattle.qs_book_laws.proofs.Rising.{IsRising, put_rises}
-use Rattle.qs_book_machine.specs.Book.{BookValue, decide, find_transaction, inc_at, with_transaction}
-use Rattle.qs_book_machine.specs.Nodes.{is_recoverable}
-use Rattle.qs_book_machine.specs.Restart.{abort_begun, begun_at, begun_tid, commit_found, count_of, is_among, is_open_here, learn_found, member_at, put_new_votes, record_at, restart, up_to, vote_found}
-use Rattle.qs_book_machine.specs.Transaction.{TransactionValue, decided_at, found_at, found_part, is_open, life, life_cmp, with_learnt}
-use Rattle.qs_book_machine.specs.declared.transaction.Life.{Life}
-use Rattle.qs_book_machine.specs.declared.transaction.Part.{Part}
-use Rattle.qs_ops.specs.Servers.{audit_no, extra_no, files_no}
-use Rattle.qs_ops.specs.declared.answer.Cause.{Cause}
+use Rattle.qs_book_machine.specs.Book.{decide}
+use Rattle.qs_book_machine.specs.Restart.{abort_begun, begun_at, begun_tid, commit_found, count_of, is_open_here, learn_found, member_at, restart, up_to, vote_found}
+use Rattle.qs_book_machine.specs.Transaction.{found_at, found_part, is_open, with_learnt}
+use Rattle.qs_ops.specs.Servers.{audit_no, files_no}
 use Rattle.qs_ops.specs.declared.answer.Cause.TheVariants as causes
-use Rattle.qs_restart.specs.Recovery.{Prepared, names_transaction, open_vote}
+use Rattle.qs_restart.specs.Recovery.{open_vote}
 use Rattle.qs_world.specs.Moves as moves
-use Rattle.qs_world_lawful.specs.Logs.{Every}
-use Rattle.qs_world_lawful.proofs.Turning.{Turned, turned_by, turned_same, turned_then}
-use Rattle.qs_world_runs.specs.Placed.{Field}
+use Rattle.qs_world_lawful.proofs.Turning.{Turned, turned_same, turned_then}
 use Rattle.qs_world_runs.proofs.Entries.{each_put}
 use Rattle.qs_world_runs.proofs.PlacedTx.{EachBare, IsBare, life_total}
 

@@ -1,23 +1,12 @@
 -- A node restarts: what was on its way to it or kept back for it is so still, it keeps nothing back any more, and its present lives begin.
-use Rattle.std.proofs.Common.{◌≡◌, ◌⊎◌, inl, inr, ℕ, ◌+◌, ◌-◌, ◌<◌, ◌≤◌, ◌==◌, ◌&&◌, Bool, true, false, List, [], ◌∷◌, ◌++◌, length, length-append, map, zero, suc, refl, sym, ap, subst, ◌∙◌, arith, if◌then◌else◌}
-use Rattle.std.proofs.lemmas.Bool.{eqb-true}
-use Rattle.std.proofs.lemmas.Bool.Decides.{nat_tests}
+use Rattle.qs_world_runs.proofs.Words.{◌≡◌, ◌⊎◌, inl, inr, ℕ, ◌+◌, ◌-◌, ◌<◌, ◌≤◌, ◌==◌, ◌&&◌, Bool, true, false, List, [], ◌∷◌, ◌++◌, length, length-append, map, zero, suc, refl, sym, ap, subst, ◌∙◌, arith, if◌then◌else◌, le_refl, eqb-true, nat_tests, ServerNo, Tid, agrees, Life, Part, Request, RequestNo, Recovered, is_asking_for, pending, pending_from, risen_host, Parcel, World, Field, IsPlaced, IsPresent, asked, field_of, kept_between, message_of, sent_between, standing, waiting, le_le}
+use Rattle.qs_world_runs.proofs.Words.{is_zero_plus, zero_le}
 use Rattle.std.specs.List.{flat_map}
-use Rattle.qs_base.specs.declared.identifiers.ServerNo.{ServerNo}
-use Rattle.qs_base.specs.declared.identifiers.Tid.{Tid}
-use Rattle.qs_book_machine.specs.Transaction.{agrees}
-use Rattle.qs_book_machine.specs.declared.transaction.Life.{Life}
-use Rattle.qs_book_machine.specs.declared.transaction.Part.{Part}
-use Rattle.qs_book_machine.specs.declared.transaction.Request.{Request}
-use Rattle.qs_book_machine.specs.declared.transaction.RequestNo.{RequestNo}
-use Rattle.qs_restart.specs.declared.recovered.Recovered.{Recovered}
 use Rattle.qs_node_step.specs.State.{NodeValue}
 use Rattle.qs_world_lawful.specs.Face.{is_numbered, waiting_at}
-use Rattle.qs_world_lawful.specs.Parcels.{is_asking_for, pending, pending_from}
-use Rattle.qs_world.specs.Moves.{risen, risen_host}
-use Rattle.qs_world.specs.World.{Parcel, World}
-use Rattle.qs_world_runs.specs.Placed.{Field, IsPlaced, IsPresent, asked, field_of, kept_between, message_of, sent_between, standing, waiting}
+use Rattle.qs_world.specs.Moves.{risen}
 use Rattle.qs_world_runs.proofs.PlacedTx.{IsBare}
+use Rattle.qs_base_lemmas.proofs.Tests.{lt_le}
 
 -- ---- counts of what is on its way
 
@@ -26,10 +15,7 @@ module _ (tid : Tid) (server : ServerNo) (number : ℕ) where
   asked_in ps = asked tid server number (map message_of ps)
 
   pub asked_both : (ps qs : List Parcel) → asked_in (ps ++ qs) ≡ asked_in ps + asked_in qs
-  asked_both [] qs = plain (asked_in qs)
-    where
-      plain : (k : ℕ) → k ≡ 0 + k
-      plain k = omega arith
+  asked_both [] qs = is_zero_plus (asked_in qs)
   asked_both (p ∷ ps) qs = length-append (is_asking_for tid server number p.message) (flat_map (is_asking_for tid server number) (map message_of (ps ++ qs)))
       ∙ (ap (λ (k : ℕ). length (is_asking_for tid server number p.message) + k) (asked_both ps qs)
       ∙ (all (length (is_asking_for tid server number p.message)) (asked_in ps) (asked_in qs)
@@ -40,10 +26,7 @@ module _ (tid : Tid) (server : ServerNo) (number : ℕ) where
 
   -- from more incarnations there is as much at least
   pub asked_more : (at : ℕ → List Parcel) (i a b : ℕ) → a ≤ b → asked_in (pending_from at i a) ≤ asked_in (pending_from at i b)
-  asked_more at i zero b less = least (asked_in (pending_from at i b))
-    where
-      least : (k : ℕ) → 0 ≤ k
-      least k = omega arith
+  asked_more at i zero b less = zero_le (asked_in (pending_from at i b))
   asked_more at i (suc a) zero less = absurd (none a less)
     where
       none : (k : ℕ) → suc k ≤ 0 → ⊥
@@ -96,15 +79,9 @@ module _ (tid : Tid) (world : World) (n stamp inc : ℕ) (found : Recovered) (n_
   inc_grows : (k : ℕ) → world.channels.inc k ≤ after.channels.inc k
   inc_grows k = picked (k == n) refl
     where
-      less : (a b : ℕ) → a < b → a ≤ b
-      less a b h = omega (arith, h)
-
-      equal : (a : ℕ) → a ≤ a
-      equal a = omega arith
-
       picked : (b : Bool) → (k == n) ≡ b → world.channels.inc k ≤ (if b then inc else world.channels.inc k)
-      picked true is = less (world.channels.inc k) inc (subst (λ (j : ℕ). world.channels.inc j < inc) (sym (eqb-true k n is)) later)
-      picked false is = equal (world.channels.inc k)
+      picked true is = lt_le (world.channels.inc k) inc (subst (λ (j : ℕ). world.channels.inc j < inc) (sym (eqb-true k n is)) later)
+      picked false is = le_refl (world.channels.inc k)
 
   peer_is : (k m : ℕ) → (k == n) ≡ false → after.channels.peer k m ≡ world.channels.peer k m
   peer_is k m apart = picked (k == n) apart
@@ -181,10 +158,7 @@ module _ (tid : Tid) (world : World) (n stamp inc : ℕ) (found : Recovered) (n_
 
       stopped : (server : ServerNo) (b : Bool) → (to == n) ≡ b → new.up to ≡ false → standing at server requests ≤ asked tid server at.number (new.kept from to)
       stopped server true near down = absurd (let up : new.up to ≡ true = subst (λ (k : ℕ). new.up k ≡ true) (sym (eqb-true to n near)) up_now in cc (up, down))
-      stopped server false far down = longer (standing at server requests) (asked tid server at.number (old.kept from to)) (asked tid server at.number (new.kept from to)) (placed.stopped (sym (up_is to far) ∙ down) server) (kept_on server at.number from to)
-        where
-          longer : (a b c : ℕ) → a ≤ b → b ≤ c → a ≤ c
-          longer a b c p q = omega (arith, p, q)
+      stopped server false far down = le_le (standing at server requests) (asked tid server at.number (old.kept from to)) (asked tid server at.number (new.kept from to)) (placed.stopped (sym (up_is to far) ∙ down) server) (kept_on server at.number from to)
 
   pub life_on : (l : Life) (part : Part) → IsBare old l part → IsBare new l part
   life_on l part its = record { member = its.member; cast = its.cast; made = its.made; lives = by its.lives }

@@ -1,51 +1,30 @@
 -- A restart of one node leaves what the machine has beside each other: it turns no request, no part and no cell of theirs, and no owner is lost.
-use Rattle.std.proofs.Common.{◌≡◌, ℕ, ◌==◌, Bool, true, false, List, [], ◌∷◌, Option, Some, None, fold, refl, sym, ap, subst, ◌∙◌, is_some, arith, if◌then◌else◌}
-use Rattle.std.proofs.lemmas.Bool.Decides.{nat_tests}
-use Rattle.std.specs.Prelude.{slice_get}
-use Rattle.std.specs.Option.{option_map}
-use Rattle.std.specs.BTreeMap.{is_at}
-use Rattle.qs_base.specs.Order.{tid_cmp}
-use Rattle.qs_base.specs.declared.identifiers.ClientNo.{ClientNo}
-use Rattle.qs_base.specs.declared.identifiers.NodeNo.{NodeNo}
+use Rattle.qs_world_runs.proofs.Words.{◌≡◌, ℕ, ◌==◌, Bool, true, false, List, [], ◌∷◌, Option, Some, None, fold, refl, sym, ap, subst, ◌∙◌, is_some, if◌then◌else◌, slice_get, option_map, is_at, tid_cmp, ClientNo, NodeNo, Tid, Found, BookValue, find_transaction, with_transaction, book_after, effect, opening, is_among, record_at, TransactionValue, decided_at, is_commit, Owner, extra_no, Cause, Recovery, Participant, HoldsBeside, IsTrueCause, found_votes, rise_entry, every_on, rises_well, Turns}
+use Rattle.qs_world_runs.proofs.Words.{apart_turned}
 use Rattle.qs_base.specs.declared.identifiers.Outcome.{Outcome}
 use Rattle.qs_base.specs.declared.identifiers.Outcome.TheVariants as outcomes
-use Rattle.qs_base.specs.declared.identifiers.Tid.{Tid}
-use Rattle.qs_book_journal.specs.declared.entry.Found.{Found}
 use Rattle.qs_book_laws.proofs.Maps.{changed_alike}
-use Rattle.qs_book_machine.specs.Book.{BookValue, decide, find_transaction, with_transaction}
+use Rattle.qs_book_machine.specs.Book.{decide}
 use Rattle.qs_book_machine.specs.Clauses.{has_no_record}
-use Rattle.qs_book_machine.specs.Lawful.{book_after, effect}
 use Rattle.qs_book_machine.specs.Nodes as machine
-use Rattle.qs_book_machine.specs.Opening.{opening}
-use Rattle.qs_book_machine.specs.Restart.{abort_begun, begun_tid, commit_found, count_of, is_among, is_open_here, learn_found, member_at, record_at, up_to, vote_found}
-use Rattle.qs_book_machine.specs.Transaction.{TransactionValue, decided_at, found_at, is_abort, is_commit, with_learnt}
-use Rattle.qs_book_machine.specs.declared.state.Owner.{Owner}
-use Rattle.qs_ops.specs.Servers.{audit_no, extra_no, files_no}
-use Rattle.qs_ops.specs.declared.answer.Cause.{Cause}
+use Rattle.qs_book_machine.specs.Restart.{abort_begun, begun_tid, commit_found, count_of, is_open_here, learn_found, member_at, up_to, vote_found}
+use Rattle.qs_book_machine.specs.Transaction.{found_at, is_abort, with_learnt}
+use Rattle.qs_ops.specs.Servers.{audit_no, files_no}
 use Rattle.qs_ops.specs.declared.answer.Cause.TheVariants as causes
 use Rattle.qs_packet.specs.declared.message.Message.TheVariants as messages
-use Rattle.qs_restart.specs.Recovery.{Recovery}
 use Rattle.qs_node_step.specs.State.{NodeValue}
 use Rattle.qs_tm.specs.Manager as tm
-use Rattle.qs_tm.specs.declared.participant.Participant.{Participant}
-use Rattle.qs_world_lawful.specs.Beside.{HasOwner, HoldsBeside, HoldsEnded, HoldsPart, HoldsStranger, HoldsTidBeside, IsTrueCause}
-use Rattle.qs_world_lawful.specs.Logs.{found_votes}
-use Rattle.qs_world_lawful.specs.WorldLaws.{rise_entry}
+use Rattle.qs_world_lawful.specs.Beside.{HasOwner, HoldsEnded, HoldsPart, HoldsStranger, HoldsTidBeside}
 use Rattle.qs_world_lawful.proofs.AsideBegun.{KeepsBegun, begun_of}
 use Rattle.qs_world_lawful.proofs.AsideBeside.{notes_beside, outcome_beside, reads_beside, stranger_beside, uncommitted_back}
 use Rattle.qs_world_lawful.proofs.AsideTid.{asked_on}
-use Rattle.qs_world_lawful.proofs.LogFrames.{every_on}
 use Rattle.qs_world_lawful.proofs.OthersRise.{lines, nodes_same}
 use Rattle.qs_world_lawful.proofs.Restored.{committed, found_new, voted, with_found}
 use Rattle.qs_world_lawful.proofs.RestoredTid.{Restarts, goes, new, was}
 use Rattle.qs_world_lawful.proofs.RisesWell.{at, book_now, log, r, same_book, setting}
-use Rattle.qs_world_lawful.proofs.RisesWhole.{rises_well}
 use Rattle.qs_world_lawful.proofs.SaidStays.{said_stays}
-use Rattle.qs_world_lawful.proofs.Turning.{Turns, some_of, turns_quiet}
+use Rattle.qs_world_lawful.proofs.Turning.{some_of, turns_quiet}
 use Rattle.qs_world_runs.specs.RiseLaws.{EachRiseKeepsBeside}
-
-other_way : (a b : ℕ) → (a == b) ≡ false → (b == a) ≡ false
-other_way a b far = grind (arith, nat_tests, far)
 
 module _ (book : BookValue) (risen : NodeNo) (stamp inc : ℕ) (log : Recovery) (state : machine.NodeValue) (r : Restarts book risen inc log state) where
   abbrev now : BookValue
@@ -169,7 +148,7 @@ module _ (book : BookValue) (risen : NodeNo) (stamp inc : ℕ) (log : Recovery) 
       at_on = record { stands = stands_on; parts = parts_on; strangers = strangers_on; unbegun = unbegun_on; ended = ended_on }
 
     beside_on : HoldsBeside now node
-    beside_on = record { state = b.state; there = nodes_same book risen stamp inc log state r here.0 far (other_way here.0 risen.0 far) ∙ b.there; inc = b.inc; owners = owners_kept b.owners; at = at_on; clock = b.clock }
+    beside_on = record { state = b.state; there = nodes_same book risen stamp inc log state r here.0 far (apart_turned here.0 risen.0 far) ∙ b.there; inc = b.inc; owners = owners_kept b.owners; at = at_on; clock = b.clock }
 
 -- ---- in a world
 

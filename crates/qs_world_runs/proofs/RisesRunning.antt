@@ -1,77 +1,33 @@
 -- A node that restarts has all that the machine has beside it: what it had in memory is gone, its log and what is kept for its clients stand, and of what began here the machine has nothing open any more.
-use Rattle.std.proofs.Common.{◌≡◌, ◌⊎◌, inl, inr, ℕ, ◌<◌, ◌==◌, ◌&&◌, ◌||◌, not, Bool, true, false, List, [], ◌∷◌, ◌++◌, Option, Some, None, fold, nat_lt, refl, sym, ap, subst, ◌∙◌, arith, if◌then◌else◌}
-use Rattle.std.proofs.lemmas.Bool.Decides.{nat_tests}
+use Rattle.qs_world_runs.proofs.Words.{◌≡◌, ◌⊎◌, inl, inr, ℕ, ◌<◌, ◌==◌, ◌&&◌, not, Bool, true, false, List, [], ◌∷◌, ◌++◌, Option, Some, None, fold, nat_lt, refl, sym, ap, subst, ◌∙◌, arith, if◌then◌else◌, nat_tests, find, list_any, slice_get, same_tid, NodeNo, Tid, is_outcome_of, Begun, Decided, after_both, BookValue, cell_of_transaction, find_transaction, effect, is_among, TransactionValue, is_commit, Cell, Recovery, recovery, is_kept_commit, recovered_of, Setting, Participant, book_of}
+use Rattle.qs_world_runs.proofs.Words.{opened_from, Rise, may_move, moved, risen_host, Opening, World, inc_of, began_here, has_issued, is_committed_at, Lasts, HoldsLogged, Every, rise_entry, HoldsNodeOf, opens_soundly, in_runs, lasts_first, lasts_ran, LastsWell, opened_numbered, opening_named, rises_well, clash, of_some, HoldsRunning, Joined, book_in, same_Some, ltb-true, or_right, or_left, or_cases, eqb-self}
 use Rattle.std.proofs.lemmas.List.Folds.{find-append}
-use Rattle.std.specs.List.{find, list_any}
 use Rattle.std.specs.Option.{option_or}
-use Rattle.std.specs.Prelude.{slice_get}
-use Rattle.qs_base.specs.Order.{same_tid}
-use Rattle.qs_base.specs.declared.identifiers.NodeNo.{NodeNo}
 use Rattle.qs_base.specs.declared.identifiers.Outcome.{Outcome}
 use Rattle.qs_base.specs.declared.identifiers.Outcome.TheVariants as outcomes
-use Rattle.qs_base.specs.declared.identifiers.Tid.{Tid}
-use Rattle.qs_node_kept.specs.Keeping.{is_outcome_of}
-use Rattle.qs_node_kept.specs.declared.kept.KeptLabel.{KeptLabel}
-use Rattle.qs_node_kept.specs.declared.kept.Decided.{Decided}
 use Rattle.qs_node_kept.specs.declared.kept.Kept.{Kept}
-use Rattle.qs_book_laws.proofs.Steps.{after_both}
-use Rattle.qs_book_machine.specs.Book.{BookValue, cell_of_transaction, find_transaction}
-use Rattle.qs_book_machine.specs.Lawful.{effect}
 use Rattle.qs_book_machine.specs.Nodes as machine
-use Rattle.qs_book_machine.specs.Restart.{is_among}
-use Rattle.qs_book_machine.specs.Transaction.{TransactionValue, is_commit, is_open}
-use Rattle.qs_book_machine.specs.declared.transaction.Cell.{Cell}
+use Rattle.qs_book_machine.specs.Transaction.{is_open}
 use Rattle.qs_book_machine.specs.declared.transaction.Cell.TheVariants as cells
-use Rattle.qs_restart.specs.Recovery.{Recovery, recovery}
-use Rattle.qs_node_step.specs.Answering.{is_kept_commit, was_committed}
-use Rattle.qs_node_step.specs.Opening.{close_outcome, close_tid, is_left_open, outcome_in_log, recovered_of}
+use Rattle.qs_node_step.specs.Answering.{was_committed}
+use Rattle.qs_node_step.specs.Opening.{close_outcome, close_tid, is_left_open, outcome_in_log}
 use Rattle.qs_node_step.specs.State.{NodeValue}
-use Rattle.qs_node_step.specs.declared.setting.Setting.{Setting}
 use Rattle.qs_tm.specs.Manager as tm
-use Rattle.qs_tm.specs.declared.participant.Participant.{Participant}
-use Rattle.qs_world.specs.Histories.{book_of, opened_from}
-use Rattle.qs_world.specs.Moves.{Rise, is_in_order, may_move, moved, reopened, risen_host}
-use Rattle.qs_world.specs.World.{Opening, World, inc_of}
-use Rattle.qs_world_refine.specs.NodeFaces.{began_here}
+use Rattle.qs_world.specs.Moves.{is_in_order, reopened}
 use Rattle.qs_world_refine.specs.Tidy.{IsCrossed, is_settled}
 use Rattle.qs_world_refine.proofs.SoundParts.{and_both}
-use Rattle.qs_world_lawful.specs.Beside.{has_issued, is_committed_at, is_done}
-use Rattle.qs_world_lawful.specs.Lasting.{Lasts}
-use Rattle.qs_world_lawful.specs.Logged.{HoldsLogged}
-use Rattle.qs_world_lawful.specs.Logs.{Every}
-use Rattle.qs_world_lawful.specs.WorldLaws.{rise_entry}
-use Rattle.qs_world_lawful.specs.Worlds.{HoldsNodeOf}
+use Rattle.qs_world_lawful.specs.Beside.{is_done}
 use Rattle.qs_world_lawful.proofs.BesideParts.{same_issued}
-use Rattle.qs_world_lawful.proofs.CoherentOpenings.{opens_soundly}
 use Rattle.qs_world_lawful.proofs.FreshFace.{Fresh, IsOldLoan}
-use Rattle.qs_world_lawful.proofs.LastsAlways.{in_runs}
-use Rattle.qs_world_lawful.proofs.LastsOpening.{lasts_first, lasts_ran}
-use Rattle.qs_world_lawful.proofs.LastsWell.{LastsWell}
-use Rattle.qs_world_lawful.proofs.NumberedLogs.{opened_numbered, opening_named}
 use Rattle.qs_world_lawful.proofs.RestartGoes.{Goes, IsElsewhere}
 use Rattle.qs_world_lawful.proofs.RestoredFace.{fresh, old_loans}
 use Rattle.qs_world_lawful.proofs.RestoredTid.{open_aborted, was}
 use Rattle.qs_world_lawful.proofs.RisesWell as rises
-use Rattle.qs_world_lawful.proofs.RisesWhole.{rises_well}
-use Rattle.qs_world_lawful.proofs.Truths.{clash, of_some}
-use Rattle.qs_world_runs.specs.Joined.{HoldsRunning, Joined, book_in}
 use Rattle.qs_world_runs.specs.RiseLaws.{EachRisesRunning, rise_book}
 use Rattle.qs_world_runs.proofs.FreshBeside.{BeginsWell, running_held}
 use Rattle.qs_world_runs.proofs.JoinedFacts.{rises_facts}
 use Rattle.qs_world_runs.proofs.JoinedParts.{lawful_both}
 use Rattle.qs_world_runs.proofs.RisesBeside.{owners_kept}
-
-or_right : (a b : Bool) → b ≡ true → (a || b) ≡ true
-or_right true b e = refl
-or_right false b e = e
-
-or_left : (a b : Bool) → a ≡ true → (a || b) ≡ true
-or_left true b e = refl
-or_left false b e = absurd (cc e)
-
-or_split : (a b : Bool) → (a || b) ≡ true → (a ≡ true) ⊎ (b ≡ true)
-or_split true b e = inl refl
-or_split false b e = inr e
 
 -- ---- what is committed stays so for the clients of the home
 
@@ -86,7 +42,7 @@ module _ (tid : Tid) (here : NodeNo) (done : List Tid) where
       by None e = absurd (cc e)
       by (Some d) e = e
 
-  kept_closed : (labels : List KeptLabel) (os : List Decided) → Kept_at os → Kept_at (fold (close_outcome here done) os labels)
+  kept_closed : (labels : List Begun) (os : List Decided) → Kept_at os → Kept_at (fold (close_outcome here done) os labels)
   kept_closed [] os is = is
   kept_closed (b ∷ labels) os is = kept_closed labels (close_outcome here done os b) (of b.tid)
     where
@@ -100,7 +56,7 @@ module _ (tid : Tid) (here : NodeNo) (done : List Tid) where
 
 -- what a home knows as committed is kept so, or its log had the Commit as it opened
 pub known_committed : (node : NodeValue) (tid : Tid) → tid.home ≡ node.setting.node → IsCrossed node → is_committed_at node tid ≡ true → was_committed tid node ≡ true
-known_committed node tid home crossed is = of (or_split (was_committed tid node) (tm.told_of tid false (λ part. is_done part.outcome) node.manager) is)
+known_committed node tid home crossed is = of (or_cases (was_committed tid node) (tm.told_of tid false (λ part. is_done part.outcome) node.manager) is)
   where
     home_is : (rest : Bool) → (tid.home.0 == node.setting.node.0) ≡ true
     home_is rest = subst (λ (k : NodeNo). (k.0 == node.setting.node.0) ≡ true) (sym home) (grind (arith, nat_tests))
@@ -150,10 +106,7 @@ module _ (P : Opening → World → Type 0) (o : Opening) (world : World) (j : J
   same = rises.same_book before world n stamp inc lasts j.held may
 
   low : n < world.size
-  low = less n world.size (and_both (nat_lt n world.size) _ (and_both (nat_lt n world.size && _) _ (and_both (is_in_order world n stamp) _ (and_both (not (world.channels.up n)) _ may).1).0).0).0
-    where
-      less : (a b : ℕ) → nat_lt a b ≡ true → a < b
-      less a b e = grind (arith, nat_tests, e)
+  low = ltb-true n world.size (and_both (nat_lt n world.size) _ (and_both (nat_lt n world.size && _) _ (and_both (is_in_order world n stamp) _ (and_both (not (world.channels.up n)) _ may).1).0).0).0
 
   fresh_now : Fresh now setting.node setting.inc log
   fresh_now = fresh old.manager.alloc setting old.kept.saved before stamp log (rises.at before world n stamp inc lasts j.held may).state (rises.r before world n stamp inc lasts j.held may) (rises.kept_before before world n stamp inc lasts j.held may).loans
@@ -166,11 +119,8 @@ module _ (P : Opening → World → Type 0) (o : Opening) (world : World) (j : J
 
   -- what the machine has of the node and its log then
   its : HoldsNodeOf now world.size n inc true (risen_host stamp inc (recovered_of (world.hosts n).log) (world.hosts n))
-  its = subst (λ (b : Bool). HoldsNodeOf now world.size n (if b then inc else inc_of world n) (if b then true else world.channels.up n) (if b then risen_host stamp inc (recovered_of (world.hosts n).log) (world.hosts n) else world.hosts n)) (self n)
+  its = subst (λ (b : Bool). HoldsNodeOf now world.size n (if b then inc else inc_of world n) (if b then true else world.channels.up n) (if b then risen_host stamp inc (recovered_of (world.hosts n).log) (world.hosts n) else world.hosts n)) (eqb-self n)
       (subst (λ (b : BookValue). HoldsNodeOf b world.size n (inc_of (moved (Rise n stamp inc) world) n) ((moved (Rise n stamp inc) world).channels.up n) ((moved (Rise n stamp inc) world).hosts n)) same (rises.rises_own before world n stamp inc lasts j.held may).1)
-    where
-      self : (k : ℕ) → (k == k) ≡ true
-      self k = grind (arith, nat_tests)
 
   logged : HoldsLogged setting.node.0 now its.state log
   logged = subst (λ (k : ℕ). HoldsLogged k now its.state log) (sym its.node) (subst (λ (s : machine.NodeValue). HoldsLogged n now s log) (of_some (sym (its.runs refl).log.there ∙ its.there)) (its.runs refl).log.on_disk)
@@ -192,7 +142,7 @@ module _ (P : Opening → World → Type 0) (o : Opening) (world : World) (j : J
         less a b c e p = grind (arith, nat_tests, e, p)
 
     kept_on : was_committed tid old ≡ true → was_committed tid begins ≡ true
-    kept_on so = of (or_split (is_kept_commit (find (is_outcome_of tid) old.kept.now.outcomes)) (list_any (same_tid tid) old.committed) so)
+    kept_on so = of (or_cases (is_kept_commit (find (is_outcome_of tid) old.kept.now.outcomes)) (list_any (same_tid tid) old.committed) so)
       where
         of : (is_kept_commit (find (is_outcome_of tid) old.kept.now.outcomes) ≡ true) ⊎ (list_any (same_tid tid) old.committed ≡ true) → was_committed tid begins ≡ true
         of (inl kept) = or_left (is_kept_commit (find (is_outcome_of tid) begins.kept.now.outcomes)) _
@@ -206,10 +156,7 @@ module _ (P : Opening → World → Type 0) (o : Opening) (world : World) (j : J
         w = was before setting.node stamp setting.inc log (rises.at before world n stamp inc lasts j.held may).state (rises.r before world n stamp inc lasts j.held may) tid later found
 
         aborted : cell_of_transaction (Some later) ≡ Some cells.Abort → ⊥
-        aborted e = clash (sym (ap is_commit (cell_is later.cell cells.Abort e)) ∙ is)
-          where
-            cell_is : (a b : Cell) → Some a ≡ Some b → a ≡ b
-            cell_is a b e = of_some e
+        aborted e = clash (sym (ap is_commit (same_Some later.cell cells.Abort e)) ∙ is)
 
         undecided : is_open w.0.cell ≡ true → (b : Bool) → is_among log.committed tid ≡ b → was_committed tid begins ≡ true
         undecided open_now true among = or_right (is_kept_commit (find (is_outcome_of tid) begins.kept.now.outcomes)) _ among

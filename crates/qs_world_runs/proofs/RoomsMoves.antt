@@ -1,42 +1,17 @@
 -- Files of each node, and the votes in its log, have few changes: as a run begins, and after each move.
-use Rattle.std.proofs.Common.{◌≡◌, ℕ, ◌<◌, ◌==◌, ◌&&◌, not, arith, nat_lt, Bool, true, false, List, [], ◌∷◌, ◌++◌, fold, Option, Some, None, if◌then◌else◌}
-use Rattle.std.proofs.lemmas.Bool.Decides.{nat_tests}
-use Rattle.std.specs.Global.{Global}
-use Rattle.std.specs.List.{filter, list_all}
-use Rattle.std.specs.Prelude.{⊤}
-use Rattle.qs_base.specs.declared.identifiers.NodeNo.{NodeNo}
-use Rattle.qs_base.specs.declared.identifiers.Tid.{Tid}
-use Rattle.qs_book_journal.specs.declared.entry.CrashCause.{CrashCause}
-use Rattle.qs_node_kept.specs.Keeping.{no_kept}
+use Rattle.qs_world_runs.proofs.Words.{◌≡◌, ℕ, ◌<◌, ◌==◌, ◌&&◌, not, arith, nat_lt, Bool, true, false, List, [], ◌∷◌, ◌++◌, fold, Option, Some, None, if◌then◌else◌, nat_tests, Global, filter, list_all, ⊤, NodeNo, Tid, CrashCause, no_kept, after_keeping, is_logged, kept, Message, Record, Prepared, Recovery, found_record, mark_committed, nothing_said, recovery, ServersValue, recovered_of, begin_incarnation, settle, Work, work_on, after_step, effects_of, happen, step_work, Event, Setting, Cut}
+use Rattle.qs_world_runs.proofs.Words.{Meet, Move, Rise, Source, Step, Stop, cut_log, cut_with, event_of, is_later, log_after, may_move, may_step, moved, risen_host, step_with, stepped_host, stopped_host, waiting_after, IsOpening, is_earlier, is_record, Host, Opening, World, start, Every, every_of, every_on, every_append, every_filter, every_map, AreFew, HasRoom, IsOfRun, MayAsk, store_of, and_parts}
 use Rattle.qs_node_kept.specs.declared.kept.Kept as clients
-use Rattle.qs_ops.specs.Server.{after_keeping, is_logged}
 use Rattle.qs_ops.specs.Servers as servers
-use Rattle.qs_ops.specs.Table.{kept}
-use Rattle.qs_packet.specs.declared.message.Message.{Message}
 use Rattle.qs_packet.specs.declared.message.Message.TheVariants as messages
-use Rattle.qs_record.specs.declared.record.Record.{Record}
 use Rattle.qs_record.specs.declared.record.Record.TheVariants as records
-use Rattle.qs_restart.specs.Recovery.{Prepared, Recovery, found_record, is_in_doubt, is_of, is_vote_of, mark_committed, nothing_said, prepare_of, recovery, with_list}
-use Rattle.qs_node_servers.specs.Servers.{ServersValue}
-use Rattle.qs_node_step.specs.Opening.{keep_changes, opened_node, opened_servers, recovered_of}
-use Rattle.qs_node_step.specs.Restarts.{begin_incarnation}
-use Rattle.qs_node_step.specs.Settling.{settle}
-use Rattle.qs_node_step.specs.State.{NodeValue, Work, work_on}
-use Rattle.qs_node_step.specs.Step.{after_step, effects_of, happen, step_work}
-use Rattle.qs_node_step.specs.declared.event.Event.{Event}
+use Rattle.qs_restart.specs.Recovery.{is_in_doubt, is_of, is_vote_of, prepare_of, with_list}
+use Rattle.qs_node_step.specs.Opening.{keep_changes, opened_node, opened_servers}
+use Rattle.qs_node_step.specs.State.{NodeValue}
 use Rattle.qs_node_step.specs.declared.event.Event.TheVariants as events
-use Rattle.qs_node_step.specs.declared.setting.Setting.{Setting}
 use Rattle.qs_world.proofs.Below.{each_is}
-use Rattle.qs_world.specs.Moves.{Cut, Meet, Move, Rise, Source, Step, Stop, cut_log, cut_with, event_of, is_in_order, is_later, log_after, may_move, may_step, moved, risen_host, step_with, stepped_host, stopped_host, waiting_after}
-use Rattle.qs_world.specs.Openings.{IsOpening, is_earlier, is_record}
-use Rattle.qs_world.specs.World.{Host, Opening, World, start}
-use Rattle.qs_world_lawful.specs.Logs.{Every}
-use Rattle.qs_world_lawful.proofs.CoherentOpenings.{every_of}
-use Rattle.qs_world_lawful.proofs.LogFrames.{every_on}
-use Rattle.qs_world_lawful.proofs.LogRecords.{every_append, every_filter, every_map}
-use Rattle.qs_world_runs.specs.Rooms.{AreFew, HasRoom, HostHasRoom, IsFewVote, IsOfRun, RoomsAt}
-use Rattle.qs_world_runs.specs.Stores.{MayAsk, store_of}
-use Rattle.qs_world_runs.proofs.DueParts.{both_and}
+use Rattle.qs_world.specs.Moves.{is_in_order}
+use Rattle.qs_world_runs.specs.Rooms.{HostHasRoom, IsFewVote, RoomsAt}
 use Rattle.qs_world_runs.proofs.FewShares.{FewAt, files_changed, kept_few}
 use Rattle.qs_world_runs.proofs.RoomsStep.{room_kept}
 use Rattle.qs_world_runs.proofs.StoreStages.{answers_keep, happens_keep, settle_keeps}
@@ -152,7 +127,7 @@ pub rooms_start : (o : Opening) → IsOpening o → RoomsAt o (start o)
 rooms_start o opens n low = record { shares = opened_few (IsOfRun o) o.alloc (o.settings n) (o.logs n) no_kept few; logged = few; waits = tt }
   where
     of_record : (rec : Record) → is_record o n rec ≡ true → IsFewVote (IsOfRun o) rec
-    of_record (records.Prepare tid server covers changes) is = λ at here. absurd (cc ((both_and (is_earlier o tid) _ is).0, at))
+    of_record (records.Prepare tid server covers changes) is = λ at here. absurd (cc ((and_parts (is_earlier o tid) _ is).0, at))
     of_record (records.Commit tid told) is = tt
     of_record (records.Aborted tid) is = tt
     of_record (records.End tid) is = tt
@@ -174,10 +149,10 @@ module _ (o : Opening) (world : World) (r : RoomsAt o world) where
       by false = r k low
 
   low_of : (n stamp : ℕ) → is_in_order world n stamp ≡ true → n < world.size
-  low_of n stamp is = let low : nat_lt n world.size ≡ true = (both_and (nat_lt n world.size) _ (both_and (nat_lt n world.size && _) _ is).0).0 in grind (arith, nat_tests, low)
+  low_of n stamp is = let low : nat_lt n world.size ≡ true = (and_parts (nat_lt n world.size) _ (and_parts (nat_lt n world.size && _) _ is).0).0 in grind (arith, nat_tests, low)
 
   later_low : (n stamp : ℕ) → is_later world n stamp ≡ true → n < world.size
-  later_low n stamp is = low_of n stamp (both_and (is_in_order world n stamp) _ is).0
+  later_low n stamp is = low_of n stamp (and_parts (is_in_order world n stamp) _ is).0
 
   step_rooms : (n stamp free : ℕ) (source : Source) → n < world.size → RoomsAt o (moved (Step n stamp free source) world)
   step_rooms n stamp free source low = by (event_of world n stamp source)
@@ -207,11 +182,11 @@ module _ (o : Opening) (world : World) (r : RoomsAt o world) where
   meet_rooms n stamp m inc low = at_one n (record (world.hosts n) { stamp = stamp }) (record { shares = (r n low).shares; logged = (r n low).logged; waits = (r n low).waits })
 
   step_low : (n stamp : ℕ) (source : Source) → may_step world n stamp source ≡ true → n < world.size
-  step_low n stamp source may = later_low n stamp (both_and (is_later world n stamp) _ (both_and (world.channels.up n) _ may).1).0
+  step_low n stamp source may = later_low n stamp (and_parts (is_later world n stamp) _ (and_parts (world.channels.up n) _ may).1).0
 
   pub rooms_moved : (move : Move) → may_move world move ≡ true → RoomsAt o (moved move world)
   rooms_moved (Step n stamp free source) may = step_rooms n stamp free source (step_low n stamp source may)
-  rooms_moved (Cut n stamp free source is_kept cause) may = cut_rooms n stamp free source is_kept cause (step_low n stamp source (both_and (may_step world n stamp source) _ may).0)
-  rooms_moved (Stop n stamp cause) may = let low = low_of n stamp (both_and (is_in_order world n stamp) _ (both_and (world.channels.up n) _ may).1).0 in stopped_room n stamp (world.hosts n).log low (r n low).logged
-  rooms_moved (Rise n stamp inc) may = rise_rooms n stamp inc (low_of n stamp (both_and (is_in_order world n stamp) _ (both_and (not (world.channels.up n)) _ may).1).0)
-  rooms_moved (Meet n stamp m inc) may = meet_rooms n stamp m inc (later_low n stamp (both_and (is_later world n stamp) _ (both_and (world.channels.up n) _ may).1).0)
+  rooms_moved (Cut n stamp free source is_kept cause) may = cut_rooms n stamp free source is_kept cause (step_low n stamp source (and_parts (may_step world n stamp source) _ may).0)
+  rooms_moved (Stop n stamp cause) may = let low = low_of n stamp (and_parts (is_in_order world n stamp) _ (and_parts (world.channels.up n) _ may).1).0 in stopped_room n stamp (world.hosts n).log low (r n low).logged
+  rooms_moved (Rise n stamp inc) may = rise_rooms n stamp inc (low_of n stamp (and_parts (is_in_order world n stamp) _ (and_parts (not (world.channels.up n)) _ may).1).0)
+  rooms_moved (Meet n stamp m inc) may = meet_rooms n stamp m inc (later_low n stamp (and_parts (is_later world n stamp) _ (and_parts (world.channels.up n) _ may).1).0)

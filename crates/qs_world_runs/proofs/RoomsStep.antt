@@ -1,30 +1,12 @@
 -- A step keeps few changes at files, and few in its votes; and it leaves commit asked for of none but those of which it may be.
-use Rattle.std.proofs.Common.{◌≡◌, ◌⊎◌, inl, inr, ℕ, ◌+◌, ◌≤◌, ◌<◌, ◌^◌, ◌==◌, arith, Bool, true, false, [], ◌∷◌, Option, Some, None, refl, sym, subst, ◌∙◌, length, if◌then◌else◌}
-use Rattle.std.specs.BTreeMap.{is_at}
-use Rattle.std.specs.Map.{lookup, set_value}
-use Rattle.std.specs.Prelude.{⊤}
-use Rattle.qs_base.proofs.TidOrder.{tid_exact}
-use Rattle.qs_base.specs.Order.{tid_cmp}
-use Rattle.qs_base.specs.declared.identifiers.ServerNo.{ServerNo}
-use Rattle.qs_base.specs.declared.identifiers.Tid.{Tid}
-use Rattle.qs_book_laws.proofs.Alikes.{at_exact}
-use Rattle.qs_ops.specs.Server.{ServerValue, after_notice, after_serving, after_vote, changes_in, reply_of}
+use Rattle.qs_world_runs.proofs.Words.{◌≡◌, ◌⊎◌, inl, inr, ℕ, ◌+◌, ◌≤◌, ◌<◌, ◌^◌, ◌==◌, arith, Bool, true, false, [], ◌∷◌, Option, Some, None, refl, sym, subst, ◌∙◌, length, if◌then◌else◌, is_at, lookup, set_value, ⊤, tid_exact, tid_cmp, ServerNo, Tid, at_exact, ServerValue, after_notice, after_serving, after_vote, changes_in, reply_of, Record, ServersValue, server_at, tid_of, aborted_participant, new_participant, Manager, Participant, Every, every_append, AreFew, HasRoom, IsKeptStore}
+use Rattle.qs_world_runs.proofs.Words.{IsNoVote, Store}
 use Rattle.qs_ops.specs.Servers as servers
-use Rattle.qs_record.specs.declared.record.Record.{Record}
 use Rattle.qs_record.specs.declared.record.Record.TheVariants as records
-use Rattle.qs_node_servers.specs.Servers.{ServersValue, server_at}
-use Rattle.qs_node_step.specs.Bringing.{tid_of}
 use Rattle.qs_tm.specs.Manager as tm
 use Rattle.qs_tm.specs.Outcomes as outcome_rules
-use Rattle.qs_tm.specs.Outcomes.{aborted_participant}
 use Rattle.qs_tm.specs.Participant as participant
-use Rattle.qs_tm.specs.Participant.{new_participant}
-use Rattle.qs_tm.specs.declared.manager.Manager.{Manager}
-use Rattle.qs_tm.specs.declared.participant.Participant.{Participant}
-use Rattle.qs_world_lawful.specs.Logs.{Every}
-use Rattle.qs_world_lawful.proofs.LogRecords.{every_append}
-use Rattle.qs_world_runs.specs.Rooms.{AreAsked, AreFew, HasRoom, IsAskedOf, IsFewVote}
-use Rattle.qs_world_runs.specs.Stores.{IsKeptStore, IsNoVote, Store}
+use Rattle.qs_world_runs.specs.Rooms.{AreAsked, IsAskedOf, IsFewVote}
 use Rattle.qs_world_runs.proofs.FewShares.{FewAt, each_left, each_put, each_set, few_share, files_changed, notice_few, serving_few, voting_few}
 
 -- ---- changes

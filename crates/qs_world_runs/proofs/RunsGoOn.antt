@@ -1,27 +1,13 @@
 -- What goes on along a run: as it begins, through each step and through what happens between steps; and what it gives a step.
-use Rattle.std.proofs.Common.{◌≡◌, ◌++◌, ℕ, Some}
-use Rattle.std.specs.Prelude.{slice_get}
+use Rattle.qs_world_runs.proofs.Words.{◌≡◌, ◌++◌, ℕ, Some, slice_get, Record, Recovery, recovery, effects_of, Event, Source, Opening, World, Every, every_two, step_may, AlongRun, EachIssueWaits, MakesStep, Joined, book_in, IsBetweenSteps, WholeSteps, entries_in, PlacesAt}
 use Rattle.qs_book_machine.specs.Lawful.{IsLawful}
 use Rattle.qs_book_machine.specs.Nodes as machine
-use Rattle.qs_record.specs.declared.record.Record.{Record}
 use Rattle.qs_record.specs.declared.record.Record.TheVariants as made
-use Rattle.qs_restart.specs.Recovery.{Recovery, recovery}
 use Rattle.qs_node_step.specs.State.{NodeValue}
-use Rattle.qs_node_step.specs.Step.{effects_of}
-use Rattle.qs_node_step.specs.declared.event.Event.{Event}
-use Rattle.qs_world.specs.Moves.{Source}
-use Rattle.qs_world.specs.World.{Opening, World}
-use Rattle.qs_world_lawful.specs.Logs.{Every}
-use Rattle.qs_world_lawful.proofs.FoundMembers.{every_two}
-use Rattle.qs_world_refine.proofs.MoveGoes.{step_may}
-use Rattle.qs_world_runs.specs.AlongRun.{AlongRun}
-use Rattle.qs_world_runs.specs.Awaiting.{EachIssueWaits, EachReplyTrue}
-use Rattle.qs_world_runs.specs.Agrees.{MakesStep}
+use Rattle.qs_world_runs.specs.Awaiting.{EachReplyTrue}
 use Rattle.qs_world_runs.specs.CoversAhead.{IsBeyondVote}
 use Rattle.qs_world_runs.specs.CutBatches.{IsVoteOfStart}
-use Rattle.qs_world_runs.specs.Joined.{Joined, book_in}
-use Rattle.qs_world_runs.specs.JoinedLaws.{IsBetweenSteps, IsStep, Keeps, Opens, WholeSteps, entries_in}
-use Rattle.qs_world_runs.specs.JoinedPlaces.{PlacesAt}
+use Rattle.qs_world_runs.specs.JoinedLaws.{IsStep, Keeps, Opens}
 use Rattle.qs_world_runs.specs.OnRecord.{IsFreshVote}
 use Rattle.qs_world_runs.specs.PlacesLaws.{PlacesGoOn}
 use Rattle.qs_world_runs.specs.VotesSame.{IsVoteSame}

@@ -1,32 +1,17 @@
 -- A commit that is told to a node comes from its home, a node of the run; and where the node waits for the outcome of a vote of its own, its log has the vote in doubt as the message comes.
-use Rattle.std.proofs.Common.{◌≡◌, ℕ, ◌+◌, ◌++◌, true, List, length, Option, Some, None, zero, suc, refl, sym, ap, subst, ◌∙◌, append_assoc, fold, nat_lt}
-use Rattle.std.proofs.lemmas.List.Sums.{fold-append}
-use Rattle.std.specs.List.{list_any}
+use Rattle.qs_world_runs.proofs.Words.{◌≡◌, ℕ, ◌+◌, ◌++◌, true, List, length, Option, Some, None, zero, suc, refl, sym, ap, subst, ◌∙◌, append_assoc, fold, nat_lt, fold-append, list_any, Tid, Message, Record, Recovery, found_record, names_transaction, nothing_said, recovery, work_on, Event, InLog, Participant, opened_from, Clock, Commanded, Handed, Noticed, Queues, Source, event_of, Opening, World, from_client, from_node, from_notice, StepMay, step_may, IsShownWorld, first_work, MakesStep}
+use Rattle.qs_world_runs.proofs.Words.{same_Some}
 use Rattle.qs_base.specs.declared.identifiers.Outcome.TheVariants as outcomes
-use Rattle.qs_base.specs.declared.identifiers.Tid.{Tid}
-use Rattle.qs_packet.specs.declared.message.Message.{Message}
 use Rattle.qs_packet.specs.declared.message.Message.TheVariants as messages
-use Rattle.qs_record.specs.declared.record.Record.{Record}
-use Rattle.qs_restart.specs.Recovery.{Recovery, found_record, names_transaction, nothing_said, recovery}
-use Rattle.qs_node_step.specs.State.{NodeValue, part_of, work_on}
-use Rattle.qs_node_step.specs.declared.event.Event.{Event}
+use Rattle.qs_node_step.specs.State.{NodeValue, part_of}
 use Rattle.qs_node_step.specs.declared.event.Event.TheVariants as events
-use Rattle.qs_tm.specs.declared.participant.InLog.{InLog}
-use Rattle.qs_tm.specs.declared.participant.Participant.{Participant}
-use Rattle.qs_world.specs.Histories.{opened_from}
-use Rattle.qs_world.specs.Moves.{Clock, Commanded, Handed, Noticed, Queues, Source, event_of}
-use Rattle.qs_world.specs.World.{Opening, World}
-use Rattle.qs_world_refine.proofs.EachMay.{from_client, from_node, from_notice, is_fit}
-use Rattle.qs_world_refine.proofs.MoveGoes.{StepMay, step_may}
+use Rattle.qs_world_refine.proofs.EachMay.{is_fit}
 use Rattle.qs_world_refine.proofs.SaysSeen.{said_seen}
 use Rattle.qs_world_refine.proofs.SaysSettles.{begin_incarnation_on}
 use Rattle.qs_world_refine.proofs.SoundParts.{and_both}
 use Rattle.qs_world_refine.specs.SaidLaws.{AreSaid, IsSoundOver, SaysOn, no_flags}
-use Rattle.qs_world_refine.specs.ShownWorlds.{IsShownWorld}
 use Rattle.qs_world_refine.specs.Steady.{is_fit_message, is_of_run}
-use Rattle.qs_world_lawful.specs.GivenStep.{first_work}
 use Rattle.qs_world_lawful.specs.SayingSteps.{IsToldSo, TellsSo, is_doubt_of}
-use Rattle.qs_world_runs.specs.Agrees.{MakesStep}
 use Rattle.qs_world_runs.proofs.AgreesEach.{steady}
 
 pub opened_length : (o : Opening) (k more : ℕ) → length (opened_from o k more) ≡ more
@@ -72,9 +57,6 @@ module _ (o : Opening) (world : World) (is : IsShownWorld world) (size : world.s
   pub tells_so : Tells event
   tells_so = by source makes.comes
     where
-      one : (a b : Event) → Some a ≡ Some b → a ≡ b
-      one a b same = cc same
-
       message : (m : ℕ) (x : Message) → ((tid : Tid) → x ≡ messages.Tell tid outcomes.Commit → nat_lt tid.home.0 world.size ≡ true) → Tells (events.Received (record { 0 = m }) x)
       message m (messages.Tell tid outcomes.Commit) home = told_so tid (home tid refl)
       message m (messages.Tell tid outcomes.Abort) home = tt
@@ -97,6 +79,6 @@ module _ (o : Opening) (world : World) (is : IsShownWorld world) (size : world.s
         where
           home_in : (tid : Tid) → is_fit_message world.size m n (messages.Tell tid outcomes.Commit) ≡ true → nat_lt tid.home.0 world.size ≡ true
           home_in tid fit = (and_both (names_transaction tid) _ (and_both (is_of_run world.size tid) _ fit).0).1
-      by Queues comes = subst Tells (one events.ServeAll event comes) tt
-      by Clock comes = subst Tells (one events.Tick event comes) tt
+      by Queues comes = subst Tells (same_Some events.ServeAll event comes) tt
+      by Clock comes = subst Tells (same_Some events.Tick event comes) tt
       by (Noticed m new) comes = let from = from_notice world n stamp m new event comes in subst Tells (sym from.is) tt

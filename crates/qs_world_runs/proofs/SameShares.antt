@@ -1,28 +1,12 @@
 -- What a vote or a notice makes of what a server whose changes a log keeps has pending: of each transaction it is as it was, or nothing.
-use Rattle.std.proofs.Common.{◌≡◌, ◌⊎◌, inl, inr, ◌==◌, Bool, true, false, [], refl, sym, ap, subst, if◌then◌else◌}
-use Rattle.std.specs.BTreeMap.{is_at}
-use Rattle.qs_base.proofs.TidOrder.{tid_total}
-use Rattle.qs_base.specs.Order.{tid_cmp}
-use Rattle.qs_base.specs.declared.identifiers.ServerNo.{ServerNo}
-use Rattle.qs_base.specs.declared.identifiers.Tid.{Tid}
-use Rattle.qs_book_laws.proofs.Alikes.{tid_itself}
+use Rattle.qs_world_runs.proofs.Words.{◌≡◌, ◌⊎◌, inl, inr, ◌==◌, Bool, true, false, [], refl, sym, ap, subst, if◌then◌else◌, is_at, tid_total, tid_cmp, ServerNo, Tid, tid_itself, IsRising, put_rises, remove_rises, is_empty, ServerValue, after_notice, after_serving, after_vote, changes_in, is_logged, noted_by, noted_in, served_by, voted_by, voted_in, TableValue, after_serve, applied, released, share_of, Op, Reply, ServerKind, Share, Notice, Vote, ServersValue, server_at, with_server, same_or_apart}
 use Rattle.qs_book_laws.proofs.Maps.{lookup_put}
-use Rattle.qs_book_laws.proofs.Rising.{IsRising, put_rises, remove_rises}
-use Rattle.qs_book_machine.specs.Transaction.{is_empty}
-use Rattle.qs_ops.specs.Server.{ServerValue, after_notice, after_serving, after_vote, changes_in, is_logged, noted_by, noted_in, served_by, voted_by, voted_in}
 use Rattle.qs_ops.specs.Servers as numbers
-use Rattle.qs_ops.specs.Table.{TableValue, after_serve, applied, released, served, share_of, with_share}
-use Rattle.qs_ops.specs.declared.operation.Op.{Op}
-use Rattle.qs_ops.specs.declared.reply.Reply.{Reply}
-use Rattle.qs_ops.specs.declared.server.ServerKind.{ServerKind}
+use Rattle.qs_ops.specs.Table.{served, with_share}
 use Rattle.qs_ops.specs.declared.server.ServerKind.TheVariants as kinds
-use Rattle.qs_ops.specs.declared.share.Share.{Share}
-use Rattle.qs_ops.specs.declared.vote.Notice.{Notice}
 use Rattle.qs_ops.specs.declared.vote.Notice.TheVariants as notices
-use Rattle.qs_ops.specs.declared.vote.Vote.{Vote}
 use Rattle.qs_ops.specs.declared.vote.Vote.TheVariants as votes
-use Rattle.qs_node_servers.specs.Servers.{ServersValue, server_at, with_server}
-use Rattle.qs_world_lawful.proofs.Apart.{Apart, same_or_apart}
+use Rattle.qs_world_lawful.proofs.Apart.{Apart}
 use Rattle.qs_world_lawful.proofs.OtherShares.{share_noted, share_put, share_voted}
 use Rattle.qs_world_lawful.proofs.Pending.{gone}
 

@@ -1,38 +1,16 @@
 -- Each vote that a step puts on record is of what its server had pending as the step began: a server that serves a request of a transaction in the step casts
 -- no vote on it then, and by a vote or a notice all that is pending stays, or nothing is left to vote on.
-use Rattle.std.proofs.Common.{◌≡◌, ◌⊎◌, inl, inr, ℕ, ◌==◌, ◌||◌, Bool, true, false, List, [], ◌∷◌, ◌++◌, Option, refl, sym, ap, subst, ◌∙◌, if◌then◌else◌}
-use Rattle.std.specs.BTreeMap.{is_at}
-use Rattle.std.specs.Prelude.{unwrap_or}
-use Rattle.qs_base.proofs.TidOrder.{tid_exact}
-use Rattle.qs_base.specs.Order.{tid_cmp}
-use Rattle.qs_base.specs.declared.identifiers.ServerNo.{ServerNo}
-use Rattle.qs_base.specs.declared.identifiers.Tid.{Tid}
-use Rattle.qs_book_laws.proofs.Alikes.{tid_itself}
+use Rattle.qs_world_runs.proofs.Words.{◌≡◌, ◌⊎◌, inl, inr, ℕ, ◌==◌, Bool, true, false, List, [], ◌∷◌, ◌++◌, Option, refl, sym, ap, subst, ◌∙◌, if◌then◌else◌, is_at, unwrap_or, tid_exact, or-true, tid_cmp, ServerNo, Tid, tid_itself, IsRising, is_empty, ServerValue, after_notice, after_serving, after_vote, changes_in, is_logged, ticked, Op, Kind, Record, ServersValue, server_at, with_server, is_put_off, no_doings, work_on, Doings, Opening, World, Every, HoldsStill, same_or_apart, every_append}
+use Rattle.qs_world_runs.proofs.Words.{StepMay, step_may, book_in, IsKeptStock, Stock, stock_of, IsNoVote}
 use Rattle.qs_book_laws.proofs.Maps.{lookup_put, lookup_put_apart}
-use Rattle.qs_book_laws.proofs.Rising.{IsRising}
-use Rattle.qs_book_machine.specs.Transaction.{is_empty}
-use Rattle.qs_ops.specs.Server.{ServerValue, after_notice, after_serving, after_vote, changes_in, is_logged}
 use Rattle.qs_ops.specs.Servers as numbers
-use Rattle.qs_ops.specs.Timers.{ticked}
-use Rattle.qs_ops.specs.declared.operation.Op.{Op}
-use Rattle.qs_ops.specs.declared.server.ServerKind.{ServerKind}
-use Rattle.qs_record.specs.declared.record.Record.{Record}
 use Rattle.qs_record.specs.declared.record.Record.TheVariants as records
-use Rattle.qs_node_servers.specs.Servers.{ServersValue, server_at, timers_no, with_server}
-use Rattle.qs_node_step.specs.Settling.{is_put_off}
-use Rattle.qs_node_step.specs.State.{NodeValue, no_doings, work_on}
-use Rattle.qs_node_step.specs.declared.state.Doings.{Doings}
-use Rattle.qs_world.specs.World.{Opening, World}
-use Rattle.qs_world_lawful.specs.Logs.{Every}
-use Rattle.qs_world_lawful.specs.Holds.{HoldsStill}
+use Rattle.qs_node_servers.specs.Servers.{timers_no}
+use Rattle.qs_node_step.specs.State.{NodeValue}
 use Rattle.qs_world_lawful.specs.Tables.{HoldsKinds, HoldsServers, is_seen}
-use Rattle.qs_world_lawful.proofs.Apart.{Apart, same_or_apart}
-use Rattle.qs_world_lawful.proofs.LogRecords.{every_append}
-use Rattle.qs_world_refine.proofs.MoveGoes.{StepMay, step_may}
+use Rattle.qs_world_lawful.proofs.Apart.{Apart}
 use Rattle.qs_world_refine.proofs.ServerKinds.{notice_kind, serving_kind, vote_kind}
-use Rattle.qs_world_runs.specs.Joined.{book_in}
-use Rattle.qs_world_runs.specs.Stocks.{IsKeptStock, KeepsOff, Stock, doings_in, noted, stock_of}
-use Rattle.qs_world_runs.specs.Stores.{IsNoVote}
+use Rattle.qs_world_runs.specs.Stocks.{KeepsOff, doings_in, noted}
 use Rattle.qs_world_runs.specs.VotesSame.{EachVoteSame, IsVoteSame}
 use Rattle.qs_world_runs.proofs.SameShares.{StaysAt, either_at, notice_at, serving_at, vote_at}
 use Rattle.qs_world_runs.proofs.StockStages.{step_stocked}
@@ -58,11 +36,7 @@ due_before s tid f keeps t due = either (same_or_apart tid t)
 
 -- what was served puts a vote off
 put_off : (doings : Doings) → is_put_off (record doings { served = true }) ≡ true
-put_off doings = by doings.asked
-  where
-    by : (a : Bool) → (a || true) ≡ true
-    by true = refl
-    by false = refl
+put_off doings = or-true doings.asked
 
 never_due : (s : Stock) (tid : Tid) → IsDue (noted tid (λ doings. record doings { served = true }) s) tid → ⊥
 never_due s tid due = let off : is_put_off (doings_in tid (noted tid (λ doings. record doings { served = true }) s)) ≡ true = ap is_put_off (noted_is s tid (λ doings. record doings { served = true })) ∙ put_off (doings_in tid s) in cc (off, due)
@@ -151,7 +125,7 @@ module _ (node : NodeValue) where
     votes = tt;
   }
     where
-      other : (kind its : ServerKind) → kind ≡ its → is_logged its ≡ false → is_logged kind ≡ true → ⊥
+      other : (kind its : Kind) → kind ≡ its → is_logged its ≡ false → is_logged kind ≡ true → ⊥
       other kind its is none logged = let off : is_logged kind ≡ false = ap is_logged is ∙ none in cc (off, logged)
 
       rising : (server : ServerNo) → is_logged (server_at node.servers server).kind ≡ true → IsRising tid_cmp (server_at node.servers server).table.shares

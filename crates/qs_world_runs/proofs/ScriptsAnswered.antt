@@ -1,24 +1,11 @@
 -- The script of a client through the entries of a step: where it is answered its first line is behind it, and what is left of it stands on.
-use Rattle.std.proofs.Common.{◌≡◌, ℕ, ◌≤◌, ◌==◌, ◌&&◌, Bool, true, false, List, [], ◌∷◌, Some, refl, sym, ap, subst, ◌∙◌, arith, nat_lt}
-use Rattle.std.proofs.lemmas.Bool.{eqb-true}
-use Rattle.std.proofs.lemmas.Bool.Decides.{nat_tests}
-use Rattle.std.specs.Prelude.{slice_get, ⊤}
-use Rattle.qs_book_journal.specs.declared.entry.Act.{Act}
+use Rattle.qs_world_runs.proofs.Words.{◌≡◌, ℕ, ◌≤◌, ◌==◌, Bool, true, false, List, [], ◌∷◌, Some, refl, sym, ap, subst, ◌∙◌, arith, nat_lt, le_refl, eqb-true, eqb-false, and_from, nat_tests, slice_get, ⊤, Act, ScriptLine, changed_at_here, BookValue, book_after, effect, Owner, are_rising, entries_of, entry_of, IsOfStep, Every, left_true, right_true}
 use Rattle.qs_book_journal.specs.declared.entry.Act.TheVariants as acts
-use Rattle.qs_book_journal.specs.declared.script_line.ScriptLine.{ScriptLine}
-use Rattle.qs_book_laws.proofs.Maps.{changed_at_here}
-use Rattle.qs_book_machine.specs.Book.{BookValue, changed_at, waiting_of, with_owner}
-use Rattle.qs_book_machine.specs.Lawful.{book_after, effect}
-use Rattle.qs_book_machine.specs.declared.state.Owner.{Owner}
-use Rattle.qs_world.specs.Openings.{are_rising}
-use Rattle.qs_world.specs.Posting.{entries_of, entry_of}
-use Rattle.qs_world_lawful.specs.Aside.{IsOfStep}
-use Rattle.qs_world_lawful.specs.Logs.{Every}
+use Rattle.qs_book_machine.specs.Book.{changed_at, waiting_of, with_owner}
 use Rattle.qs_world_lawful.specs.Scripts.{AreBehind, IsFresh}
 use Rattle.qs_world_lawful.specs.WayLaws.{BeginsNone}
 use Rattle.qs_world_lawful.proofs.AsideActs.{IsAnsweredBy, owners_keep}
 use Rattle.qs_world_lawful.proofs.Quiet.{heard_owners}
-use Rattle.qs_world_lawful.proofs.Truths.{left_true, right_true}
 use Rattle.qs_world_lawful.proofs.OtherScripts.{fresh_on}
 
 -- an act that answers the client answers this line of it
@@ -40,9 +27,6 @@ pub record IsPast (book : BookValue) (k line : ℕ) (labels : List (List ℕ)) :
   pub fresh : Every (IsFresh book) labels
 
 module _ (n stamp k line : ℕ) (labels : List (List ℕ)) where
-  itself : (m : ℕ) → m ≤ m
-  itself m = grind (arith)
-
   one_passed : (book : BookValue) (act : Act) → Passes k line labels act → IsPast book k line labels → IsPast (effect book (entry_of n stamp act)) k line labels
   one_passed book act p past = by act p.of_step p.answers (fresh_on stamp n act p.of_step labels p.begins book past.fresh)
     where
@@ -58,16 +42,13 @@ module _ (n stamp k line : ℕ) (labels : List (List ℕ)) where
           f : Owner → Owner
           f owner = record owner { line = l; waiting = [] }
 
-          other : (a b : ℕ) → (a == b) ≡ false → a ≡ b → ⊥
-          other a b off same = let on : (a == b) ≡ true = grind (arith, nat_tests, same) in let both : true ≡ false = sym on ∙ off in cc (both)
-
           of : (b : Bool) → (client.0 == k) ≡ b → IsPast (effect book (entry_of n stamp (acts.Answer client l said))) k line labels
-          of false far = stays (acts.Answer client l said) of_step (other client.0 k far) fresh
+          of false far = stays (acts.Answer client l said) of_step (eqb-false client.0 k far) fresh
           of true near = record {
             owner = f past.owner;
             there = ap (λ (os : List Owner). slice_get os k) (heard_owners (waiting_of (slice_get book.owners client.0)) (with_owner client.0 f book))
                 ∙ subst (λ (c : ℕ). slice_get (changed_at c f book.owners) k ≡ Some (f past.owner)) (sym (eqb-true client.0 k near)) (changed_at_here f book.owners k past.owner past.there);
-            most = subst (λ (m : ℕ). l ≤ m) (answers (eqb-true client.0 k near)) (itself l);
+            most = subst (λ (m : ℕ). l ≤ m) (answers (eqb-true client.0 k near)) (le_refl l);
             fresh = fresh;
           }
       by (acts.Restart inc pend done) of_step answers fresh = absurd of_step
@@ -101,10 +82,7 @@ behind_past book k line rest labels rise past = record { owner = past.owner; the
   where
     of : (rest : List ScriptLine) → are_rising line rest ≡ true → are_rising past.owner.line rest ≡ true
     of [] rise = refl
-    of (l ∷ more) rise = both (nat_lt past.owner.line l.line) (are_rising l.line more) (later past.owner.line line l.line past.most (left_true (nat_lt line l.line) (are_rising l.line more) rise)) (right_true (nat_lt line l.line) (are_rising l.line more) rise)
+    of (l ∷ more) rise = and_from (nat_lt past.owner.line l.line) (are_rising l.line more) (later past.owner.line line l.line past.most (left_true (nat_lt line l.line) (are_rising l.line more) rise)) (right_true (nat_lt line l.line) (are_rising l.line more) rise)
       where
         later : (a b c : ℕ) → a ≤ b → nat_lt b c ≡ true → nat_lt a c ≡ true
         later a b c low less = grind (arith, nat_tests, low, less)
-
-        both : (a b : Bool) → a ≡ true → b ≡ true → (a && b) ≡ true
-        both a b p q = rw (p, q) refl

@@ -1,29 +1,11 @@
 -- Which server an operation is for: one of a node, or the client that it lends to; and what is served lawfully stood.
-use Rattle.std.proofs.Common.{◌≡◌, ℕ, ◌==◌, Bool, true, false, Option, Some, None, refl, sym, subst, ap, arith, if◌then◌else◌}
-use Rattle.std.proofs.lemmas.Bool.{eqb-true}
-use Rattle.std.proofs.lemmas.Bool.Decides.{nat_tests}
-use Rattle.std.specs.Prelude.{is_some, nat_lt}
-use Rattle.qs_base.specs.declared.identifiers.ClientNo.{ClientNo}
-use Rattle.qs_base.specs.declared.identifiers.Member.{Member}
-use Rattle.qs_base.specs.declared.identifiers.NodeNo.{NodeNo}
-use Rattle.qs_base.specs.declared.identifiers.ServerNo.{ServerNo}
-use Rattle.qs_base.specs.declared.identifiers.Tid.{Tid}
+use Rattle.qs_world_runs.proofs.Words.{◌≡◌, ℕ, ◌==◌, Bool, true, false, Option, Some, None, refl, sym, subst, ap, arith, if◌then◌else◌, eqb-true, nat_tests, is_some, nat_lt, ClientNo, Member, NodeNo, ServerNo, Tid, held, BookValue, find_transaction, broken, TransactionValue, standing_request, Request, client_no, extra_no, names_no, Op, Reply, lent_to, entry_of, Actor, actor, same_Some}
 use Rattle.qs_ipc.specs.Queue.{is_for}
 use Rattle.qs_book_journal.specs.declared.entry.Act.TheVariants as acts
-use Rattle.qs_book_laws.proofs.Steps.{held}
-use Rattle.qs_book_machine.specs.Book.{BookValue, find_transaction}
 use Rattle.qs_book_machine.specs.Clauses.{broken_request, broken_serve, request_here}
-use Rattle.qs_book_machine.specs.Lawful.{broken}
 use Rattle.qs_book_machine.specs.Nodes as machine
-use Rattle.qs_book_machine.specs.Transaction.{TransactionValue, standing_request}
-use Rattle.qs_book_machine.specs.declared.transaction.Request.{Request}
-use Rattle.qs_ops.specs.Servers.{audit_no, client_no, extra_no, names_no, scratch_no, timers_no, windows_no}
-use Rattle.qs_ops.specs.declared.operation.Op.{Op}
+use Rattle.qs_ops.specs.Servers.{audit_no, scratch_no, timers_no, windows_no}
 use Rattle.qs_ops.specs.declared.operation.Op.TheVariants as ops
-use Rattle.qs_ops.specs.declared.reply.Reply.{Reply}
-use Rattle.qs_node_step.specs.Serving.{lent_to}
-use Rattle.qs_world.specs.Posting.{entry_of}
-use Rattle.qs_world_lawful.proofs.EntryTurns.{Actor, actor}
 
 -- a server of a node, or the client that is lent to
 abbrev pub Kind : Option ClientNo → ServerNo → Type 0
@@ -69,11 +51,8 @@ served_stands book n stamp tid member from number reply h tx found = by (actor b
   where
     asked_for : (node : machine.NodeValue) (o : Option TransactionValue) → o ≡ Some tx → broken_serve n node book.transactions tid o member from.0 number reply ≡ None → is_some (standing_request tx (record { link = record { from = from; to = member.node }; number = number }) member) ≡ true
     asked_for node None is allowed = absurd (cc is)
-    asked_for node (Some x) is allowed = subst (λ (y : TransactionValue). is_some (standing_request y (record { link = record { from = from; to = member.node }; number = number }) member) ≡ true) (one x tx is) (some (request_here n x member from.0 number) refl allowed)
+    asked_for node (Some x) is allowed = subst (λ (y : TransactionValue). is_some (standing_request y (record { link = record { from = from; to = member.node }; number = number }) member) ≡ true) (same_Some x tx is) (some (request_here n x member from.0 number) refl allowed)
       where
-        one : (a b : TransactionValue) → Some a ≡ Some b → a ≡ b
-        one a b e = cc e
-
         picked : (b : Bool) (o : Option Request) (r : Request) → (if b then o else None) ≡ Some r → is_some o ≡ true
         picked true o r e = ap (λ (x : Option Request). is_some x) e
         picked false o r e = absurd (cc e)

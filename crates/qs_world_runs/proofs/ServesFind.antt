@@ -1,31 +1,15 @@
 -- What waits first at a server is an operation of its own, and is served or its transaction is doomed, at each turn of those that wait.
-use Rattle.std.proofs.Common.{◌≡◌, ◌⊎◌, inl, inr, ℕ, ◌<◌, ◌≤◌, ◌&&◌, ◌||◌, nat_lt, not, Bool, true, false, List, [], ◌∷◌, Option, Some, None, is_some, fold, refl, sym, ap, subst, ◌∙◌, arith, if◌then◌else◌}
-use Rattle.std.specs.Prelude.{is_none}
-use Rattle.std.proofs.lemmas.Bool.Decides.{nat_tests}
-use Rattle.qs_base.specs.Order.{same_tid}
+use Rattle.qs_world_runs.proofs.Words.{◌≡◌, ◌⊎◌, inl, inr, ℕ, ◌<◌, ◌≤◌, ◌&&◌, ◌||◌, nat_lt, not, Bool, true, false, List, [], ◌∷◌, Option, Some, None, is_some, fold, refl, sym, ap, subst, ◌∙◌, arith, if◌then◌else◌, is_none, nat_tests, same_tid, ServerNo, Tid, Delivery, reply_of, Reply, is_client, server_at, reply_here, serve_next, serve_or_drop, Work, with_queues, is_undecided, Participant, Leads, IsDoomed, leads_on, doom_stays, Scene, same_is, seen, AtEach, ServesWell}
 use Rattle.qs_base.specs.declared.identifiers.Outcome.{Outcome}
 use Rattle.qs_base.specs.declared.identifiers.Outcome.TheVariants as outcomes
-use Rattle.qs_base.specs.declared.identifiers.ServerNo.{ServerNo}
-use Rattle.qs_base.specs.declared.identifiers.Tid.{Tid}
 use Rattle.qs_ipc.specs.Ipc as ipc
 use Rattle.qs_ipc.specs.Queue.{is_for}
-use Rattle.qs_ipc.specs.declared.delivery.Delivery.{Delivery}
-use Rattle.qs_ops.specs.Server.{reply_of}
-use Rattle.qs_ops.specs.declared.reply.Reply.{Reply}
 use Rattle.qs_ops.specs.declared.reply.Reply.TheVariants as replies
-use Rattle.qs_node_servers.specs.Servers.{is_client, server_at}
-use Rattle.qs_node_step.specs.Serving.{may_serve, reply_here, serve_next, serve_or_drop}
-use Rattle.qs_node_step.specs.State.{Work, part_of, with_queues}
+use Rattle.qs_node_step.specs.Serving.{may_serve}
+use Rattle.qs_node_step.specs.State.{part_of}
 use Rattle.qs_tm.specs.Outcomes.{is_abort}
-use Rattle.qs_tm.specs.Participant.{is_undecided}
-use Rattle.qs_tm.specs.declared.participant.Participant.{Participant}
 use Rattle.qs_world_agree.specs.World as machine
-use Rattle.qs_world_agree.specs.Carry.{Leads}
-use Rattle.qs_world_agree.specs.Doomed.{IsDoomed}
-use Rattle.qs_world_agree.proofs.Carries.{leads_on}
-use Rattle.qs_world_agree.proofs.Doomed.{doom_stays}
 use Rattle.qs_world_refine.specs.ServeWhole.{CanCount}
-use Rattle.qs_world_refine.specs.Shows.{Scene}
 use Rattle.qs_world_refine.specs.Sound.{is_sound_delivery, may_be_served}
 use Rattle.qs_world_refine.specs.Stands.{GoesOn, Stands}
 use Rattle.qs_world_refine.proofs.OwnReplies.{OfClient, OfServer, own_replies}
@@ -33,11 +17,7 @@ use Rattle.qs_world_refine.proofs.ServeFirst.{delivery_sound, other_served}
 use Rattle.qs_world_refine.proofs.ServeRoom.{IsSized, next_counts}
 use Rattle.qs_world_refine.proofs.ServeStands.{own_served}
 use Rattle.qs_world_refine.proofs.SettleStands.{stands_itself, whole_known}
-use Rattle.qs_world_refine.proofs.SoundKnown.{same_is}
 use Rattle.qs_world_refine.proofs.SoundParts.{and_both}
-use Rattle.qs_world_refine.proofs.SoundViews.{seen}
-use Rattle.qs_world_lawful.specs.Given.{AtEach}
-use Rattle.qs_world_runs.specs.PlacesWhole.{ServesWell}
 use Rattle.qs_world_runs.proofs.DropDooms.{known_dooms}
 
 -- ---- its own

@@ -1,23 +1,11 @@
 -- All that waits is served: what is of another leaves it, and each of its own counts as served, or it is doomed.
-use Rattle.std.proofs.Common.{◌≡◌, ◌⊎◌, inl, inr, ℕ, ◌+◌, ◌&&◌, Bool, true, false, Option, Some, None, refl, sym, ap, ◌∙◌, arith, if◌then◌else◌}
-use Rattle.std.proofs.lemmas.Bool.Decides.{nat_tests}
-use Rattle.qs_base.specs.Order.{same_tid}
-use Rattle.qs_base.specs.declared.identifiers.ServerNo.{ServerNo}
-use Rattle.qs_base.specs.declared.identifiers.Tid.{Tid}
+use Rattle.qs_world_runs.proofs.Words.{◌≡◌, ◌⊎◌, inl, inr, ℕ, ◌+◌, ◌&&◌, Bool, true, false, Option, Some, None, refl, sym, ap, ◌∙◌, arith, if◌then◌else◌, nat_tests, same_tid, ServerNo, Tid, Delivery, BookValue, Reply, reply_here, serve, serve_all, serve_next, serve_or_drop, Work, with_queues, IsDoomed, same_is, Field, LeavesPlaces, ServesWell}
 use Rattle.qs_ipc.specs.Ipc as ipc
 use Rattle.qs_ipc.specs.Queue.{is_of}
-use Rattle.qs_ipc.specs.declared.delivery.Delivery.{Delivery}
-use Rattle.qs_book_machine.specs.Book.{BookValue}
-use Rattle.qs_ops.specs.declared.reply.Reply.{Reply}
-use Rattle.qs_node_step.specs.Serving.{may_serve, reply_here, serve, serve_all, serve_next, serve_or_drop}
-use Rattle.qs_node_step.specs.State.{Work, with_queues}
-use Rattle.qs_world_agree.specs.Doomed.{IsDoomed}
+use Rattle.qs_node_step.specs.Serving.{may_serve}
 use Rattle.qs_world_lawful.specs.Face.{is_numbered}
-use Rattle.qs_world_refine.proofs.SoundKnown.{same_is}
-use Rattle.qs_world_runs.specs.Placed.{Field}
-use Rattle.qs_world_runs.specs.PlacesAmid.{LeavesPlaces}
 use Rattle.qs_world_runs.specs.PlacesGo.{Goes}
-use Rattle.qs_world_runs.specs.PlacesWhole.{ServeAllGoes, ServesWell}
+use Rattle.qs_world_runs.specs.PlacesWhole.{ServeAllGoes}
 use Rattle.qs_world_runs.proofs.CountedQueues.{count_left}
 use Rattle.qs_world_runs.proofs.LeftRequests.{served_leaves}
 use Rattle.qs_world_runs.proofs.PlacedServe.{serve_placed}

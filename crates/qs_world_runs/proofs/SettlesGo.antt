@@ -1,27 +1,9 @@
 -- A node settles a transaction, its own vote pass with it: at the turn of each server a note is issued well and a vote is for commit, or it is doomed.
-use Rattle.std.proofs.Common.{◌≡◌, ◌⊎◌, inl, inr, ℕ, Bool, true, false, Option, Some, None, is_none, refl, sym, subst, if◌then◌else◌}
-use Rattle.qs_base.specs.Order.{same_tid}
-use Rattle.qs_base.specs.declared.identifiers.NodeNo.{NodeNo}
+use Rattle.qs_world_runs.proofs.Words.{◌≡◌, ◌⊎◌, inl, inr, ℕ, Bool, true, false, Option, Some, None, is_none, refl, sym, subst, if◌then◌else◌, same_tid, NodeNo, ServerNo, Tid, BookValue, vote_of, Vote, server_at, end_members, issue_as, is_pass_due, pass_rule, settle_tid, try, Work, due_votes, issue_note, owes_note, vote_frame, vote_next, vote_pass, vote_with, is_undecided, Participant, IsDoomed, same_is, Field, is_against, PlacedAmid, HoldsOr, IssuesWell, PassesWell, note_op, note_request}
 use Rattle.qs_base.specs.declared.identifiers.Outcome.{Outcome}
-use Rattle.qs_base.specs.declared.identifiers.ServerNo.{ServerNo}
-use Rattle.qs_base.specs.declared.identifiers.Tid.{Tid}
-use Rattle.qs_book_machine.specs.Book.{BookValue}
-use Rattle.qs_ops.specs.Server.{vote_of}
-use Rattle.qs_ops.specs.declared.vote.Vote.{Vote}
-use Rattle.qs_node_servers.specs.Servers.{server_at}
-use Rattle.qs_node_step.specs.Deciding.{end_members}
-use Rattle.qs_node_step.specs.Requests.{issue_as, next_number}
-use Rattle.qs_node_step.specs.Settling.{is_pass_due, pass_rule, settle_tid, try}
-use Rattle.qs_node_step.specs.State.{Work, part_of}
-use Rattle.qs_node_step.specs.Voting.{due_votes, issue_note, owes_note, vote_frame, vote_next, vote_pass, vote_with}
-use Rattle.qs_tm.specs.Participant.{is_undecided}
-use Rattle.qs_tm.specs.declared.participant.Participant.{Participant}
-use Rattle.qs_world_agree.specs.Doomed.{IsDoomed}
-use Rattle.qs_world_refine.proofs.SoundKnown.{same_is}
-use Rattle.qs_world_runs.specs.Placed.{Field}
-use Rattle.qs_world_runs.specs.PlacedActs.{is_against}
-use Rattle.qs_world_runs.specs.PlacesAmid.{PlacedAmid}
-use Rattle.qs_world_runs.specs.PlacesGo.{Goes, HoldsOr, IssuesWell, PassesWell, SettleGoes, VotesWell, note_op, note_request}
+use Rattle.qs_node_step.specs.Requests.{next_number}
+use Rattle.qs_node_step.specs.State.{part_of}
+use Rattle.qs_world_runs.specs.PlacesGo.{Goes, SettleGoes, VotesWell}
 use Rattle.qs_world_runs.proofs.LeftOutcomes.{ended_leaves}
 use Rattle.qs_world_runs.proofs.LeftRequests.{vote_leaves}
 use Rattle.qs_world_runs.proofs.LeftSteps.{rest_leaves, settle_leaves}

@@ -1,47 +1,26 @@
 -- A whole step of a node of a run leaves what the log said as the node opened, and between steps what a home has not decided is younger than the age limit.
-use Rattle.std.proofs.Common.{◌≡◌, ◌⊎◌, inl, inr, ℕ, ◌+◌, ◌-◌, ◌≤◌, ◌<◌, ◌^◌, true, false, List, Option, Some, None, min, nat_lt, refl, sym, ap, subst, ◌∙◌, arith}
-use Rattle.std.proofs.lemmas.Bool.Decides.{nat_tests}
-use Rattle.std.specs.Prelude.{⊤}
-use Rattle.qs_base.proofs.TidOrder.{tid_total}
-use Rattle.qs_base.specs.Order.{tid_cmp}
-use Rattle.qs_base.specs.declared.identifiers.ClientNo.{ClientNo}
-use Rattle.qs_base.specs.declared.identifiers.Tid.{Tid}
+use Rattle.qs_world_runs.proofs.Words.{◌≡◌, ◌⊎◌, inl, inr, ℕ, ◌+◌, ◌-◌, ◌≤◌, ◌<◌, ◌^◌, true, false, List, Option, Some, None, nat_lt, refl, sym, ap, subst, ◌∙◌, arith, nat_tests, ⊤, tid_total, tid_cmp, ClientNo, Tid, ScriptLine, put_rises, enter, begin_or_refuse, put_label, settle, Work, with_manager, work_on, after_step, answer_waiting, happen, step_work, with_command, Event, Setting, begun_participant, BeginFault, is_age, World, is_sound, IsSteadyWorld, MachineGives, IsStage, IsTidy, Stage}
+use Rattle.qs_world_runs.proofs.Words.{begin_incarnation_sound, ComesFit, begun_tidy, c, stage, begins_in, HasNodeFacts, Stays, eq_le, le_next}
+use Rattle.std.proofs.Common.{min}
 use Rattle.qs_book_journal.specs.declared.entry.Act.TheVariants as acts
 use Rattle.qs_book_journal.specs.declared.script_line.Command.TheVariants as commands
-use Rattle.qs_book_journal.specs.declared.script_line.ScriptLine.{ScriptLine}
-use Rattle.qs_book_laws.proofs.Rising.{put_rises}
 use Rattle.qs_ops.specs.declared.answer.Answer.TheVariants as answers
-use Rattle.qs_node_step.specs.Bringing.{enter}
-use Rattle.qs_node_step.specs.Commands.{begin_or_refuse}
-use Rattle.qs_node_step.specs.Serving.{put_label}
-use Rattle.qs_node_step.specs.Settling.{settle}
-use Rattle.qs_node_step.specs.State.{NodeValue, Work, with_manager, work_on}
-use Rattle.qs_node_step.specs.Step.{after_step, answer_waiting, happen, step_work, with_command}
-use Rattle.qs_node_step.specs.declared.event.Event.{Event}
+use Rattle.qs_node_step.specs.State.{NodeValue}
 use Rattle.qs_node_step.specs.declared.event.Event.TheVariants as events
-use Rattle.qs_node_step.specs.declared.setting.Setting.{Setting}
 use Rattle.qs_tm.specs.Manager as tm
-use Rattle.qs_tm.specs.Participant.{begun_participant}
-use Rattle.qs_tm.specs.declared.manager.BeginFault.{BeginFault}
 use Rattle.qs_tm.specs.declared.manager.BeginFault.TheVariants as faults
-use Rattle.qs_world.specs.Openings.{is_age}
-use Rattle.qs_world.specs.World.{World}
-use Rattle.qs_world_refine.specs.Sound.{is_sound}
 use Rattle.qs_world_refine.specs.SoundSteps.{begun}
-use Rattle.qs_world_refine.specs.Steadies.{IsSteadyWorld, MachineGives}
-use Rattle.qs_world_refine.specs.Tidy.{IsStage, IsTidy, Stage}
 use Rattle.qs_world_refine.specs.Walks.{MayTick}
 use Rattle.qs_world_refine.proofs.SoundHappen.{happen_sound}
-use Rattle.qs_world_refine.proofs.SoundRestart.{begin_incarnation_sound}
-use Rattle.qs_world_refine.proofs.SteadyBegins.{ComesFit, begun_tidy, c, comes_may, comes_on, stage}
+use Rattle.qs_world_refine.proofs.SteadyBegins.{comes_may, comes_on}
 use Rattle.qs_world_refine.proofs.SteadySteps.{d, later, stage_d}
-use Rattle.qs_world_refine.proofs.StillSteps.{begins_in, may_on}
+use Rattle.qs_world_refine.proofs.StillSteps.{may_on}
 use Rattle.qs_world_refine.proofs.TidyHappens.{happen_tidy}
 use Rattle.qs_world_refine.proofs.TidyResumes.{first_tidy, later_tidy, resume_walk}
 use Rattle.qs_world_refine.proofs.WalkSettles.{settle_walk}
 use Rattle.qs_world_refine.proofs.WalkSteps.{answer_waiting_walk, happen_walk, may_tick}
-use Rattle.qs_world_lawful.specs.NodeFacts.{AreYoung, HasNodeFacts}
-use Rattle.qs_world_runs.specs.Stays.{BeganAt, IsYoungAt, Stays}
+use Rattle.qs_world_lawful.specs.NodeFacts.{AreYoung}
+use Rattle.qs_world_runs.specs.Stays.{BeganAt, IsYoungAt}
 use Rattle.qs_world_runs.proofs.StaysWalk.{Both, both_keeps, both_reads, both_ticks, began_put, stays_answered, stays_still}
 use Rattle.qs_world_runs.proofs.YoungTick.{tick_young}
 
@@ -171,11 +150,8 @@ module _ (world : World) (steady : IsSteadyWorld world) (n free : ℕ) (low : n 
 
     -- what begins is new
     new_young : (tid : Tid) (t : ℕ) → t ≡ node.manager.ticks → IsYoungAt before.setting.age node.manager.ticks t
-    new_young tid t is = record { begun = same t node.manager.ticks is; age = λ age limit. less t node.manager.ticks age is (subst (λ (o : Option ℕ). is_age o ≡ true) limit facts.setting.age) }
+    new_young tid t is = record { begun = eq_le t node.manager.ticks is; age = λ age limit. less t node.manager.ticks age is (subst (λ (o : Option ℕ). is_age o ≡ true) limit facts.setting.age) }
       where
-        same : (a b : ℕ) → a ≡ b → a ≤ b
-        same a b e = grind (arith, e)
-
         less : (a b k : ℕ) → a ≡ b → nat_lt 0 k ≡ true → b - a < k
         less a b k e p = grind (arith, nat_tests, e, p)
 
@@ -201,14 +177,11 @@ module _ (world : World) (steady : IsSteadyWorld world) (n free : ℕ) (low : n 
     step_timed : (event : Event) → ComesFit world steady n free low up event → MachineGives event first → Timed event
     step_timed event fit gives = by event refl
       where
-        more : (t : ℕ) → t ≤ t + 1
-        more t = grind (arith)
-
         at_most : (t : ℕ) → min (t + 1) (2 ^ 64 - 1) ≤ t + 1
         at_most t = grind (arith, nat_tests)
 
         still : MayTick event (Both (YoungBy node.manager.ticks) (Says node.manager.ticks) node.committed before its) → Timed event
-        still on = record { time = node.manager.ticks; once = more node.manager.ticks; stays = step_stays (YoungBy node.manager.ticks) (Says node.manager.ticks) event fit gives (done_stays (YoungBy node.manager.ticks) (Says node.manager.ticks) event fit on new_young start) }
+        still on = record { time = node.manager.ticks; once = le_next node.manager.ticks; stays = step_stays (YoungBy node.manager.ticks) (Says node.manager.ticks) event fit gives (done_stays (YoungBy node.manager.ticks) (Says node.manager.ticks) event fit on new_young start) }
 
         ticked : event ≡ events.Tick → Timed event
         ticked is = record {

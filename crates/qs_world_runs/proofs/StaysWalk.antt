@@ -1,48 +1,20 @@
 -- Each thing that a rule does leaves when that began which a home has not decided, the clock, and what the log said; so each stage of a step leaves them, and a tick moves the clock alone.
-use Rattle.std.proofs.Common.{◌≡◌, ◌⊎◌, inl, inr, ℕ, Bool, true, false, List, [], ◌∷◌, ◌++◌, Option, Some, None, refl, sym, ap, subst, ◌∙◌, if◌then◌else◌}
-use Rattle.std.specs.Map.{lookup, remove_entry}
-use Rattle.std.specs.BTreeMap.{is_at}
-use Rattle.qs_base.proofs.TidOrder.{tid_total}
-use Rattle.qs_base.specs.Order.{tid_cmp}
-use Rattle.qs_base.specs.declared.identifiers.ClientNo.{ClientNo}
-use Rattle.qs_base.specs.declared.identifiers.NodeNo.{NodeNo}
-use Rattle.qs_base.specs.declared.identifiers.Tid.{Tid}
-use Rattle.qs_engage.specs.Nodes.{same_node}
+use Rattle.qs_world_runs.proofs.Words.{◌≡◌, ◌⊎◌, inl, inr, ℕ, Bool, true, false, List, [], ◌∷◌, ◌++◌, Option, Some, None, refl, sym, ap, subst, ◌∙◌, if◌then◌else◌, lookup, remove_entry, is_at, tid_total, tid_cmp, ClientNo, NodeNo, Tid, same_node, give_back, take_first, at_exact, IsRising, put_rises, remove_rises, removed, Answer, Message, answer, enter, is_other, send, tid_of, keep_outcome, with_local, put_label, Work, change_server, client_cmp, with_doings, with_kept, with_manager}
+use Rattle.qs_world_runs.proofs.Words.{with_queues, with_command, drop_counts, OpenCommand, aborted_participant, new_participant, Manager, Participant, IsStage, IsTidy, Stage, forget_apart, tidy_keeps, tidy_ticks, tidy_reads, same_or_apart, each_changed, put_there, clash, of_some, Stays}
 use Rattle.qs_ipc.specs.Ipc as ipc
 use Rattle.qs_book_journal.specs.declared.entry.Act.TheVariants as acts
-use Rattle.qs_node_kept.specs.Loans.{give_back, take_first}
-use Rattle.qs_book_laws.proofs.Alikes.{at_exact}
-use Rattle.qs_book_laws.proofs.Rising.{IsRising, put_rises, remove_rises, removed}
-use Rattle.qs_ops.specs.declared.answer.Answer.{Answer}
-use Rattle.qs_packet.specs.declared.message.Message.{Message}
-use Rattle.qs_node_step.specs.Bringing.{answer, enter, is_other, log, send, tid_of}
+use Rattle.qs_node_step.specs.Bringing.{log}
 use Rattle.qs_node_step.specs.Commands.{with_issued}
-use Rattle.qs_node_step.specs.Deciding.{keep_outcome}
-use Rattle.qs_node_step.specs.Requests.{with_local}
-use Rattle.qs_node_step.specs.Serving.{put_label}
-use Rattle.qs_node_step.specs.State.{Work, change_server, client_cmp, with_doings, with_kept, with_manager, with_queues}
-use Rattle.qs_node_step.specs.Step.{with_command}
-use Rattle.qs_node_step.specs.Telling.{drop_counts}
-use Rattle.qs_node_step.specs.declared.state.OpenCommand.{OpenCommand}
 use Rattle.qs_tm.specs.Manager as tm
 use Rattle.qs_tm.specs.Outcomes as outcome_rules
-use Rattle.qs_tm.specs.Outcomes.{aborted_participant}
 use Rattle.qs_tm.specs.Participant as participant
-use Rattle.qs_tm.specs.Participant.{new_participant}
-use Rattle.qs_tm.specs.declared.manager.Manager.{Manager}
-use Rattle.qs_tm.specs.declared.participant.Participant.{Participant}
-use Rattle.qs_world_refine.specs.Tidy.{IsStage, IsTidy, Stage}
 use Rattle.qs_world_refine.specs.Walks.{Keeps, Reads, TicksOn}
-use Rattle.qs_world_refine.proofs.Others.{forget_apart}
-use Rattle.qs_world_refine.proofs.TidyKeeps.{tidy_keeps, tidy_ticks}
-use Rattle.qs_world_refine.proofs.TidyReads.{tidy_reads}
-use Rattle.qs_world_lawful.proofs.Apart.{Apart, same_or_apart}
+use Rattle.qs_world_lawful.proofs.Apart.{Apart}
 use Rattle.qs_world_lawful.proofs.Faces.{put_apart}
-use Rattle.qs_world_lawful.proofs.FactsKept.{IsQuiet, each_changed}
+use Rattle.qs_world_lawful.proofs.FactsKept.{IsQuiet}
 use Rattle.qs_world_lawful.proofs.FactsQuiet.{ask_quiet, logged_quiet, released_quiet, requested_quiet}
-use Rattle.qs_world_lawful.proofs.Marks.{changed_rises, put_there}
-use Rattle.qs_world_lawful.proofs.Truths.{clash, of_some}
-use Rattle.qs_world_runs.specs.Stays.{BeganAt, Stays}
+use Rattle.qs_world_lawful.proofs.Marks.{changed_rises}
+use Rattle.qs_world_runs.specs.Stays.{BeganAt}
 
 module _ (Y : Tid → ℕ → Type 0) where
   -- ---- what is known of transactions

@@ -1,13 +1,6 @@
 -- In a world whose transactions are shown, a step that a node may make leaves what it is to leave.
-use Rattle.std.proofs.Common.{◌≡◌, ◌<◌, ◌^◌, ℕ}
-use Rattle.qs_node_step.specs.declared.event.Event.{Event}
-use Rattle.qs_world.specs.Moves.{Source}
-use Rattle.qs_world.specs.World.{World}
-use Rattle.qs_world_refine.specs.ShownWorlds.{IsShownWorld}
-use Rattle.qs_world_lawful.specs.GivenStep.{first_work}
-use Rattle.qs_world_lawful.specs.NodeFacts.{AreYoung, HasNodeFacts}
-use Rattle.qs_world_lawful.proofs.SameSettings.{step_same}
-use Rattle.qs_world_runs.specs.Agrees.{MakesStep}
+use Rattle.qs_world_runs.proofs.Words.{◌≡◌, ◌<◌, ◌^◌, ℕ, Event, Source, World, IsShownWorld, first_work, HasNodeFacts, step_same, MakesStep}
+use Rattle.qs_world_lawful.specs.NodeFacts.{AreYoung}
 use Rattle.qs_world_runs.specs.StaysLaws.{StepsKeepLogged, StepsTickOnce, StepsYoung}
 use Rattle.qs_world_runs.proofs.AgreesEach.{fit, gives, low, up}
 use Rattle.qs_world_runs.proofs.StaysSteps.{first_ticks, step_committed, step_ticks, step_young}

@@ -1,35 +1,16 @@
 -- A step sends requests with numbers that its node gave, and replies to requests that it served; what comes to wait is of the incarnation that was known, and what
 -- waits of a node that restarted is stale.
-use Rattle.std.proofs.Common.{◌≡◌, ℕ, ◌==◌, Bool, true, false, List, length, Option, Some, None, refl, sym, ap, subst, ◌∙◌, if◌then◌else◌}
-use Rattle.qs_base.specs.declared.identifiers.Member.{Member}
-use Rattle.qs_base.specs.declared.identifiers.NodeNo.{NodeNo}
-use Rattle.qs_base.specs.declared.identifiers.ServerNo.{ServerNo}
-use Rattle.qs_base.specs.declared.identifiers.Tid.{Tid}
+use Rattle.qs_world_runs.proofs.Words.{◌≡◌, ℕ, ◌==◌, Bool, true, false, List, length, Option, Some, None, refl, sym, ap, subst, ◌∙◌, if◌then◌else◌, Member, NodeNo, ServerNo, Tid, Delivery, BookValue, inc_at, Op, Message, work_on, step_work, Event, Clock, Commanded, Handed, Noticed, Queues, Source, event_of, hand_next, taken_by, entries_of, next_parcel, Opening, Parcel, World, from_client, from_node, from_notice, StepMay, step_may, steady, HoldsNodeAt, LastsWell, MakesStep, Deeds, deeds_of}
+use Rattle.qs_world_runs.proofs.Words.{TakesInAt, Joined, book_in, PlacesAt, HasGiven, IsOfLast, RepliesAt}
 use Rattle.qs_ipc.specs.Ipc as ipc
-use Rattle.qs_ipc.specs.declared.delivery.Delivery.{Delivery}
-use Rattle.qs_book_machine.specs.Book.{BookValue, inc_at}
 use Rattle.qs_book_machine.specs.Nodes as book_nodes
-use Rattle.qs_ops.specs.declared.operation.Op.{Op}
-use Rattle.qs_packet.specs.declared.message.Message.{Message}
 use Rattle.qs_packet.specs.declared.message.Message.TheVariants as messages
-use Rattle.qs_node_step.specs.State.{NodeValue, work_on}
-use Rattle.qs_node_step.specs.Step.{step_work}
-use Rattle.qs_node_step.specs.declared.event.Event.{Event}
+use Rattle.qs_node_step.specs.State.{NodeValue}
 use Rattle.qs_node_step.specs.declared.event.Event.TheVariants as events
-use Rattle.qs_world.specs.Moves.{Clock, Commanded, Handed, Noticed, Queues, Source, event_of, hand_next, node_no, taken_by}
-use Rattle.qs_world.specs.Posting.{entries_of, next_parcel}
-use Rattle.qs_world.specs.World.{Opening, Parcel, World}
-use Rattle.qs_world_refine.proofs.EachMay.{from_client, from_node, from_notice, is_next}
-use Rattle.qs_world_refine.proofs.MoveGoes.{StepMay, step_may}
-use Rattle.qs_world_refine.proofs.ShownMoves.{steady}
-use Rattle.qs_world_lawful.specs.Worlds.{HoldsNodeAt}
-use Rattle.qs_world_lawful.proofs.LastsWell.{LastsWell}
-use Rattle.qs_world_runs.specs.Agrees.{MakesStep}
-use Rattle.qs_world_runs.specs.Deeds.{Deeds, deeds_of}
-use Rattle.qs_world_runs.specs.DeedsReplied.{IsNotice, TakesInAt}
-use Rattle.qs_world_runs.specs.Joined.{Joined, book_in}
-use Rattle.qs_world_runs.specs.JoinedPlaces.{PlacesAt}
-use Rattle.qs_world_runs.specs.RepliesTrue.{EachStepTells, HasGiven, IsFresh, IsOfLast, IsTold, RepliesAt}
+use Rattle.qs_world.specs.Moves.{node_no}
+use Rattle.qs_world_refine.proofs.EachMay.{is_next}
+use Rattle.qs_world_runs.specs.DeedsReplied.{IsNotice}
+use Rattle.qs_world_runs.specs.RepliesTrue.{EachStepTells, IsFresh, IsTold}
 use Rattle.qs_world_runs.proofs.ComesUnknown.{every_get}
 use Rattle.qs_world_runs.proofs.EntriesMore as more
 use Rattle.qs_world_runs.proofs.FreshQueues.{fresh_marked, fresh_queues}

@@ -1,72 +1,26 @@
 -- What the log of a home that is down has committed stays unanimous through a step of another node: once it is committed nobody has anything of it open.
-use Rattle.std.proofs.Common.{◌≡◌, ◌⊎◌, inl, inr, ℕ, ◌<◌, ◌==◌, ◌&&◌, ◌||◌, ◌++◌, Bool, true, false, List, [], ◌∷◌, Option, Some, None, is_some, refl, sym, ap, subst, ◌∙◌, arith, if◌then◌else◌}
-use Rattle.std.proofs.lemmas.Bool.{eqb-true}
-use Rattle.std.proofs.lemmas.Bool.Decides.{nat_tests}
-use Rattle.std.specs.BTreeMap.{is_at}
-use Rattle.std.specs.List.{list_all, list_any}
-use Rattle.std.specs.Map.{lookup}
-use Rattle.std.specs.Prelude.{unwrap_or}
-use Rattle.qs_base.specs.Order.{same_tid}
-use Rattle.qs_base.specs.declared.identifiers.Class.{Class}
+use Rattle.qs_world_runs.proofs.Words.{◌≡◌, ◌⊎◌, inl, inr, ℕ, ◌<◌, ◌==◌, ◌&&◌, ◌||◌, ◌++◌, Bool, true, false, List, [], ◌∷◌, Option, Some, None, is_some, refl, sym, ap, subst, ◌∙◌, arith, if◌then◌else◌, eqb-true, and_parts, nat_tests, is_at, list_all, list_any, lookup, unwrap_or, same_tid, Class, Tid, Act, Entry, life_equal, BookValue, find_transaction, is_among, TransactionValue, agrees, agrees_in, is_unanimous, life_cmp, no_part, Life, Part, class_of, recovery, after_step, effects_of, Event}
+use Rattle.qs_world_runs.proofs.Words.{is_undecided, Participant, book_of, opened_from, Move, Source, Step, moved, step_with, stepped_host, entries_of, Host, Opening, World, IsDoomed, Committed, ShowsAll, ShowsFace, face_at, outcome_of, place, IsShownWorld, is_sound, invariant, each_begun_shown, move_shown, steady, HoldsStill, Lasts, Every, goes_aside, opens_soundly, in_runs, lasts_first, lasts_ran, LastsWell, opened_numbered, opening_named, still_held, MakesStep, Joined, book_in, entries_in}
+use Rattle.qs_world_runs.proofs.Words.{book_then, PlacedOf, PlacesAt, IsLife, IsPresent, Placed, field_of, apart_turned}
 use Rattle.qs_base.specs.declared.identifiers.Class.TheVariants as classes
 use Rattle.qs_base.specs.declared.identifiers.Outcome.{Outcome}
 use Rattle.qs_base.specs.declared.identifiers.Outcome.TheVariants as outcomes
-use Rattle.qs_base.specs.declared.identifiers.Tid.{Tid}
 use Rattle.qs_ipc.specs.Ipc as ipc
-use Rattle.qs_book_journal.specs.declared.entry.Act.{Act}
-use Rattle.qs_book_journal.specs.declared.entry.Entry.{Entry}
-use Rattle.qs_book_laws.proofs.Counts.{life_equal}
-use Rattle.qs_book_machine.specs.Book.{BookValue, find_transaction}
 use Rattle.qs_book_machine.specs.Lawful.{IsLawful}
-use Rattle.qs_book_machine.specs.Restart.{is_among}
-use Rattle.qs_book_machine.specs.Transaction.{TransactionValue, agrees, agrees_in, is_open, is_unanimous, life_cmp, no_part}
-use Rattle.qs_book_machine.specs.declared.transaction.Life.{Life}
-use Rattle.qs_book_machine.specs.declared.transaction.Part.{Part}
-use Rattle.qs_ops.specs.Members.{class_of}
-use Rattle.qs_restart.specs.Recovery.{recovery}
+use Rattle.qs_book_machine.specs.Transaction.{is_open}
 use Rattle.qs_node_step.specs.State.{NodeValue}
-use Rattle.qs_node_step.specs.Step.{after_step, effects_of}
-use Rattle.qs_node_step.specs.declared.event.Event.{Event}
 use Rattle.qs_tm.specs.Manager as tm
 use Rattle.qs_tm.specs.Outcomes.{is_abort}
-use Rattle.qs_tm.specs.Participant.{is_undecided}
-use Rattle.qs_tm.specs.declared.participant.Participant.{Participant}
-use Rattle.qs_world.specs.Histories.{book_of, opened_from}
-use Rattle.qs_world.specs.Moves.{Move, Source, Step, moved, step_with, stepped_host}
-use Rattle.qs_world.specs.Posting.{entries_of}
-use Rattle.qs_world.specs.World.{Host, Opening, World}
 use Rattle.qs_world_agree.specs.Carry as agreement
-use Rattle.qs_world_agree.specs.Doomed.{IsDoomed}
 use Rattle.qs_world_agree.specs.World as machine
-use Rattle.qs_world_agree.specs.World.{Committed}
 use Rattle.qs_world_refine.specs.Begun.{has_begun}
-use Rattle.qs_world_refine.specs.EachMove.{ShowsAll}
-use Rattle.qs_world_refine.specs.Faces.{ShowsFace}
-use Rattle.qs_world_refine.specs.NodeFaces.{face_at, outcome_of, unknown}
-use Rattle.qs_world_refine.specs.Places.{place}
-use Rattle.qs_world_refine.specs.ShownWorlds.{IsShownWorld}
-use Rattle.qs_world_refine.specs.Sound.{is_sound, may_be_served}
+use Rattle.qs_world_refine.specs.NodeFaces.{unknown}
+use Rattle.qs_world_refine.specs.Sound.{may_be_served}
 use Rattle.qs_world_refine.proofs.BegunStays.{begun_stays}
 use Rattle.qs_world_refine.proofs.CommitIdles.{commit_idle}
-use Rattle.qs_world_refine.proofs.Facts.{invariant}
-use Rattle.qs_world_refine.proofs.ShownBegins.{each_begun_shown}
-use Rattle.qs_world_refine.proofs.ShownMoves.{move_shown, shown_gives, steady}
+use Rattle.qs_world_refine.proofs.ShownMoves.{shown_gives}
 use Rattle.qs_world_refine.proofs.SoundKnown.{nothing_waits}
-use Rattle.qs_world_lawful.specs.Holds.{HoldsStill}
-use Rattle.qs_world_lawful.specs.Lasting.{Lasts}
-use Rattle.qs_world_lawful.specs.Logs.{Every}
-use Rattle.qs_world_lawful.proofs.AsideGoes.{GoesAside, goes_aside}
-use Rattle.qs_world_lawful.proofs.CoherentOpenings.{opens_soundly}
-use Rattle.qs_world_lawful.proofs.LastsAlways.{in_runs}
-use Rattle.qs_world_lawful.proofs.LastsOpening.{lasts_first, lasts_ran}
-use Rattle.qs_world_lawful.proofs.LastsWell.{LastsWell}
-use Rattle.qs_world_lawful.proofs.NumberedLogs.{opened_numbered, opening_named}
-use Rattle.qs_world_lawful.proofs.Still.{still_held}
-use Rattle.qs_world_runs.specs.Agrees.{MakesStep}
-use Rattle.qs_world_runs.specs.Joined.{Joined, book_in}
-use Rattle.qs_world_runs.specs.JoinedLaws.{entries_in, book_then}
-use Rattle.qs_world_runs.specs.JoinedPlaces.{PlacedOf, PlacesAt}
-use Rattle.qs_world_runs.specs.Placed.{IsLife, IsPresent, Placed, field_of}
+use Rattle.qs_world_lawful.proofs.AsideGoes.{GoesAside}
 use Rattle.qs_world_runs.specs.PlacedLaws.{IsFree, IsQuiet}
 use Rattle.qs_world_runs.specs.PlacesLaws.{StepsStayUnanimous}
 use Rattle.qs_world_runs.proofs.CommitsPlaced.{committed_free, committed_keeps, committed_ways, none_decided}
@@ -122,11 +76,7 @@ life_agrees l [] all = of (class_of l.member.server.0)
 life_agrees l (e ∷ parts) all = by (is_at (life_cmp l) e.0) refl (life_agrees l parts both.1)
   where
     both : (agrees e ≡ true) × (list_all agrees parts ≡ true)
-    both = two (agrees e) (list_all agrees parts) all
-      where
-        two : (a b : Bool) → (a && b) ≡ true → (a ≡ true) × (b ≡ true)
-        two true b is = (refl, is)
-        two false b is = absurd (cc is)
+    both = and_parts (agrees e) (list_all agrees parts) all
 
     by : (b : Bool) → is_at (life_cmp l) e.0 ≡ b → agrees (l, unwrap_or (lookup (is_at (life_cmp l)) parts) no_part) ≡ true → agrees (l, unwrap_or (lookup (is_at (life_cmp l)) (e ∷ parts)) no_part) ≡ true
     by true is more = rw is (subst (λ (k : Life). agrees (k, e.1) ≡ true) (sym (Rattle.qs_world_runs.proofs.Entries.at_exact life_cmp life_equal l e.0 is)) both.0)
@@ -192,12 +142,9 @@ module _ (o : Opening) (world : World) (j : Joined PlacesAt o world) (n stamp fr
   others : (k : ℕ) → (k == n) ≡ false → Every (λ (entry : Entry). (entry.node.0 == k) ≡ false) entries
   others k far = all (effects_of (world.hosts n).node event free).entries
     where
-      turned : (a b : ℕ) → (a == b) ≡ false → (b == a) ≡ false
-      turned a b e = grind (arith, nat_tests, e)
-
       all : (acts : List Act) → Every (λ (entry : Entry). (entry.node.0 == k) ≡ false) (entries_of n stamp acts)
       all [] = tt
-      all (act ∷ acts) = (turned k n far, all acts)
+      all (act ∷ acts) = (apart_turned k n far, all acts)
 
   module _ (tid : Tid) (tx later : TransactionValue) (found : find_transaction book tid ≡ Some tx) (found_later : find_transaction now tid ≡ Some later) where
     some_is : {x y : TransactionValue} → Some x ≡ Some y → x ≡ y

@@ -1,34 +1,13 @@
 -- Through a whole step each request that stands at another node waits at its issuer's: those of other nodes stood before, and those nodes stay as they were.
-use Rattle.std.proofs.Common.{◌≡◌, ◌⊎◌, inl, inr, ℕ, ◌==◌, Bool, true, false, Option, Some, None, refl, sym, ap, subst, ◌∙◌, arith, if◌then◌else◌}
-use Rattle.std.proofs.lemmas.Bool.{eqb-true}
-use Rattle.std.proofs.lemmas.Bool.Decides.{nat_tests}
-use Rattle.qs_base.specs.declared.identifiers.Member.{Member}
-use Rattle.qs_base.specs.declared.identifiers.Tid.{Tid}
-use Rattle.std.specs.Prelude.{is_some}
-use Rattle.qs_book_machine.specs.Book.{BookValue, find_transaction}
-use Rattle.qs_book_machine.specs.Lawful.{IsLawful, book_after}
-use Rattle.qs_book_machine.specs.Transaction.{TransactionValue, is_open, standing_request}
-use Rattle.qs_book_machine.specs.declared.transaction.RequestNo.{RequestNo}
+use Rattle.qs_world_runs.proofs.Words.{◌≡◌, ◌⊎◌, inl, inr, ℕ, ◌==◌, Bool, true, false, Option, Some, None, refl, sym, ap, subst, ◌∙◌, arith, if◌then◌else◌, eqb-true, nat_tests, Member, Tid, is_some, BookValue, find_transaction, book_after, TransactionValue, standing_request, RequestNo, after_step, effects_of, Event, book_of, Cut, Meet, Rise, Source, Step, Stop, event_of, may_move, moved, step_with, stepped_host, Opening, World, IsDoomed, doom_stays, ShowsAll, IsShown, MakesStep, nodes_in}
+use Rattle.qs_world_runs.proofs.Words.{WaitsAt, AreAwaited, AwaitedAt, AwaitedOf, AwaitsOwn, HoldsAwaited, Joined, book_in, entries_in, PlacedOf, PlacesAt, HoldsPlaced, Placed, field_of, WholeFound, some_same}
+use Rattle.qs_book_machine.specs.Lawful.{IsLawful}
+use Rattle.qs_book_machine.specs.Transaction.{is_open}
 use Rattle.qs_node_step.specs.State.{NodeValue}
-use Rattle.qs_node_step.specs.Step.{after_step, effects_of}
-use Rattle.qs_node_step.specs.declared.event.Event.{Event}
-use Rattle.qs_world.specs.Histories.{book_of}
-use Rattle.qs_world.specs.Moves.{Cut, Meet, Rise, Source, Step, Stop, event_of, may_move, moved, step_with, stepped_host}
-use Rattle.qs_world.specs.World.{Opening, World}
 use Rattle.qs_world_agree.specs.World as machine
-use Rattle.qs_world_agree.specs.Doomed.{IsDoomed}
-use Rattle.qs_world_agree.proofs.Doomed.{doom_stays}
 use Rattle.qs_world_refine.specs.Begun.{has_begun}
-use Rattle.qs_world_refine.specs.EachMove.{ShowsAll}
-use Rattle.qs_world_refine.specs.ShownWorlds.{IsShown}
-use Rattle.qs_world_runs.specs.Agrees.{MakesStep, nodes_in}
-use Rattle.qs_world_runs.specs.Awaited.{WaitsAt}
-use Rattle.qs_world_runs.specs.Awaiting.{AreAwaited, AwaitedAt, AwaitedOf, AwaitsOwn, EachOwnAwaited, HoldsAwaited}
-use Rattle.qs_world_runs.specs.Joined.{Joined, book_in}
-use Rattle.qs_world_runs.specs.JoinedLaws.{IsStep, Keeps, entries_in}
-use Rattle.qs_world_runs.specs.JoinedPlaces.{PlacedOf, PlacesAt}
-use Rattle.qs_world_runs.specs.Placed.{HoldsPlaced, Placed, field_of}
-use Rattle.qs_world_runs.specs.PlacesSteps.{WholeFound}
+use Rattle.qs_world_runs.specs.Awaiting.{EachOwnAwaited}
+use Rattle.qs_world_runs.specs.JoinedLaws.{IsStep, Keeps}
 use Rattle.qs_world_runs.proofs.FreshFinds.{fresh_find}
 use Rattle.qs_world_runs.proofs.JoinedAs.{joined_as, placed_joined}
 use Rattle.qs_world_runs.proofs.JoinedParts.{book_on, lawful_more}
@@ -36,9 +15,6 @@ use Rattle.qs_world_runs.proofs.PlacesJoined.{amid, whole_step_holds}
 use Rattle.qs_world_runs.proofs.PlacesSteps.{home_is, moved_is, none_before, shown}
 use Rattle.qs_world_runs.proofs.StoodElsewhere.{Stands, stood_elsewhere}
 use Rattle.qs_world_runs.proofs.WholeFinds.{whole_find}
-
-some_is : {X : Type 0} {x y : X} → Some x ≡ Some y → x ≡ y
-some_is e = cc e
 
 module _ (P : Opening → World → Type 0) (less : (o : Opening) (world : World) → P o world → AwaitedAt o world) (own : EachOwnAwaited P) (o : Opening) (world : World) (n stamp free : ℕ) (source : Source) (j : Joined P o world) (may : may_move world (Step n stamp free source) ≡ true)
     (event : Event) (comes : event_of world n stamp source ≡ Some event) (lawful : IsLawful (book_in o world) (entries_in world n stamp free event)) where
@@ -88,7 +64,7 @@ module _ (P : Opening → World → Type 0) (less : (o : Opening) (world : World
 
     other_awaits : (was : TransactionValue) → find_transaction book tid ≡ Some was → AreAwaited tid was (nodes_in world) → (tx : TransactionValue) → find_transaction (book_in o next) tid ≡ Some tx → is_open tx.cell ≡ true → (k : ℕ) → (k == n) ≡ false → AwaitsOwn k tid tx (nodes_in next k)
     other_awaits was had await tx found undecided k far at member from_k away stands = subst (λ (node : NodeValue). WaitsAt tid member at.number node) (sym (ap (λ (v : World). nodes_in v k) next_is ∙ node_other k far))
-        (await k at member from_k away (subst (λ (x : TransactionValue). is_some (standing_request x at member) ≡ true) (some_is (sym s.found ∙ had)) s.stands))
+        (await k at member from_k away (subst (λ (x : TransactionValue). is_some (standing_request x at member) ≡ true) (some_same (sym s.found ∙ had)) s.stands))
       where
         s : Stands book tid at member
         s = others tx found undecided k far at member from_k stands
@@ -118,7 +94,7 @@ module _ (P : Opening → World → Type 0) (less : (o : Opening) (world : World
                 of_cell : (b : Bool) → is_open was.cell ≡ b → IsDoomed w ⊎ AreAwaited tid tx (nodes_in next)
                 of_cell true undecided_was = of_before was had (awaited was had undecided_was)
                 of_cell false over = inr (each (λ k far at member from_k away stands. absurd (let s : Stands book tid at member = others tx found undecided k far at member from_k stands in let still : is_open s.tx.cell ≡ true = s.undecided in
-                    cc (still, ap (λ (x : TransactionValue). is_open x.cell) (some_is (sym s.found ∙ had)) ∙ over))))
+                    cc (still, ap (λ (x : TransactionValue). is_open x.cell) (some_same (sym s.found ∙ had)) ∙ over))))
 
         of : IsDoomed w ⊎ Placed tid tx (field_of next) → IsDoomed w ⊎ AreAwaited tid tx (nodes_in next)
         of (inl doomed) = inl doomed

@@ -1,35 +1,16 @@
 -- A whole step, stage by stage: it begins, what comes is done, the node settles, commands that stayed open are answered, and the world after it has what it sent.
-use Rattle.std.proofs.Common.{◌≡◌, ◌⊎◌, inl, inr, ℕ, Bool, true, false, [], Option, Some, None, refl, sym, ap, subst, ◌∙◌}
-use Rattle.qs_base.proofs.Same.{same_tid-self}
-use Rattle.qs_base.specs.Order.{same_tid}
-use Rattle.qs_base.specs.declared.identifiers.NodeNo.{NodeNo}
+use Rattle.qs_world_runs.proofs.Words.{◌≡◌, ◌⊎◌, inl, inr, ℕ, Bool, true, false, [], Option, Some, None, refl, sym, ap, subst, ◌∙◌, same_tid-self, same_tid, NodeNo, ServerNo, Tid, Channels, same_node, BookValue, Message, enter, is_dropped, request_came, Work, change_server, here, with_manager, abort_old, age_rule, message_came, tick, Handed, hand_next, taken_by, next_parcel, Parcel, World, same_is, is_asking_for, first_work, Field, field_of, LeavesPlaces, PlacedAmid, Extends, HoldsOr}
+use Rattle.qs_world_runs.proofs.Words.{AreLawful, IsAmid}
 use Rattle.qs_base.specs.declared.identifiers.Outcome.TheVariants as outcomes
-use Rattle.qs_base.specs.declared.identifiers.ServerNo.{ServerNo}
-use Rattle.qs_base.specs.declared.identifiers.Tid.{Tid}
-use Rattle.qs_session_channels.specs.Channels.{Channels}
-use Rattle.qs_engage.specs.Nodes.{same_node}
 use Rattle.qs_book_journal.specs.declared.entry.Act.TheVariants as acts
-use Rattle.qs_book_machine.specs.Book.{BookValue}
 use Rattle.qs_ops.specs.declared.answer.Cause.TheVariants as causes
 use Rattle.qs_ops.specs.Timers as clock
-use Rattle.qs_packet.specs.declared.message.Message.{Message}
 use Rattle.qs_packet.specs.declared.message.Message.TheVariants as messages
 use Rattle.qs_node_servers.specs.Servers.{timers_no}
-use Rattle.qs_node_step.specs.Bringing.{enter}
-use Rattle.qs_node_step.specs.Serving.{is_dropped, request_came}
-use Rattle.qs_node_step.specs.State.{NodeValue, Work, change_server, here, part_of, with_manager}
-use Rattle.qs_node_step.specs.Step.{abort_old, age_rule, message_came, tick}
+use Rattle.qs_node_step.specs.State.{NodeValue, part_of}
 use Rattle.qs_tm.specs.Manager as tm
-use Rattle.qs_world.specs.Moves.{Handed, hand_next, node_no, taken_by}
-use Rattle.qs_world.specs.Posting.{next_parcel}
-use Rattle.qs_world.specs.World.{Parcel, World}
-use Rattle.qs_world_refine.proofs.SoundKnown.{same_is}
-use Rattle.qs_world_lawful.specs.Parcels.{is_asking_for}
-use Rattle.qs_world_lawful.specs.GivenStep.{first_work}
-use Rattle.qs_world_runs.specs.Placed.{Field, field_of}
-use Rattle.qs_world_runs.specs.PlacesAmid.{LeavesPlaces, PlacedAmid}
-use Rattle.qs_world_runs.specs.PlacesGo.{Extends, Goes, HoldsOr}
-use Rattle.qs_world_runs.specs.PlacesRules.{AreLawful, IsAmid}
+use Rattle.qs_world.specs.Moves.{node_no}
+use Rattle.qs_world_runs.specs.PlacesGo.{Goes}
 use Rattle.qs_world_runs.specs.PlacesWhole.{TakesIn}
 use Rattle.qs_world_runs.proofs.LeftOutcomes.{ask_came_leaves, closer_leaves, decide_leaves, inquiry_leaves, refusal_leaves, tell_leaves, told_leaves}
 use Rattle.qs_world_runs.proofs.LeftRequests.{came_leaves, reply_leaves}

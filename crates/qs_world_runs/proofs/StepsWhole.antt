@@ -1,27 +1,12 @@
 -- A whole step, from the world before it to the world after it.
-use Rattle.std.proofs.Common.{◌≡◌, ◌⊎◌, inl, inr, ℕ, ◌==◌, ◌&&◌, nat_lt, Bool, true, false, Option, Some, None, refl, sym, subst, if◌then◌else◌}
-use Rattle.qs_base.specs.declared.identifiers.Tid.{Tid}
-use Rattle.qs_session_channels.specs.Channels.{Channels}
-use Rattle.qs_book_journal.specs.declared.script_line.ScriptLine.{ScriptLine}
-use Rattle.qs_book_machine.specs.Book.{BookValue}
-use Rattle.qs_book_machine.specs.Lawful.{IsLawful, book_after}
-use Rattle.qs_node_step.specs.Settling.{due_tids, settle, settle_tid}
-use Rattle.qs_node_step.specs.State.{NodeValue, Work, work_on}
-use Rattle.qs_node_step.specs.Step.{effects_of, happen, step_work, tick, wait_on, waiting_clients}
-use Rattle.qs_node_step.specs.declared.event.Event.{Event}
+use Rattle.qs_world_runs.proofs.Words.{◌≡◌, ◌⊎◌, inl, inr, ℕ, ◌==◌, ◌&&◌, nat_lt, Bool, true, false, Option, Some, None, refl, sym, subst, if◌then◌else◌, Tid, Channels, ScriptLine, BookValue, book_after, due_tids, settle, settle_tid, Work, work_on, effects_of, happen, step_work, tick, wait_on, waiting_clients, Event, Clock, Commanded, Handed, Noticed, Queues, Source, client_count, command_of, event_of, hand_next, step_with, taken_by, entries_of, next_line, next_parcel, Parcel, World, known_of}
+use Rattle.qs_world_runs.proofs.Words.{IsDoomed, done_work, first_work, Field, field_of, OpenPlaced, Here, LeavesPlaces, PlacedAmid, AreInOrder, taken, HoldsOr, PassesWell, WaitsWell, AreLawful, IsAmid, ComesWell, some_same}
+use Rattle.qs_book_machine.specs.Lawful.{IsLawful}
+use Rattle.qs_node_step.specs.State.{NodeValue}
 use Rattle.qs_node_step.specs.declared.event.Event.TheVariants as events
-use Rattle.qs_world.specs.Moves.{Clock, Commanded, Handed, Noticed, Queues, Source, client_count, command_of, event_of, has_begun, hand_next, node_no, step_with, taken_by}
-use Rattle.qs_world.specs.Posting.{entries_of, next_line, next_parcel}
-use Rattle.qs_world.specs.World.{Parcel, World, known_of}
-use Rattle.qs_world_agree.specs.Doomed.{IsDoomed}
-use Rattle.qs_world_lawful.specs.GivenStep.{done_work, first_work}
-use Rattle.qs_world_runs.specs.Placed.{Field, field_of}
-use Rattle.qs_world_runs.specs.PlacedActs.{OpenPlaced}
-use Rattle.qs_world_runs.specs.PlacesAmid.{Here, LeavesPlaces, PlacedAmid}
-use Rattle.qs_world_runs.specs.PlacesEnds.{AreInOrder, taken}
-use Rattle.qs_world_runs.specs.PlacesGo.{Goes, HoldsOr, PassesWell, WaitsWell}
-use Rattle.qs_world_runs.specs.PlacesRules.{AreLawful, IsAmid}
-use Rattle.qs_world_runs.specs.PlacesWhole.{ComesWell, StepPlaces, StepsWell}
+use Rattle.qs_world.specs.Moves.{has_begun, node_no}
+use Rattle.qs_world_runs.specs.PlacesGo.{Goes}
+use Rattle.qs_world_runs.specs.PlacesWhole.{StepPlaces, StepsWell}
 use Rattle.qs_world_runs.proofs.CommandsGo.{command_goes_on, wait_goes_on}
 use Rattle.qs_world_runs.proofs.FieldBegins.{step_begins}
 use Rattle.qs_world_runs.proofs.FieldEnds.{step_ends}
@@ -31,9 +16,6 @@ use Rattle.qs_world_runs.proofs.PlacesGo.{amid_on, extends_of, goes_fold, goes_l
 use Rattle.qs_world_runs.proofs.ServesGo.{serve_all_goes_on}
 use Rattle.qs_world_runs.proofs.SettlesGo.{settle_goes_on}
 use Rattle.qs_world_runs.proofs.StepsGo.{Comes, by_goes, parcel_comes, tick_leaves}
-
-one : {A : Type 0} {a b : A} → Some a ≡ Some b → a ≡ b
-one e = cc e
 
 module _ (D : Type 0) (t : Tid) (world : World) (n stamp free : ℕ) (before : BookValue) where
   abbrev node : NodeValue
@@ -51,7 +33,7 @@ module _ (D : Type 0) (t : Tid) (world : World) (n stamp free : ℕ) (before : B
   commanded k event comes = by (nat_lt k client_count && ((world.clients k).at == n)) (next_line (world.clients k)) comes
     where
       by : (b : Bool) (o : Option ScriptLine) → (if b then elim o [ None ↦ None | Some line ↦ Some (command_of line) ] else None) ≡ Some event → ComesWell D t world n stamp before (Commanded k) event first → C world.channels (happen event first)
-      by true (Some line) is = subst (λ (e : Event). ComesWell D t world n stamp before (Commanded k) e first → C world.channels (happen e first)) (one is)
+      by true (Some line) is = subst (λ (e : Event). ComesWell D t world n stamp before (Commanded k) e first → C world.channels (happen e first)) (some_same is)
           (λ well. by_goes D t world n stamp free before (happen (command_of line) first) (command_goes_on D t (field_of world) (world.channels.peer n) n stamp before line first well))
       by true None is = absurd (cc is)
       by false o is = absurd (cc is)
@@ -60,7 +42,7 @@ module _ (D : Type 0) (t : Tid) (world : World) (n stamp free : ℕ) (before : B
   handed_up m event comes = by (next_parcel world n m) refl comes
     where
       late : (parcel : Parcel) → next_parcel world n m ≡ Some parcel → (b : Bool) → (if b then Some (events.Received (node_no m) parcel.message) else None) ≡ Some event → ComesWell D t world n stamp before (Handed m) event first → C (taken_by world n (Handed m)) (happen event first)
-      late parcel next true is = subst (λ (e : Event). ComesWell D t world n stamp before (Handed m) e first → C (taken_by world n (Handed m)) (happen e first)) (one is)
+      late parcel next true is = subst (λ (e : Event). ComesWell D t world n stamp before (Handed m) e first → C (taken_by world n (Handed m)) (happen e first)) (some_same is)
           (λ well. subst (λ (o : Option Parcel). C (hand_next n m o world.channels) (happen (events.Received (node_no m) parcel.message) first)) (sym next) (parcel_comes D t world n stamp free before m parcel next well))
       late parcel next false is = absurd (cc is)
 
@@ -96,15 +78,15 @@ module _ (D : Type 0) (t : Tid) (world : World) (n stamp free : ℕ) (before : B
           then_on (inr f) lawful is (inr placed) = inr (left_on t (field_of (taken world n (Noticed m new))) ((taken_by world n (Noticed m new)).peer n) n stamp before is.inv first (happen (events.PeerRestarted (node_no m) (known_of world n m) new) first) leaves lawful (f placed))
 
       by : (b : Bool) → (if b then Some (events.PeerRestarted (node_no m) (known_of world n m) new) else None) ≡ Some event → ComesWell D t world n stamp before (Noticed m new) event first → C (taken_by world n (Noticed m new)) (happen event first)
-      by true is = subst (λ (e : Event). ComesWell D t world n stamp before (Noticed m new) e first → C (taken_by world n (Noticed m new)) (happen e first)) (one is) goes
+      by true is = subst (λ (e : Event). ComesWell D t world n stamp before (Noticed m new) e first → C (taken_by world n (Noticed m new)) (happen e first)) (some_same is) goes
       by false is = absurd (cc is)
 
   pub whichever : (source : Source) (event : Event) → event_of world n stamp source ≡ Some event → ComesWell D t world n stamp before source event first → C (taken_by world n source) (happen event first)
   whichever (Commanded k) event comes well = commanded k event comes well
   whichever (Handed m) event comes well = handed_up m event comes well
-  whichever Queues event comes well = subst (λ (e : Event). ComesWell D t world n stamp before Queues e first → C world.channels (happen e first)) (one comes)
+  whichever Queues event comes well = subst (λ (e : Event). ComesWell D t world n stamp before Queues e first → C world.channels (happen e first)) (some_same comes)
       (λ all. by_goes D t world n stamp free before (happen events.ServeAll first) (serve_all_goes_on D t (field_of world) (world.channels.peer n) n stamp before first all)) well
-  whichever Clock event comes well = subst (λ (e : Event). C world.channels (happen e first)) (one comes)
+  whichever Clock event comes well = subst (λ (e : Event). C world.channels (happen e first)) (some_same comes)
       (by_goes D t world n stamp free before (happen events.Tick first) (goes_left D t (field_of world) (world.channels.peer n) n stamp before first (tick first) (tick_leaves t first)))
   whichever (Noticed m new) event comes well = noticed m new event comes well
 

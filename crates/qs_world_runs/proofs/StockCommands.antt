@@ -1,33 +1,16 @@
 -- What all things that a rule does to servers and records, and notes, keep, the commands of clients keep.
-use Rattle.std.proofs.Common.{true, Option, Some, None, refl}
-use Rattle.std.specs.Prelude.{if◌then◌else◌}
-use Rattle.qs_base.specs.declared.identifiers.ClientNo.{ClientNo}
-use Rattle.qs_base.specs.declared.identifiers.Member.{Member}
+use Rattle.qs_world_runs.proofs.Words.{true, Option, Some, None, refl, if◌then◌else◌, ClientNo, Member, Tid, Command, ScriptLine, first_untaken, give_back, last_taken, take_first, Op, client_server, kept_outcome, become_asked, borrower_command, is_void, lent_command, loan_command, take, take_command, with_loan, answer, enter, ask, begin_command, begin_or_refuse, decided_answer, enter_ask, open_command, owner_command, request_as, request_command, label_at, put_label, Work, with_doings}
+use Rattle.qs_world_runs.proofs.Words.{with_kept, with_manager, command_came, is_owner, labelled, obey, with_command, BeginFault, IsKeptStock, Stock, stock_of}
 use Rattle.qs_base.specs.declared.identifiers.Outcome.TheVariants as outcomes
-use Rattle.qs_base.specs.declared.identifiers.Tid.{Tid}
 use Rattle.qs_book_journal.specs.declared.entry.Act.TheVariants as acts
-use Rattle.qs_book_journal.specs.declared.script_line.Command.{Command}
 use Rattle.qs_book_journal.specs.declared.script_line.Command.TheVariants as commands
-use Rattle.qs_book_journal.specs.declared.script_line.ScriptLine.{ScriptLine}
-use Rattle.qs_node_kept.specs.Loans.{first_untaken, give_back, last_taken, take_first}
 use Rattle.qs_ops.specs.declared.answer.Answer.TheVariants as answers
 use Rattle.qs_ops.specs.declared.answer.Cause.TheVariants as causes
-use Rattle.qs_ops.specs.declared.operation.Op.{Op}
-use Rattle.qs_node_servers.specs.Servers.{client_server}
-use Rattle.qs_node_step.specs.Answering.{kept_outcome}
-use Rattle.qs_node_step.specs.Asking.{become_asked}
-use Rattle.qs_node_step.specs.Borrowing.{borrower_command, is_void, lent_command, loan_command, take, take_command, with_loan}
-use Rattle.qs_node_step.specs.Bringing.{answer, enter}
-use Rattle.qs_node_step.specs.Commands.{ask, begin_command, begin_or_refuse, decided_answer, enter_ask, open_command, owner_command, request_as, request_command, with_issued}
+use Rattle.qs_node_step.specs.Commands.{with_issued}
 use Rattle.qs_node_step.specs.Deciding.{decide}
 use Rattle.qs_node_step.specs.Requests.{next_number}
-use Rattle.qs_node_step.specs.Serving.{label_at, put_label}
-use Rattle.qs_node_step.specs.State.{Work, with_doings, with_kept, with_manager}
-use Rattle.qs_node_step.specs.Step.{command_came, is_owner, labelled, obey, with_command}
 use Rattle.qs_tm.specs.Manager as tm
-use Rattle.qs_tm.specs.declared.manager.BeginFault.{BeginFault}
 use Rattle.qs_tm.specs.declared.manager.BeginFault.TheVariants as faults
-use Rattle.qs_world_runs.specs.Stocks.{IsKeptStock, Stock, stock_of}
 use Rattle.qs_world_runs.proofs.StockRules as rules
 
 module _ (P : Stock → Type 0) (k : IsKeptStock P) where

@@ -1,64 +1,29 @@
 -- What all things that a rule does to servers and records, and notes, keep, its rules keep: requests and replies, serving, notices and decisions.
-use Rattle.std.proofs.Common.{◌≡◌, ℕ, ◌||◌, Bool, true, false, List, [], ◌∷◌, ◌++◌, fold, Option, Some, None, refl}
-use Rattle.std.specs.BTreeMap.{is_at}
-use Rattle.std.specs.Map.{lookup, remove_entry}
-use Rattle.std.specs.Prelude.{not, ◌&&◌, if◌then◌else◌}
-use Rattle.qs_base.specs.declared.identifiers.ClientNo.{ClientNo}
-use Rattle.qs_base.specs.declared.identifiers.Member.{Member}
-use Rattle.qs_base.specs.declared.identifiers.NodeNo.{NodeNo}
+use Rattle.qs_world_runs.proofs.Words.{◌≡◌, ℕ, Bool, true, false, List, [], ◌∷◌, ◌++◌, fold, Option, Some, None, refl, is_at, lookup, remove_entry, not, ◌&&◌, if◌then◌else◌, ClientNo, Member, NodeNo, ServerNo, Tid, is_node, uncovered, listed, same_node, Engaged, Delivery, answer_of, after_serving, Answer, Cause, Op, Reply, Notice, Message, Record, client_of, is_client, ask_came, asked_by, become_asked, block, closer_came, count, pass_unknown, refusal_came, where_undecided, answer, enter}
+use Rattle.qs_world_runs.proofs.Words.{is_other, log_if, member_here, send, send_each, send_next, due_endings, end_member, end_members, give_notices, keep_outcome, learn_member, learn_members, learners_at, notice_of, notify, answer_issuer, ask_on, enqueue, enter_issue, is_asked, issue, issue_as, issue_away, issue_here, label_of, reply_came, take_reply, waits_as, with_local, cover_from, engage, enter_serve, lent_to, make_loan, reply_here, serve, serve_all, serve_next, serve_or_drop, Work}
+use Rattle.qs_world_runs.proofs.Words.{change_server, client_cmp, here, with_doings, with_manager, OpenCommand, is_by_files, is_undecided, Decision, Outstanding, Participant, is_put_off, Doings, IsKeptStock, Stock, stock_of, IsNoVoteIf, or-true}
 use Rattle.qs_base.specs.declared.identifiers.Outcome.{Outcome}
 use Rattle.qs_base.specs.declared.identifiers.Outcome.TheVariants as outcomes
-use Rattle.qs_base.specs.declared.identifiers.ServerNo.{ServerNo}
-use Rattle.qs_base.specs.declared.identifiers.Tid.{Tid}
-use Rattle.qs_engage.specs.Engage.{is_node, uncovered}
-use Rattle.qs_engage.specs.Nodes.{listed, same_node}
-use Rattle.qs_engage.specs.declared.engage.Engaged.{Engaged}
 use Rattle.qs_engage.specs.declared.engage.Engaged.TheVariants as engagements
 use Rattle.qs_ipc.specs.Ipc as ipc
 use Rattle.qs_ipc.specs.Queue.{is_for}
-use Rattle.qs_ipc.specs.declared.delivery.Delivery.{Delivery}
 use Rattle.qs_book_journal.specs.declared.entry.Act.TheVariants as acts
-use Rattle.qs_ops.specs.Operations.{answer_of}
-use Rattle.qs_ops.specs.Server.{after_serving}
-use Rattle.qs_ops.specs.declared.answer.Answer.{Answer}
-use Rattle.qs_ops.specs.declared.answer.Cause.{Cause}
 use Rattle.qs_ops.specs.declared.answer.Cause.TheVariants as causes
-use Rattle.qs_ops.specs.declared.operation.Op.{Op}
-use Rattle.qs_ops.specs.declared.reply.Reply.{Reply}
-use Rattle.qs_ops.specs.declared.vote.Notice.{Notice}
 use Rattle.qs_ops.specs.declared.vote.Notice.TheVariants as notices
-use Rattle.qs_packet.specs.declared.message.Message.{Message}
 use Rattle.qs_packet.specs.declared.message.Message.TheVariants as messages
-use Rattle.qs_record.specs.declared.record.Record.{Record}
 use Rattle.qs_record.specs.declared.record.Record.TheVariants as records
-use Rattle.qs_node_servers.specs.Servers.{client_of, is_client}
-use Rattle.qs_node_step.specs.Asking.{ask_came, asked_by, become_asked, block, closer_came, count, pass_unknown, refusal_came, where_undecided}
-use Rattle.qs_node_step.specs.Bringing.{answer, enter, is_other, log_if, member_here, send, send_each, send_next}
-use Rattle.qs_node_step.specs.Deciding.{decide, decide_commit, due_endings, end_member, end_members, give_notices, keep_outcome, learn_member, learn_members, learners_at, notice_of, notify}
+use Rattle.qs_node_step.specs.Deciding.{decide, decide_commit}
 use Rattle.qs_node_step.specs.Requests as requests
-use Rattle.qs_node_step.specs.Requests.{answer_issuer, ask_on, enqueue, enter_issue, is_asked, issue, issue_as, issue_away, issue_here, label_of, next_number, reply_came, take_reply, waits_as, with_local}
-use Rattle.qs_node_step.specs.Serving.{cover_from, engage, enter_serve, lent_to, make_loan, may_serve, met, reply_here, serve, serve_all, serve_next, serve_or_drop}
-use Rattle.qs_node_step.specs.State.{Work, change_server, client_cmp, here, part_of, with_doings, with_manager}
+use Rattle.qs_node_step.specs.Requests.{next_number}
+use Rattle.qs_node_step.specs.Serving.{may_serve, met}
+use Rattle.qs_node_step.specs.State.{part_of}
 use Rattle.qs_node_step.specs.State as state
-use Rattle.qs_node_step.specs.declared.state.OpenCommand.{OpenCommand}
 use Rattle.qs_tm.specs.Manager as tm
 use Rattle.qs_tm.specs.Outcomes as outcome_rules
-use Rattle.qs_tm.specs.Participant.{is_by_files, is_undecided}
-use Rattle.qs_tm.specs.declared.manager.Decision.{Decision}
-use Rattle.qs_tm.specs.declared.participant.Outstanding.{Outstanding}
-use Rattle.qs_tm.specs.declared.participant.Participant.{Participant}
-use Rattle.qs_node_step.specs.Settling.{is_put_off}
-use Rattle.qs_node_step.specs.declared.state.Doings.{Doings}
-use Rattle.qs_world_runs.specs.Stocks.{IsKeptStock, Stock, stock_of}
-use Rattle.qs_world_runs.specs.Stores.{IsNoVoteIf}
 
 -- what was served is noted
 served_off : (doings : Doings) → is_put_off doings ≡ true → is_put_off (record doings { served = true }) ≡ true
-served_off doings off = by doings.asked
-  where
-    by : (a : Bool) → (a || true) ≡ true
-    by true = refl
-    by false = refl
+served_off doings off = or-true doings.asked
 
 module _ (P : Stock → Type 0) (k : IsKeptStock P) where
   abbrev pub Keeps : Work → Work → Type 0

@@ -1,23 +1,10 @@
 -- What stands of other nodes' requests after a node's entries stood before: each entry of a node issues requests of that node alone.
-use Rattle.std.proofs.Common.{◌≡◌, ◌⊎◌, inl, inr, ℕ, ◌==◌, Bool, true, false, List, [], ◌∷◌, Some, None, is_some, refl, sym, ap, subst, ◌∙◌, arith}
-use Rattle.std.proofs.lemmas.Bool.Decides.{nat_tests}
-use Rattle.std.specs.List.{find}
-use Rattle.std.specs.Prelude.{slice_get}
-use Rattle.qs_base.specs.declared.identifiers.Member.{Member}
-use Rattle.qs_base.specs.declared.identifiers.Tid.{Tid}
-use Rattle.qs_book_journal.specs.declared.entry.Act.{Act}
-use Rattle.qs_book_laws.proofs.Outcomes.{Inv}
-use Rattle.qs_book_laws.proofs.Steps.{ran}
-use Rattle.qs_book_machine.specs.Book.{BookValue, find_transaction, ticks_at}
-use Rattle.qs_book_machine.specs.Lawful.{IsLawful, book_after, broken, effect}
-use Rattle.qs_book_machine.specs.declared.transaction.Cell.{Cell}
-use Rattle.qs_book_machine.specs.Transaction.{TransactionValue, begun, is_open, is_standing, requests_at, standing_request}
-use Rattle.qs_book_machine.specs.declared.transaction.Request.{Request}
-use Rattle.qs_book_machine.specs.declared.transaction.RequestNo.{RequestNo}
-use Rattle.qs_world.specs.Posting.{entries_of, entry_of}
-use Rattle.qs_world_lawful.proofs.Apart.{Apart, same_or_apart}
-use Rattle.qs_world_lawful.proofs.EntryTurns.{Begins, Turning, by_entry}
-use Rattle.qs_world_lawful.proofs.Turning.{Turns, stood}
+use Rattle.qs_world_runs.proofs.Words.{◌≡◌, ◌⊎◌, inl, inr, ℕ, ◌==◌, Bool, true, false, List, [], ◌∷◌, Some, None, is_some, refl, sym, ap, subst, ◌∙◌, find, slice_get, Member, Tid, Act, Inv, ran, BookValue, find_transaction, book_after, broken, effect, Cell, TransactionValue, is_standing, requests_at, standing_request, Request, RequestNo, entries_of, entry_of, same_or_apart, Begins, Turning, by_entry, Turns, some_same, equal_apart}
+use Rattle.qs_book_machine.specs.Book.{ticks_at}
+use Rattle.qs_book_machine.specs.Lawful.{IsLawful}
+use Rattle.qs_book_machine.specs.Transaction.{begun, is_open}
+use Rattle.qs_world_lawful.proofs.Apart.{Apart}
+use Rattle.qs_world_lawful.proofs.Turning.{stood}
 use Rattle.qs_world_lawful.proofs.TurnedRequests.{AtNumber, at_number}
 use Rattle.qs_world_runs.proofs.PlacedIssued.{stood_before}
 
@@ -30,10 +17,7 @@ pub record Stands (book : BookValue) (tid : Tid) (at : RequestNo) (member : Memb
 
 module _ (n stamp : ℕ) (tid : Tid) (at : RequestNo) (member : Member) (far : (at.link.from.0 == n) ≡ false) where
   not_own : at.link.from.0 ≡ n → ⊥
-  not_own own = clash at.link.from.0 n own far
-    where
-      clash : (a b : ℕ) → a ≡ b → (a == b) ≡ false → ⊥
-      clash a b e off = grind (arith, nat_tests, e, off)
+  not_own own = equal_apart at.link.from.0 n own far
 
   -- one entry
   module _ (book : BookValue) (act : Act) (i : Inv book) (h : broken book (entry_of n stamp act) ≡ None) where
@@ -42,10 +26,7 @@ module _ (n stamp : ℕ) (tid : Tid) (at : RequestNo) (member : Member) (far : (
       where
         by : (b.tid ≡ tid) ⊎ Apart b.tid tid → Stands book tid at member
         by (inl same) = absurd (let none : is_some (standing_request (begun b.label b.client (ticks_at (slice_get book.nodes n))) at member) ≡ true = subst (λ (tx : TransactionValue). is_some (standing_request tx at member) ≡ true)
-            (one (sym s.found ∙ (ap (find_transaction (effect book (entry_of n stamp act))) (sym same) ∙ b.stands))) s.stands in cc none)
-          where
-            one : {x y : TransactionValue} → Some x ≡ Some y → x ≡ y
-            one e = cc e
+            (some_same (sym s.found ∙ (ap (find_transaction (effect book (entry_of n stamp act))) (sym same) ∙ b.stands))) s.stands in cc none)
         by (inr apart) = record { tx = s.tx; found = sym (b.others tid apart) ∙ s.found; undecided = s.undecided; stands = s.stands }
 
     of_turned : Turning book (entry_of n stamp act) → Stands (effect book (entry_of n stamp act)) tid at member → Stands book tid at member

@@ -1,50 +1,27 @@
 -- Of a transaction that stood as the run opened nothing is ever issued, and commit is not asked for: it has no owner, and one with its home in the
 -- run is decided.
-use Rattle.std.proofs.Common.{◌≡◌, ℕ, ◌<◌, ◌==◌, ◌&&◌, ◌||◌, Bool, true, false, List, [], ◌∷◌, Option, Some, None, refl, sym, ap, subst, ◌∙◌, arith, nat_lt, length, if◌then◌else◌}
-use Rattle.std.proofs.lemmas.Bool.Decides.{nat_tests}
-use Rattle.std.proofs.lemmas.Option.{slice_get_within}
+use Rattle.qs_world_runs.proofs.Words.{◌≡◌, ℕ, ◌<◌, ◌==◌, ◌&&◌, ◌||◌, Bool, true, false, List, [], ◌∷◌, Option, Some, None, refl, sym, ap, subst, ◌∙◌, arith, nat_lt, length, if◌then◌else◌, nat_tests, slice_get_within, is_at, lookup, set_value, option_map, is_none, is_some, unwrap_or, slice_get, same_tid-true, same_tid, ClientNo, Member, Tid, Act, Entry, ran_run, Inv, held, Gives, GivesFor, step_turns, Obliged, BookValue, find_transaction, inc_at, borrower_at, broken_issue, broken_issuer}
+use Rattle.qs_world_runs.proofs.Words.{book_after, broken, effect, opening, TransactionValue, cell_of, changed_value, decided_at, ended_part, given_back, learnt_part, life, life_cmp, no_part, voted_part, yielded_part, Opened, Life, Part, Op, Reply, Vote, opened_from, opens_soundly, none_below_zero}
 use Rattle.std.proofs.lemmas.Map.Views.{All-values-insert_entry, All-values-set_value, IfSome-lookup_from_All}
-use Rattle.std.specs.BTreeMap.{is_at}
 use Rattle.std.specs.List.{All}
-use Rattle.std.specs.Map.{lookup, set_value, values_of}
-use Rattle.std.specs.Option.{option_map}
-use Rattle.std.specs.Prelude.{IfSome, is_none, is_some, unwrap_or, slice_get}
-use Rattle.qs_base.proofs.Same.{same_tid-true}
-use Rattle.qs_base.specs.Order.{same_tid}
-use Rattle.qs_base.specs.declared.identifiers.ClientNo.{ClientNo}
-use Rattle.qs_base.specs.declared.identifiers.Member.{Member}
+use Rattle.std.specs.Map.{values_of}
+use Rattle.std.specs.Prelude.{IfSome}
 use Rattle.qs_base.specs.declared.identifiers.Outcome.{Outcome}
 use Rattle.qs_base.specs.declared.identifiers.Outcome.TheVariants as outcomes
-use Rattle.qs_base.specs.declared.identifiers.Tid.{Tid}
-use Rattle.qs_book_journal.specs.declared.entry.Act.{Act}
 use Rattle.qs_book_journal.specs.declared.entry.Act.TheVariants as acts
-use Rattle.qs_book_journal.specs.declared.entry.Entry.{Entry}
 use Rattle.qs_book_laws.specs.Laws.{IsCoherent}
 use Rattle.qs_book_laws.proofs.Always.{IsSo, opening_so, step_so}
 use Rattle.qs_book_laws.proofs.Ends.{lawful_node}
 use Rattle.qs_book_laws.proofs.Faces.{face}
-use Rattle.qs_book_laws.proofs.InRun.{ran_run}
 use Rattle.qs_book_laws.proofs.Openings.{opening_holds}
-use Rattle.qs_book_laws.proofs.Outcomes.{Inv}
 use Rattle.qs_book_laws.proofs.ShutOpenings.{opening_opens}
-use Rattle.qs_book_laws.proofs.Steps.{held, stepped}
-use Rattle.qs_book_laws.proofs.Turns.{Gives, GivesFor, step_turns, Obliged}
-use Rattle.qs_book_machine.specs.Book.{BookValue, find_transaction, inc_at}
-use Rattle.qs_book_machine.specs.Clauses.{borrower_at, broken_ask, broken_issue, broken_issuer, broken_loan, broken_serve, is_client_here, is_files_here, is_note_due, is_numbered, may_ask, may_issue, may_issue_as_borrower, may_issue_as_owner, may_lend}
-use Rattle.qs_book_machine.specs.Lawful.{IsLawful, book_after, broken, effect}
+use Rattle.qs_book_laws.proofs.Steps.{stepped}
+use Rattle.qs_book_machine.specs.Clauses.{broken_ask, broken_loan, broken_serve, is_client_here, is_files_here, is_note_due, is_numbered, may_ask, may_issue, may_issue_as_borrower, may_issue_as_owner, may_lend}
+use Rattle.qs_book_machine.specs.Lawful.{IsLawful}
 use Rattle.qs_book_machine.specs.Nodes.{NodeValue}
-use Rattle.qs_book_machine.specs.Opening.{opening}
-use Rattle.qs_book_machine.specs.Transaction.{TransactionValue, asked_at, cell_of, changed_value, counted, decided_at, ended, ended_part, given_back, has_loan, is_loan_due, is_open, learnt, learnt_part, lent, life, life_cmp, no_part, part_of, voted, voted_part, yielded_part}
-use Rattle.qs_book_machine.specs.declared.opened.Opened.{Opened}
-use Rattle.qs_book_machine.specs.declared.transaction.Life.{Life}
-use Rattle.qs_book_machine.specs.declared.transaction.Part.{Part}
-use Rattle.qs_ops.specs.declared.operation.Op.{Op}
-use Rattle.qs_ops.specs.declared.reply.Reply.{Reply}
-use Rattle.qs_ops.specs.declared.vote.Vote.{Vote}
+use Rattle.qs_book_machine.specs.Transaction.{asked_at, counted, ended, has_loan, is_loan_due, is_open, learnt, lent, part_of, voted}
 use Rattle.qs_ops.specs.declared.vote.Vote.TheVariants as votes
-use Rattle.qs_world.specs.Histories.{opened_from}
 use Rattle.qs_world_refine.proofs.SoundParts.{and_both}
-use Rattle.qs_world_lawful.proofs.CoherentOpenings.{opens_soundly}
 use Rattle.qs_world_runs.specs.Labels.{RequestsOwned}
 
 -- no loan was made, and none is due
@@ -246,10 +223,7 @@ module _ (tid : Tid) (size : ℕ) where
       (step_so tid Idle book entry i lawful.0 (λ label client ticks none. absurd (cc none)) (step_turns tid Idle Idle book entry i lawful.0 (obliged tid size book sized entry lawful.0 entry.act refl)) so)
 
 no_parts : All HasNoLoan []
-no_parts k d low = absurd (none k low)
-  where
-    none : (k : ℕ) → k < 0 → ⊥
-    none k e = grind (arith, e)
+no_parts k d low = absurd (none_below_zero k low)
 
 record IsYet (tx : TransactionValue) : Type 0 where
   unasked : tx.asked ≡ None

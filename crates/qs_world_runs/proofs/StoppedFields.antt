@@ -1,38 +1,12 @@
 -- A free node stops: its lives agree, and requests stay placed where none was on its way to it, nor kept back by it, or each of these dooms.
-use Rattle.std.proofs.Common.{◌≡◌, ◌⊎◌, inl, inr, ℕ, ◌+◌, ◌-◌, ◌<◌, ◌≤◌, ◌==◌, ◌&&◌, Bool, true, false, List, [], ◌∷◌, length, map, Some, None, zero, suc, refl, sym, ap, subst, ◌∙◌, arith, if◌then◌else◌}
-use Rattle.std.proofs.lemmas.Bool.{eqb-true}
-use Rattle.std.proofs.lemmas.Bool.Decides.{nat_tests}
-use Rattle.std.specs.List.{filter}
-use Rattle.qs_base.specs.declared.identifiers.ServerNo.{ServerNo}
-use Rattle.qs_base.specs.declared.identifiers.Tid.{Tid}
-use Rattle.qs_ipc.specs.Ipc.{queue_at}
-use Rattle.qs_ipc.specs.declared.delivery.Delivery.{Delivery}
-use Rattle.qs_book_journal.specs.declared.entry.CrashCause.{CrashCause}
-use Rattle.qs_book_machine.specs.Book.{BookValue, find_transaction}
-use Rattle.qs_book_machine.specs.Transaction.{TransactionValue, agrees, is_open, standing_request}
-use Rattle.qs_book_machine.specs.declared.transaction.Life.{Life}
-use Rattle.qs_book_machine.specs.declared.transaction.Part.{Part}
-use Rattle.qs_book_machine.specs.declared.transaction.Request.{Request}
-use Rattle.qs_book_machine.specs.declared.transaction.RequestNo.{RequestNo}
-use Rattle.qs_record.specs.declared.record.Record.{Record}
+use Rattle.qs_world_runs.proofs.Words.{◌≡◌, ◌⊎◌, inl, inr, ℕ, ◌+◌, ◌-◌, ◌<◌, ◌≤◌, ◌==◌, ◌&&◌, Bool, true, false, List, [], ◌∷◌, length, map, Some, None, zero, suc, refl, sym, ap, subst, ◌∙◌, arith, if◌then◌else◌, le_refl, eqb-true, nat_tests, filter, ServerNo, Tid, queue_at, Delivery, CrashCause, BookValue, find_transaction, TransactionValue, agrees, standing_request, Life, Part, Request, RequestNo, Record, stopped, Parcel, World, Open, Committed, Aborted, IsDoomed, has_request, link}
+use Rattle.qs_world_runs.proofs.Words.{waiting_link, all_said, IsShownWorld, none_waits, steady, node_stopped, pending, pending_from, still_held, AreIssued, Field, message_of, sent_between, kept_between, field_of, standing, waiting, asked, IsIssued, IsPlaced, EachPlaced, IsLife, IsPresent, EachLives, Placed, le_le, zero_least}
+use Rattle.qs_book_machine.specs.Transaction.{is_open}
 use Rattle.qs_node_step.specs.State.{NodeValue}
-use Rattle.qs_world.specs.Moves.{stopped}
-use Rattle.qs_world.specs.World.{Parcel, World}
 use Rattle.qs_world_agree.specs.World as machine
-use Rattle.qs_world_agree.specs.World.{Outcome, Open, Committed, Aborted}
-use Rattle.qs_world_agree.specs.Doomed.{IsDoomed}
-use Rattle.qs_world_refine.specs.CommitLaws.{has_request}
-use Rattle.qs_world_refine.specs.Links.{link, waiting_link}
-use Rattle.qs_world_refine.specs.Messages.{all_said}
-use Rattle.qs_world_refine.specs.ShownWorlds.{IsShownWorld}
-use Rattle.qs_world_refine.proofs.NodeReady.{none_waits}
-use Rattle.qs_world_refine.proofs.ShownMoves.{steady}
-use Rattle.qs_world_refine.proofs.StepAll.{node_stopped}
+use Rattle.qs_world_agree.specs.World.{Outcome}
 use Rattle.qs_world_lawful.specs.Face.{is_numbered}
 use Rattle.qs_world_lawful.specs.Holds.{Holds}
-use Rattle.qs_world_lawful.specs.Parcels.{pending, pending_from}
-use Rattle.qs_world_lawful.proofs.Still.{still_held}
-use Rattle.qs_world_runs.specs.Placed.{AreIssued, Field, message_of, sent_between, kept_between, field_of, standing, waiting, asked, IsIssued, IsPlaced, EachPlaced, IsLife, IsPresent, EachLives, Placed}
 use Rattle.qs_world_runs.specs.PlacedLaws.{IsFree}
 use Rattle.qs_world_runs.specs.PlacesApart.{NoneOf}
 use Rattle.qs_world_runs.proofs.CommitsPlaced.{NoneIn, none_in, none_then}
@@ -103,12 +77,6 @@ module _ (tid : Tid) (book : BookValue) (tx : TransactionValue) (world : World) 
   keeps : (k m : ℕ) → m < world.size → IsDoomed v ⊎ StaysKept k m
   keeps k m m_in = by (k == n) refl
     where
-      itself : (a : ℕ) → a ≤ a
-      itself a = omega arith
-
-      least : (a b : ℕ) → a ≡ 0 → a ≤ b
-      least a b none = omega (arith, none)
-
       dooms : (b c : Bool) → (world.channels.peer n m == 0) ≡ c → has_request (all_said tid (map message_of (if b && c then world.channels.waits n m else []))) ≡ true → IsDoomed v
       dooms true true unknown has = kept_back m m_in (eqb-true (world.channels.peer n m) 0 unknown) has
       dooms true false known has = absurd (cc has)
@@ -116,12 +84,12 @@ module _ (tid : Tid) (book : BookValue) (tx : TransactionValue) (world : World) 
 
       lost : IsDoomed v ⊎ NothingIn (kept_between world (world.channels.up n) n m) → IsDoomed v ⊎ StaysKept n m
       lost (inl doomed) = inl doomed
-      lost (inr none) = inr (λ server number. least (asked tid server number (old.kept n m)) (asked tid server number (new.kept n m)) (none server number))
+      lost (inr none) = inr (λ server number. zero_least (asked tid server number (old.kept n m)) (asked tid server number (new.kept n m)) (none server number))
 
       by : (b : Bool) → (k == n) ≡ b → IsDoomed v ⊎ StaysKept k m
       by true same = subst (λ (j : ℕ). IsDoomed v ⊎ StaysKept j m) (sym (eqb-true k n same))
           (lost (none_of (kept_between world (world.channels.up n) n m) (dooms (world.channels.up n) (world.channels.peer n m == 0) refl)))
-      by false apart = inr (λ server number. subst (λ (b : Bool). asked tid server number (old.kept k m) ≤ asked tid server number (map message_of (kept_between world b k m))) (sym (up_is k apart)) (itself (asked tid server number (old.kept k m))))
+      by false apart = inr (λ server number. subst (λ (b : Bool). asked tid server number (old.kept k m) ≤ asked tid server number (map message_of (kept_between world b k m))) (sym (up_is k apart)) (le_refl (asked tid server number (old.kept k m))))
 
   -- ---- requests
 
@@ -159,14 +127,11 @@ module _ (tid : Tid) (book : BookValue) (tx : TransactionValue) (world : World) 
       there = placed.there;
       runs = λ up server. more (standing at server requests) (waiting tid old at server) (waiting tid new at server) (asked tid server at.number (old.sent from to)) (asked tid server at.number (old.kept from to)) (asked tid server at.number (new.kept from to))
           (placed.runs (sym (up_is to apart) ∙ up) server) (ap (λ (k : NodeValue). length (filter (is_numbered at) (Rattle.qs_world_lawful.specs.Face.waiting_at k tid server))) (node_is to)) (stays server at.number);
-      stopped = λ off server. longer (standing at server requests) (asked tid server at.number (old.kept from to)) (asked tid server at.number (new.kept from to)) (placed.stopped (sym (up_is to apart) ∙ off) server) (stays server at.number);
+      stopped = λ off server. le_le (standing at server requests) (asked tid server at.number (old.kept from to)) (asked tid server at.number (new.kept from to)) (placed.stopped (sym (up_is to apart) ∙ off) server) (stays server at.number);
     }
       where
         more : (a b c d e f : ℕ) → a ≤ b + (d + e) → c ≡ b → e ≤ f → a ≤ c + (d + f)
         more a b c d e f less p r = omega (arith, less, p, r)
-
-        longer : (a b c : ℕ) → a ≤ b → b ≤ c → a ≤ c
-        longer a b c p r = omega (arith, p, r)
 
     one : IsDoomed v ⊎ IsPlaced tid new at requests
     one = by (to == n) refl (keeps from to placed.to_in)

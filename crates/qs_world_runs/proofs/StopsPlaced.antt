@@ -1,36 +1,15 @@
 -- A node stops: who was engaged dooms what it was engaged for; who was not was idle, and its lives agree. What was on its way to it, and what it kept back, dooms too.
-use Rattle.std.proofs.Common.{◌≡◌, ◌⊎◌, inl, inr, ℕ, ◌+◌, ◌<◌, ◌≤◌, Bool, true, false, List, map, Some, refl, sym, subst, ◌∙◌, arith}
-use Rattle.std.proofs.lemmas.Bool.Decides.{nat_tests}
-use Rattle.qs_base.specs.declared.identifiers.Tid.{Tid}
-use Rattle.qs_book_journal.specs.declared.entry.CrashCause.{CrashCause}
-use Rattle.qs_book_machine.specs.Book.{BookValue, find_transaction}
-use Rattle.qs_book_machine.specs.Transaction.{TransactionValue, is_open}
-use Rattle.qs_record.specs.declared.record.Record.{Record}
-use Rattle.qs_world.specs.Moves.{stopped}
-use Rattle.qs_world.specs.World.{World}
+use Rattle.qs_world_runs.proofs.Words.{◌≡◌, ◌⊎◌, inl, inr, ℕ, ◌+◌, ◌<◌, ◌≤◌, Bool, true, false, List, map, Some, refl, sym, subst, ◌∙◌, arith, nat_tests, Tid, CrashCause, BookValue, find_transaction, TransactionValue, Record, stopped, World, Open, Committed, Aborted, IsDoomed, IsPast, IsLeft, doom_stays, abort_dooms, has_request, ShowsAll, ShowsFace, link, waiting_link, all_said, face_at, place, scene_of, sight, IsShownWorld, requested, commit_clear, commit_unmet, invariant, steady, pending}
+use Rattle.qs_world_runs.proofs.Words.{still_held, message_of, field_of, Placed, LeavesNone}
+use Rattle.qs_book_machine.specs.Transaction.{is_open}
 use Rattle.qs_world_agree.specs.World as machine
-use Rattle.qs_world_agree.specs.World.{Outcome, Open, Committed, Aborted}
-use Rattle.qs_world_agree.specs.Doomed.{IsDoomed, IsPast, IsLeft, IsKeptBack}
-use Rattle.qs_world_agree.proofs.Doomed.{doom_stays, abort_dooms, engaged_past_dooms, left_dooms, kept_back_dooms, engaged_is_open}
-use Rattle.qs_world_refine.specs.CommitLaws.{has_request}
+use Rattle.qs_world_agree.specs.World.{Outcome}
+use Rattle.qs_world_agree.specs.Doomed.{IsKeptBack}
+use Rattle.qs_world_agree.proofs.Doomed.{engaged_past_dooms, left_dooms, kept_back_dooms, engaged_is_open}
 use Rattle.qs_world_refine.specs.CutLaws.{StopsAlone}
-use Rattle.qs_world_refine.specs.EachMove.{ShowsAll}
-use Rattle.qs_world_refine.specs.Faces.{ShowsFace}
-use Rattle.qs_world_refine.specs.Links.{link, waiting_link}
-use Rattle.qs_world_refine.specs.Messages.{all_said}
-use Rattle.qs_world_refine.specs.NodeFaces.{face_at}
-use Rattle.qs_world_refine.specs.Places.{place}
-use Rattle.qs_world_refine.specs.Shows.{scene_of, sight}
-use Rattle.qs_world_refine.specs.ShownWorlds.{IsShownWorld}
-use Rattle.qs_world_refine.proofs.CommitIdles.{never, requested, off_idle, commit_clear, commit_unmet}
-use Rattle.qs_world_refine.proofs.Facts.{invariant}
-use Rattle.qs_world_refine.proofs.ShownMoves.{steady}
+use Rattle.qs_world_refine.proofs.CommitIdles.{never, off_idle}
 use Rattle.qs_world_lawful.specs.Holds.{Holds}
-use Rattle.qs_world_lawful.specs.Parcels.{pending}
-use Rattle.qs_world_lawful.proofs.Still.{still_held}
-use Rattle.qs_world_runs.specs.Placed.{message_of, field_of, Placed}
 use Rattle.qs_world_runs.specs.PlacedLaws.{IsFree}
-use Rattle.qs_world_runs.specs.PlacesApart.{LeavesNone}
 use Rattle.qs_world_runs.specs.StopLaws.{StopsPlaced, CutPlaced, StopHolds, CutHolds}
 use Rattle.qs_world_runs.proofs.CommitsPlaced.{idle_free, none_decided}
 use Rattle.qs_world_runs.proofs.StoppedFields.{placed_then}

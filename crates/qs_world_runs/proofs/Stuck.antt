@@ -1,48 +1,21 @@
 -- What keeps a node from being ready for a transaction stays so through the rest of its step: its own turn, that of every other, and commands that stayed open.
-use Rattle.std.proofs.Common.{◌≡◌, ℕ, Bool, true, false, List, [], ◌∷◌, Option, Some, None, refl, sym, subst, ◌∙◌, if◌then◌else◌, ◌&&◌, not}
-use Rattle.std.specs.BTreeMap.{is_at}
-use Rattle.std.specs.Map.{lookup}
-use Rattle.qs_base.specs.Order.{same_tid}
-use Rattle.qs_base.specs.declared.identifiers.ClientNo.{ClientNo}
-use Rattle.qs_base.specs.declared.identifiers.Member.{Member}
+use Rattle.qs_world_runs.proofs.Words.{◌≡◌, ℕ, Bool, true, false, List, [], ◌∷◌, Option, Some, None, refl, sym, subst, ◌∙◌, if◌then◌else◌, ◌&&◌, not, is_at, lookup, same_tid, ClientNo, Member, Tid, Command, first_untaken, last_taken, give_back, take_first, Begun, Decided, Lent, Cause, Op, client_server, kept_outcome, borrower_command, is_aborted, is_void, lent_command, loan_command, take, with_loan, answer, enter, log_if, decided_answer, request_as, request_command, decide_as, end_members}
+use Rattle.qs_world_runs.proofs.Words.{give_notices, keep_outcome, label_at, forget_rule, is_pass_due, may_answer, pass_rule, ready, ready_rule, refusal_goes_to, refuse_elsewhere, refuse_rule, send_refusal, settle_tid, try, is_busy, Work, client_cmp, doings_of, with_manager, with_doings, with_kept, borrower_waits, is_owner, owner_waits, wait_command, wait_on, waits_at, forget, vote_pass, Issued, OpenCommand, is_undecided, Decision, Participant, settle_leaves, same_is}
 use Rattle.qs_base.specs.declared.identifiers.Outcome.TheVariants as outcomes
-use Rattle.qs_base.specs.declared.identifiers.Tid.{Tid}
 use Rattle.qs_book_journal.specs.declared.entry.Act.TheVariants as acts
-use Rattle.qs_book_journal.specs.declared.script_line.Command.{Command}
 use Rattle.qs_book_journal.specs.declared.script_line.Command.TheVariants as commands
-use Rattle.qs_node_kept.specs.Loans.{first_untaken, last_taken, give_back, take_first}
-use Rattle.qs_node_kept.specs.declared.kept.KeptLabel.{KeptLabel}
-use Rattle.qs_node_kept.specs.declared.kept.Decided.{Decided}
-use Rattle.qs_node_kept.specs.declared.kept.Lent.{Lent}
 use Rattle.qs_ops.specs.declared.answer.Answer.TheVariants as answers
-use Rattle.qs_ops.specs.declared.answer.Cause.{Cause}
-use Rattle.qs_ops.specs.declared.operation.Op.{Op}
 use Rattle.qs_packet.specs.declared.message.Message.TheVariants as messages
-use Rattle.qs_node_servers.specs.Servers.{client_server}
-use Rattle.qs_node_step.specs.Answering.{kept_outcome}
-use Rattle.qs_node_step.specs.Borrowing.{borrower_command, is_aborted, is_void, lent_command, loan_command, take, with_loan}
-use Rattle.qs_node_step.specs.Bringing.{answer, enter, log_if}
-use Rattle.qs_node_step.specs.Commands.{decided_answer, request_as, request_command, with_issued}
-use Rattle.qs_node_step.specs.Deciding.{decide, decide_as, end_members, give_notices, keep_outcome}
+use Rattle.qs_node_step.specs.Commands.{with_issued}
+use Rattle.qs_node_step.specs.Deciding.{decide}
 use Rattle.qs_node_step.specs.Requests.{next_number}
-use Rattle.qs_node_step.specs.Serving.{label_at}
-use Rattle.qs_node_step.specs.Settling.{forget_rule, is_pass_due, may_answer, pass_rule, ready, ready_rule, refusal_goes_to, refuse_elsewhere, refuse_rule, send_refusal, settle_tid, try, is_busy}
-use Rattle.qs_node_step.specs.State.{Work, client_cmp, doings_of, part_of, with_manager, with_doings, with_kept}
-use Rattle.qs_node_step.specs.Step.{borrower_waits, is_owner, owner_waits, wait_command, wait_on, waits_at}
-use Rattle.qs_node_step.specs.Telling.{forget}
-use Rattle.qs_node_step.specs.Voting.{vote_pass}
-use Rattle.qs_node_step.specs.declared.state.Issued.{Issued}
-use Rattle.qs_node_step.specs.declared.state.OpenCommand.{OpenCommand}
+use Rattle.qs_node_step.specs.State.{part_of}
 use Rattle.qs_tm.specs.Manager as tm
 use Rattle.qs_tm.specs.Outcomes as outcome_rules
 use Rattle.qs_tm.specs.Participant as participant
-use Rattle.qs_tm.specs.Participant.{is_undecided}
-use Rattle.qs_tm.specs.declared.manager.Decision.{Decision}
-use Rattle.qs_tm.specs.declared.participant.Participant.{Participant}
-use Rattle.qs_world_refine.proofs.SettleFrames.{settle_leaves}
-use Rattle.qs_world_refine.proofs.SoundKnown.{same_is}
 use Rattle.qs_world_runs.proofs.Onward.{IsStuck, aborted_onward, causes_onward, onward_itself, stuck_kept, stuck_unready}
 use Rattle.qs_world_runs.proofs.StuckRules.{Keeps, Kept, Sticks, answer_keeps, end_keeps, issue_keeps, keeps_fold, keeps_itself, keeps_on, keeps_part, keeps_same, learn_keeps, log_keeps, pass_keeps, send_keeps, sends_keep, sticks_on}
+use Rattle.std.proofs.lemmas.Bool.{and_left}
 
 module _ (t : Tid) where
   -- ---- its own turn
@@ -56,11 +29,8 @@ module _ (t : Tid) where
 
   -- it is not ready
   readies : (work : Work) (part : Participant) → part_of t work ≡ Some part → IsStuck part → Kept t work (ready_rule t part work) part
-  readies work part known stuck = by (may_answer t part work) (off (participant.is_ready (is_busy t work.node part) part) (not (participant.needs_pass part) && not (doings_of t work).prepared) (stuck_unready part stuck (is_busy t work.node part)))
+  readies work part known stuck = by (may_answer t part work) (and_left (participant.is_ready (is_busy t work.node part) part) (not (participant.needs_pass part) && not (doings_of t work).prepared) (stuck_unready part stuck (is_busy t work.node part)))
     where
-      off : (a b : Bool) → a ≡ false → (a && b) ≡ false
-      off a b is = rw is refl
-
       by : (b : Bool) → b ≡ false → Kept t work (if b then ready t part work else work) part
       by true is = absurd (cc is)
       by false is = record { next = part; known = known; onward = onward_itself part; setting = refl }
@@ -206,7 +176,7 @@ module _ (t : Tid) where
       borrower None None command = keeps_itself t work
       borrower None (Some tid) command = borrower_keeps client tid command work
 
-      at : (command : OpenCommand) (o : Option KeptLabel) → Keeps t work (elim o [ None ↦ work | Some begun ↦ waits_at client command begun work ])
+      at : (command : OpenCommand) (o : Option Begun) → Keeps t work (elim o [ None ↦ work | Some begun ↦ waits_at client command begun work ])
       at command None = keeps_itself t work
       at command (Some begun) = which (is_owner client begun.owner)
         where

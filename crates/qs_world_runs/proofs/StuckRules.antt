@@ -1,44 +1,20 @@
 -- What keeps a node from being ready for a transaction stays so through votes, notes, requests, and whatever else changes what the node keeps of one.
-use Rattle.std.proofs.Common.{◌≡◌, ℕ, Bool, true, false, List, [], ◌∷◌, ◌++◌, Option, Some, None, fold, refl, ap, subst, ◌∙◌, if◌then◌else◌}
-use Rattle.std.specs.BTreeMap.{is_at}
-use Rattle.std.specs.Map.{lookup, remove_entry}
-use Rattle.qs_base.specs.Order.{same_tid, tid_cmp}
-use Rattle.qs_base.specs.declared.identifiers.ClientNo.{ClientNo}
-use Rattle.qs_base.specs.declared.identifiers.NodeNo.{NodeNo}
+use Rattle.qs_world_runs.proofs.Words.{◌≡◌, ℕ, Bool, true, false, List, [], ◌∷◌, ◌++◌, Option, Some, None, fold, refl, ap, subst, ◌∙◌, if◌then◌else◌, is_at, lookup, remove_entry, same_tid, tid_cmp, ClientNo, NodeNo, ServerNo, Tid, same_node, Delivery, vote_of, changes_in, Answer, Op, Vote, Message, Record, server_at, answer, is_other, log_if, member_here, send, send_each, send_next, tid_of, due_endings, end_member, end_members, learn_member, learners_at, ask_on, enter_issue, is_asked}
+use Rattle.qs_world_runs.proofs.Words.{issue_as, issue_away, issue_here, label_of, with_local, Work, client_cmp, here, with_manager, with_queues, due_votes, enter_vote, issue_note, owes_note, served_count, vote_frame, vote_next, vote_pass, vote_with, OpenCommand, Manager, Outstanding, Participant, same_is, note_op, note_request}
 use Rattle.qs_base.specs.declared.identifiers.Outcome.{Outcome}
-use Rattle.qs_base.specs.declared.identifiers.ServerNo.{ServerNo}
-use Rattle.qs_base.specs.declared.identifiers.Tid.{Tid}
-use Rattle.qs_engage.specs.Nodes.{same_node}
 use Rattle.qs_ipc.specs.Ipc as ipc
 use Rattle.qs_ipc.specs.Queue.{is_for}
-use Rattle.qs_ipc.specs.declared.delivery.Delivery.{Delivery}
 use Rattle.qs_book_journal.specs.declared.entry.Act.TheVariants as acts
-use Rattle.qs_ops.specs.Server.{vote_of, changes_in}
-use Rattle.qs_ops.specs.declared.answer.Answer.{Answer}
-use Rattle.qs_ops.specs.declared.operation.Op.{Op}
-use Rattle.qs_ops.specs.declared.vote.Vote.{Vote}
 use Rattle.qs_ops.specs.declared.vote.Vote.TheVariants as votes
-use Rattle.qs_packet.specs.declared.message.Message.{Message}
 use Rattle.qs_packet.specs.declared.message.Message.TheVariants as messages
-use Rattle.qs_record.specs.declared.record.Record.{Record}
-use Rattle.qs_node_servers.specs.Servers.{server_at}
-use Rattle.qs_node_step.specs.Bringing.{answer, is_other, log_if, member_here, send, send_each, send_next, tid_of}
-use Rattle.qs_node_step.specs.Deciding.{due_endings, end_member, end_members, learn_member, learners_at}
-use Rattle.qs_node_step.specs.Requests.{ask_on, enter_issue, is_asked, issue_as, issue_away, issue_here, label_of, next_number, with_local}
-use Rattle.qs_node_step.specs.State.{Work, client_cmp, here, part_of, with_manager, with_queues}
-use Rattle.qs_node_step.specs.Voting.{due_votes, enter_vote, issue_note, owes_note, served_count, vote_frame, vote_next, vote_pass, vote_with}
-use Rattle.qs_node_step.specs.declared.state.OpenCommand.{OpenCommand}
+use Rattle.qs_node_step.specs.Requests.{next_number}
+use Rattle.qs_node_step.specs.State.{part_of}
 use Rattle.qs_tm.specs.Manager as tm
 use Rattle.qs_tm.specs.Outcomes as outcome_rules
 use Rattle.qs_tm.specs.Participant as participant
-use Rattle.qs_tm.specs.declared.manager.Manager.{Manager}
-use Rattle.qs_tm.specs.declared.participant.Outstanding.{Outstanding}
-use Rattle.qs_tm.specs.declared.participant.Participant.{Participant}
 use Rattle.qs_world_refine.proofs.Frames.{part_apart}
 use Rattle.qs_world_refine.proofs.Maps.{lookup_changed}
-use Rattle.qs_world_refine.proofs.SoundKnown.{same_is}
 use Rattle.qs_world_runs.proofs.Onward.{IsStuck, Onward, issued_onward, logged_onward, onward_itself, onward_on, sent_onward, settled_onward, stuck_on, voted_onward}
-use Rattle.qs_world_runs.specs.PlacesGo.{note_op, note_request}
 use Rattle.qs_record.specs.declared.record.Record.TheVariants as records
 
 -- what is kept of the transaction after a rule goes on from what was

@@ -1,43 +1,17 @@
 -- What clients command leaves what was served and what waits within the numbers that were given: an owner's transaction runs at its home here, and of what is lent numbers were given.
-use Rattle.std.proofs.Common.{◌≡◌, ℕ, ◌+◌, ◌==◌, not, ◌||◌, Bool, true, false, Option, Some, None, refl, sym, subst, ◌∙◌}
-use Rattle.std.specs.Prelude.{if◌then◌else◌}
-use Rattle.qs_base.specs.declared.identifiers.ClientNo.{ClientNo}
-use Rattle.qs_base.specs.declared.identifiers.Member.{Member}
-use Rattle.qs_base.specs.declared.identifiers.NodeNo.{NodeNo}
+use Rattle.qs_world_runs.proofs.Words.{◌≡◌, ℕ, ◌+◌, ◌==◌, Bool, true, false, Option, Some, None, refl, sym, subst, ◌∙◌, if◌then◌else◌, ClientNo, Member, NodeNo, Tid, last_number, same_node, Command, ScriptLine, first_untaken, give_back, last_taken, take_first, Begun, Decided, Lent, Op, client_server, kept_outcome, become_asked, borrower_command, is_aborted, is_void, lent_command, loan_command, take, take_command, with_loan, answer, enter, ask, begin_command, begin_or_refuse, decided_answer}
+use Rattle.qs_world_runs.proofs.Words.{enter_ask, open_command, owner_command, request_command, issue_away, issue_here, next_local, label_at, put_label, Work, here, with_doings, with_kept, with_manager, command_came, is_owner, labelled, obey, with_command, BeginFault, Outstanding, Participant, HasNodeFacts, IsRunning, same_self, AreTallied, IsTallied, tally_of, not_implied}
 use Rattle.qs_base.specs.declared.identifiers.Outcome.TheVariants as outcomes
-use Rattle.qs_base.specs.declared.identifiers.Tid.{Tid}
-use Rattle.qs_engage.specs.Engage.{last_number}
-use Rattle.qs_engage.specs.Nodes.{same_node}
 use Rattle.qs_book_journal.specs.declared.entry.Act.TheVariants as acts
-use Rattle.qs_book_journal.specs.declared.script_line.Command.{Command}
 use Rattle.qs_book_journal.specs.declared.script_line.Command.TheVariants as commands
-use Rattle.qs_book_journal.specs.declared.script_line.ScriptLine.{ScriptLine}
-use Rattle.qs_node_kept.specs.Loans.{first_untaken, give_back, last_taken, take_first}
-use Rattle.qs_node_kept.specs.declared.kept.KeptLabel.{KeptLabel}
-use Rattle.qs_node_kept.specs.declared.kept.Decided.{Decided}
-use Rattle.qs_node_kept.specs.declared.kept.Lent.{Lent}
 use Rattle.qs_ops.specs.declared.answer.Answer.TheVariants as answers
 use Rattle.qs_ops.specs.declared.answer.Cause.TheVariants as causes
-use Rattle.qs_ops.specs.declared.operation.Op.{Op}
-use Rattle.qs_node_servers.specs.Servers.{client_server}
-use Rattle.qs_node_step.specs.Answering.{kept_outcome}
-use Rattle.qs_node_step.specs.Asking.{become_asked}
-use Rattle.qs_node_step.specs.Borrowing.{borrower_command, is_aborted, is_void, lent_command, loan_command, take, take_command, with_loan}
-use Rattle.qs_node_step.specs.Bringing.{answer, enter}
-use Rattle.qs_node_step.specs.Commands.{ask, begin_command, begin_or_refuse, decided_answer, enter_ask, open_command, owner_command, request_command, with_issued}
+use Rattle.qs_node_step.specs.Commands.{with_issued}
 use Rattle.qs_node_step.specs.Deciding.{decide}
-use Rattle.qs_node_step.specs.Requests.{issue_away, issue_here, local_count, next_local}
-use Rattle.qs_node_step.specs.Serving.{label_at, put_label}
-use Rattle.qs_node_step.specs.State.{Work, here, part_of, with_doings, with_kept, with_manager}
-use Rattle.qs_node_step.specs.Step.{command_came, is_owner, labelled, obey, with_command}
+use Rattle.qs_node_step.specs.Requests.{local_count}
+use Rattle.qs_node_step.specs.State.{part_of}
 use Rattle.qs_tm.specs.Manager as tm
-use Rattle.qs_tm.specs.declared.manager.BeginFault.{BeginFault}
 use Rattle.qs_tm.specs.declared.manager.BeginFault.TheVariants as faults
-use Rattle.qs_tm.specs.declared.participant.Outstanding.{Outstanding}
-use Rattle.qs_tm.specs.declared.participant.Participant.{Participant}
-use Rattle.qs_world_lawful.specs.NodeFacts.{HasNodeFacts, IsRunning}
-use Rattle.qs_world_lawful.proofs.Truths.{same_self}
-use Rattle.qs_world_runs.specs.Counted.{AreTallied, IsTallied, tally_of}
 use Rattle.qs_world_runs.proofs.TalliedLoans.{back_tallied, lent_tallied, present_stands, take_tallied}
 use Rattle.qs_world_runs.proofs.TalliedParts.{begin_tallied}
 use Rattle.qs_world_runs.proofs.TalliedRules as rules
@@ -117,16 +91,11 @@ module _ (W : Tid → Type 0) where
           (back_tallied W client tid (tally_of work.node) h)
       lent loan is given now (commands.Request member op) = λ h. request_command_keeps client tid member op work (lent_tallied W tid (tally_of work.node) (present_stands client tid work.node.setting.inc loan work.node.kept.now.loans is given now) h) h
 
-      -- a loan that is not void is of this incarnation
-      now_of : (a b : Bool) → (not a || b) ≡ false → a ≡ true
-      now_of true b e = refl
-      now_of false b e = absurd (cc e)
-
       loans : (c : Command) → Keeps work (loan_command client tid c work)
       loans c = rules.elim_keeps W (last_taken client tid work.node.kept.now.loans) work (λ loan. with_loan client tid c loan work) work (λ h. h)
           (λ loan is. rules.if_keeps W loan.yielded (answer client answers.NotYours work) (if is_void tid loan work.node then answer client answers.Ended work else lent_command client tid c work) work (λ yielded. rules.answer_keeps W client answers.NotYours work)
           (λ given. rules.if_keeps W (is_void tid loan work.node) (answer client answers.Ended work) (lent_command client tid c work) work (λ void. rules.answer_keeps W client answers.Ended work)
-          (λ void. lent loan is given (now_of (loan.inc == work.node.setting.inc) (is_aborted tid work.node) void) c)))
+          (λ void. lent loan is given (not_implied (loan.inc == work.node.setting.inc) (is_aborted tid work.node) void) c)))
 
       by : (c : Command) → Keeps work (borrower_command client tid c work)
       by commands.Take = takes
@@ -141,7 +110,7 @@ module _ (W : Tid → Type 0) where
     abbrev came : Work
     came = with_command line work
 
-    owned : (begun : KeptLabel) (owner : Option ClientNo) → label_at line.label work.node ≡ Some begun → begun.owner ≡ owner → is_owner line.client owner ≡ true → (tid : Tid) → begun.tid ≡ Some tid → kept_outcome tid work.node ≡ None → RunsHere tid came
+    owned : (begun : Begun) (owner : Option ClientNo) → label_at line.label work.node ≡ Some begun → begun.owner ≡ owner → is_owner line.client owner ≡ true → (tid : Tid) → begun.tid ≡ Some tid → kept_outcome tid work.node ≡ None → RunsHere tid came
     owned begun None found of own tid its none = absurd (cc own)
     owned begun (Some client) found of own tid its none = record {
       home = λ part known. (facts.parts tid part known).homed ∙ same;

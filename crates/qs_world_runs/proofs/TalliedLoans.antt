@@ -1,16 +1,8 @@
 -- What is lent is of transactions of which numbers were given: a loan is made of one, is taken, and is given back.
-use Rattle.std.proofs.Common.{◌≡◌, ◌⊎◌, inl, inr, ℕ, ◌==◌, ◌||◌, ◌&&◌, not, arith, Bool, true, false, List, [], ◌∷◌, ◌++◌, Option, Some, None, refl, sym, subst, ◌∙◌, if◌then◌else◌}
-use Rattle.std.proofs.lemmas.Bool.Decides.{nat_tests}
-use Rattle.std.specs.List.{list_any}
-use Rattle.std.specs.Prelude.{is_some}
-use Rattle.qs_base.specs.Order.{same_tid}
-use Rattle.qs_base.specs.declared.identifiers.ClientNo.{ClientNo}
-use Rattle.qs_base.specs.declared.identifiers.Tid.{Tid}
-use Rattle.qs_node_kept.specs.Loans.{give_back, is_standing_loan, is_taken, is_untaken, last_taken, take_first}
-use Rattle.qs_node_kept.specs.declared.kept.Lent.{Lent}
-use Rattle.qs_world_lawful.proofs.Apart.{Apart, same_or_apart}
-use Rattle.qs_world_lawful.proofs.Truths.{clash, of_some}
-use Rattle.qs_world_runs.specs.Counted.{AreTallied, IsBare, IsTallied, Tally}
+use Rattle.qs_world_runs.proofs.Words.{◌≡◌, ◌⊎◌, inl, inr, ℕ, ◌==◌, ◌||◌, ◌&&◌, not, arith, Bool, true, false, List, [], ◌∷◌, ◌++◌, Option, Some, None, refl, sym, subst, ◌∙◌, if◌then◌else◌, nat_tests, list_any, is_some, same_tid, ClientNo, Tid, give_back, is_standing_loan, is_taken, last_taken, take_first, Lent, same_or_apart, clash, of_some, AreTallied, IsBare, IsTallied, Tally, or_parts, or_right, or_left}
+use Rattle.qs_node_kept.specs.Loans.{is_untaken}
+use Rattle.qs_world_lawful.proofs.Apart.{Apart}
+use Rattle.std.proofs.lemmas.Bool.{or_from}
 
 -- ---- loans that stand
 
@@ -23,37 +15,29 @@ any_last p (first ∷ loans) loan new none = by (p first) (list_any p loans) ref
     by false true e none more = absurd (cc none)
     by false false e none more = more e
 
-both_off : (a b : Bool) → (a || b) ≡ false → (a ≡ false) × (b ≡ false)
-both_off false false e = (refl, refl)
-both_off true b e = absurd (cc e)
-both_off false true e = absurd (cc e)
-
-off_both : (a b : Bool) → a ≡ false → b ≡ false → (a || b) ≡ false
-off_both a b p q = rw (p, q) refl
-
 module _ (k : Tid) (inc : ℕ) where
   taken_off : (client : ClientNo) (tid : Tid) (loans : List Lent) → list_any (is_standing_loan k inc) loans ≡ false → list_any (is_standing_loan k inc) (take_first client tid loans) ≡ false
   taken_off client tid [] none = refl
-  taken_off client tid (loan ∷ loans) none = by (is_untaken client tid loan) (taken_off client tid loans (both_off (is_standing_loan k inc loan) (list_any (is_standing_loan k inc) loans) none).1)
+  taken_off client tid (loan ∷ loans) none = by (is_untaken client tid loan) (taken_off client tid loans (or_parts (is_standing_loan k inc loan) (list_any (is_standing_loan k inc) loans) none).1)
     where
       by : (b : Bool) → list_any (is_standing_loan k inc) (take_first client tid loans) ≡ false → list_any (is_standing_loan k inc) (if b then record loan { taken = true } ∷ loans else loan ∷ take_first client tid loans) ≡ false
       by true rest = none
-      by false rest = off_both (is_standing_loan k inc loan) (list_any (is_standing_loan k inc) (take_first client tid loans)) (both_off (is_standing_loan k inc loan) (list_any (is_standing_loan k inc) loans) none).0 rest
+      by false rest = or_from (is_standing_loan k inc loan) (list_any (is_standing_loan k inc) (take_first client tid loans)) (or_parts (is_standing_loan k inc loan) (list_any (is_standing_loan k inc) loans) none).0 rest
 
   given_off : (client : ClientNo) (tid : Tid) (loans : List Lent) → list_any (is_standing_loan k inc) loans ≡ false → list_any (is_standing_loan k inc) (give_back client tid loans) ≡ false
   given_off client tid [] none = refl
-  given_off client tid (loan ∷ loans) none = by (is_taken client tid loan && not (is_some (last_taken client tid loans))) (given_off client tid loans (both_off (is_standing_loan k inc loan) (list_any (is_standing_loan k inc) loans) none).1)
+  given_off client tid (loan ∷ loans) none = by (is_taken client tid loan && not (is_some (last_taken client tid loans))) (given_off client tid loans (or_parts (is_standing_loan k inc loan) (list_any (is_standing_loan k inc) loans) none).1)
     where
       parts : (is_standing_loan k inc loan ≡ false) × (list_any (is_standing_loan k inc) loans ≡ false)
-      parts = both_off (is_standing_loan k inc loan) (list_any (is_standing_loan k inc) loans) none
+      parts = or_parts (is_standing_loan k inc loan) (list_any (is_standing_loan k inc) loans) none
 
       back : (a : Bool) → (a && (not true && (loan.inc == inc))) ≡ false
       back true = refl
       back false = refl
 
       by : (b : Bool) → list_any (is_standing_loan k inc) (give_back client tid loans) ≡ false → list_any (is_standing_loan k inc) (if b then record loan { yielded = true } ∷ loans else loan ∷ give_back client tid loans) ≡ false
-      by true rest = off_both (is_standing_loan k inc (record loan { yielded = true })) (list_any (is_standing_loan k inc) loans) (back (same_tid k loan.tid)) parts.1
-      by false rest = off_both (is_standing_loan k inc loan) (list_any (is_standing_loan k inc) (give_back client tid loans)) parts.0 rest
+      by true rest = or_from (is_standing_loan k inc (record loan { yielded = true })) (list_any (is_standing_loan k inc) loans) (back (same_tid k loan.tid)) parts.1
+      by false rest = or_from (is_standing_loan k inc loan) (list_any (is_standing_loan k inc) (give_back client tid loans)) parts.0 rest
 
 -- ---- the present loan of a client stands where it was not given back and is of this incarnation
 
@@ -64,14 +48,6 @@ and_left false b c is = absurd (cc is)
 
 turned : (s t : Tid) → same_tid s t ≡ true → same_tid t s ≡ true
 turned s t is = grind (arith, nat_tests, is)
-
-or_right : (a b : Bool) → b ≡ true → (a || b) ≡ true
-or_right true b is = refl
-or_right false b is = is
-
-or_left : (a b : Bool) → a ≡ true → (a || b) ≡ true
-or_left true b is = refl
-or_left false b is = absurd (cc is)
 
 pub present_stands : (client : ClientNo) (tid : Tid) (inc : ℕ) (loan : Lent) (loans : List Lent) → last_taken client tid loans ≡ Some loan → loan.yielded ≡ false → (loan.inc == inc) ≡ true → list_any (is_standing_loan tid inc) loans ≡ true
 present_stands client tid inc loan [] found given now = absurd (cc found)

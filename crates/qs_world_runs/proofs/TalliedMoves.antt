@@ -1,39 +1,18 @@
 -- Nothing comes to the only node of a run from another one, so what it has served and what waits there stays within the numbers that were given: as a run begins,
 -- and through each move; and so all that waits can be counted.
-use Rattle.std.proofs.Common.{◌≡◌, ◌⊎◌, inl, inr, ℕ, ◌+◌, ◌<◌, ◌≤◌, ◌==◌, ◌&&◌, not, arith, nat_le, nat_lt, Bool, true, false, List, [], ◌∷◌, Option, Some, None, refl, sym, subst, if◌then◌else◌}
-use Rattle.std.proofs.lemmas.Bool.{eqb-true}
-use Rattle.std.proofs.lemmas.Bool.Decides.{nat_tests}
-use Rattle.std.specs.BTreeMap.{is_at}
-use Rattle.std.specs.List.{list_all}
-use Rattle.qs_base.proofs.Same.{same_tid-self}
-use Rattle.qs_base.specs.declared.identifiers.ServerNo.{ServerNo}
-use Rattle.qs_base.specs.declared.identifiers.Tid.{Tid}
-use Rattle.qs_engage.specs.Engage.{last_number}
-use Rattle.qs_ipc.specs.Ipc.{IpcValue, queue_at, server_cmp}
-use Rattle.qs_ipc.specs.Queue.{QueueValue, count_of, is_of}
-use Rattle.qs_ipc.specs.declared.delivery.Delivery.{Delivery}
-use Rattle.qs_book_journal.specs.declared.entry.CrashCause.{CrashCause}
-use Rattle.qs_node_kept.specs.Keeping.{no_kept}
-use Rattle.qs_node_step.specs.Opening.{recovered_of}
+use Rattle.qs_world_runs.proofs.Words.{◌≡◌, ◌⊎◌, inl, inr, ℕ, ◌+◌, ◌<◌, ◌≤◌, ◌==◌, ◌&&◌, not, arith, nat_le, nat_lt, Bool, true, false, List, [], ◌∷◌, Option, Some, None, refl, sym, subst, if◌then◌else◌, le_refl, eqb-true, and_parts, and_from, ltb-true, nat_tests, is_at, list_all, same_tid-self, ServerNo, Tid, last_number, IpcValue, queue_at, server_cmp, QueueValue, Delivery, CrashCause, no_kept, recovered_of, Event, member_of, Participant, Clock, Commanded, Cut, Handed, Meet, Move, Noticed}
+use Rattle.qs_world_runs.proofs.Words.{Queues, Rise, Source, Step, Stop, cut_with, event_of, may_move, may_step, moved, step_with, Opening, World, is_crash, server_no, IsSteady, from_client, from_node, from_notice, in_run, step_may, steady_gives, clash, of_some, AreTallied, IsBare, IsTallied, NoneBesides, given_in, tally_of, waits_in, Joined, some_not_zero}
+use Rattle.std.proofs.lemmas.Bool.{le-leb}
+use Rattle.qs_ipc.specs.Queue.{count_of, is_of}
 use Rattle.qs_node_step.specs.State.{NodeValue}
-use Rattle.qs_node_step.specs.declared.event.Event.{Event}
 use Rattle.qs_tm.specs.Manager as tm
-use Rattle.qs_tm.specs.Participant.{member_of}
-use Rattle.qs_tm.specs.declared.participant.Participant.{Participant}
-use Rattle.qs_world.specs.Moves.{Clock, Commanded, Cut, Handed, Meet, Move, Noticed, Queues, Rise, Source, Step, Stop, are_counted, cut_with, event_of, is_counted, is_in_order, may_move, may_serve, may_step, moved, step_with}
-use Rattle.qs_world.specs.World.{Opening, World}
+use Rattle.qs_world.specs.Moves.{are_counted, is_counted, is_in_order, may_serve}
 use Rattle.qs_session_channels.specs.Network.{with_at}
-use Rattle.qs_book_machine.specs.Clauses.{is_crash}
-use Rattle.qs_world_refine.specs.Sights.{server_no}
 use Rattle.qs_world_refine.specs.Sound.{is_label_before, is_loan_before}
-use Rattle.qs_world_refine.specs.Steady.{IsSteady, are_queues_apart, is_other_server}
-use Rattle.qs_world_refine.proofs.EachMay.{from_client, from_node, from_notice, is_next}
-use Rattle.qs_world_refine.proofs.MoveGoes.{in_run, step_may}
-use Rattle.qs_world_refine.proofs.SteadyFrom.{steady_gives}
-use Rattle.qs_world_lawful.proofs.Truths.{clash, not_true, of_some}
-use Rattle.qs_world_runs.specs.Counted.{AreTallied, CountedAt, EachCountsAlone, IsBare, IsTallied, MovesKeepCounted, NoneBesides, OpensCounted, given_in, served_in, tally_of, waits_in}
-use Rattle.qs_world_runs.specs.Joined.{Joined}
-use Rattle.qs_world_runs.proofs.DueParts.{both_and}
+use Rattle.qs_world_refine.specs.Steady.{are_queues_apart, is_other_server}
+use Rattle.qs_world_refine.proofs.EachMay.{is_next}
+use Rattle.qs_world_lawful.proofs.Truths.{not_true}
+use Rattle.qs_world_runs.specs.Counted.{CountedAt, EachCountsAlone, MovesKeepCounted, OpensCounted, served_in}
 use Rattle.qs_world_runs.proofs.TalliedOpened.{opened_tallied}
 use Rattle.qs_world_runs.proofs.TalliedStages.{IsOwnEvent, commanded, serves, step_tallied, ticks}
 
@@ -44,7 +23,7 @@ none_of tid [] server others = refl
 none_of tid (e ∷ es) server others = by (is_at (server_cmp server) e.0) refl (none_of tid es server parts.1)
   where
     parts : (is_other_server server e ≡ true) × (list_all (is_other_server server) es ≡ true)
-    parts = both_and (is_other_server server e) (list_all (is_other_server server) es) others
+    parts = and_parts (is_other_server server e) (list_all (is_other_server server) es) others
 
     by : (b : Bool) → is_at (server_cmp server) e.0 ≡ b → count_of tid (queue_at es server).waiting ≡ 0 → count_of tid (queue_at (e ∷ es) server).waiting ≡ 0
     by true is more = absurd (let far = parts.0 in let far_is : not (e.0.0 == server.0) ≡ true = far in never e.0.0 server.0 is far_is)
@@ -61,11 +40,8 @@ module _ (node : NodeValue) where
   one_counted : (server : ServerNo) (queue : QueueValue) → ((tid : Tid) (part : Participant) → tm.part_of tid node.manager ≡ Some part → 1 ≤ count_of tid queue.waiting → (member_of part server).served + count_of tid queue.waiting ≤ last_number)
       → (waiting : List Delivery) → ((tid : Tid) → count_of tid waiting ≤ count_of tid queue.waiting) → list_all (is_counted node (server, queue)) waiting ≡ true
   one_counted server queue counts [] less = refl
-  one_counted server queue counts (d ∷ rest) less = both (is_counted node (server, queue) d) (list_all (is_counted node (server, queue)) rest) (by (tm.part_of d.tid node.manager) refl) (one_counted server queue counts rest (λ tid. later tid))
+  one_counted server queue counts (d ∷ rest) less = and_from (is_counted node (server, queue) d) (list_all (is_counted node (server, queue)) rest) (by (tm.part_of d.tid node.manager) refl) (one_counted server queue counts rest (λ tid. later tid))
     where
-      both : (a b : Bool) → a ≡ true → b ≡ true → (a && b) ≡ true
-      both a b p q = rw (p, q) refl
-
       later : (tid : Tid) → count_of tid rest ≤ count_of tid queue.waiting
       later tid = at (is_of tid d) refl (less tid)
         where
@@ -80,25 +56,16 @@ module _ (node : NodeValue) where
           at true is more = omega (arith, more)
           at false is more = absurd (cc is)
 
-      tested : (a b : ℕ) → a ≤ b → nat_le a b ≡ true
-      tested a b is = grind (arith, nat_tests, is)
-
       by : (o : Option Participant) → tm.part_of d.tid node.manager ≡ o → elim o [ None ↦ true | Some part ↦ nat_le ((member_of part server).served + count_of d.tid queue.waiting) last_number ] ≡ true
       by None none = refl
-      by (Some part) known = tested ((member_of part server).served + count_of d.tid queue.waiting) last_number (counts d.tid part known some)
+      by (Some part) known = le-leb ((member_of part server).served + count_of d.tid queue.waiting) last_number (counts d.tid part known some)
 
   all_counted : (queues : IpcValue) → are_queues_apart queues ≡ true → Counts queues → list_all (are_counted node) queues ≡ true
   all_counted [] apart counts = refl
-  all_counted (e ∷ es) apart counts = both (are_counted node e) (list_all (are_counted node) es) (one_counted e.0 e.1 first e.1.waiting (λ tid. same (count_of tid e.1.waiting))) (all_counted es parts.1 rest)
+  all_counted (e ∷ es) apart counts = and_from (are_counted node e) (list_all (are_counted node) es) (one_counted e.0 e.1 first e.1.waiting (λ tid. le_refl (count_of tid e.1.waiting))) (all_counted es parts.1 rest)
     where
-      both : (a b : Bool) → a ≡ true → b ≡ true → (a && b) ≡ true
-      both a b p q = rw (p, q) refl
-
-      same : (n : ℕ) → n ≤ n
-      same n = omega arith
-
       parts : (list_all (is_other_server e.0) es ≡ true) × (are_queues_apart es ≡ true)
-      parts = both_and (list_all (is_other_server e.0) es) (are_queues_apart es) apart
+      parts = and_parts (list_all (is_other_server e.0) es) (are_queues_apart es) apart
 
       itself : is_at (server_cmp e.0) e.0 ≡ true
       itself = at e.0.0
@@ -116,11 +83,8 @@ module _ (node : NodeValue) where
       rest tid part s known some = by (is_at (server_cmp (server_no s)) e.0) refl
         where
           by : (b : Bool) → is_at (server_cmp (server_no s)) e.0 ≡ b → (member_of part (server_no s)).served + count_of tid (queue_at es (server_no s)).waiting ≤ last_number
-          by true is = absurd (never (count_of tid (queue_at es (server_no s)).waiting) some (none_of tid es (server_no s) (subst (λ (k : ℕ). list_all (is_other_server (server_no k)) es ≡ true) (number e.0.0 s is) parts.0)))
+          by true is = absurd (some_not_zero (count_of tid (queue_at es (server_no s)).waiting) some (none_of tid es (server_no s) (subst (λ (k : ℕ). list_all (is_other_server (server_no k)) es ≡ true) (number e.0.0 s is) parts.0)))
             where
-              never : (n : ℕ) → 1 ≤ n → n ≡ 0 → ⊥
-              never n some none = omega (arith, some, none)
-
               number : (a b : ℕ) → is_at (server_cmp (server_no b)) (server_no a) ≡ true → a ≡ b
               number a b is = grind (arith, nat_tests, is)
           by false is = subst (λ (q : QueueValue). 1 ≤ count_of tid q.waiting → (member_of part (server_no s)).served + count_of tid q.waiting ≤ last_number) tail (counts tid part s known) some
@@ -136,10 +100,7 @@ module _ (node : NodeValue) where
         where
           most : (a b : ℕ) → a ≤ b → b ≤ last_number → a ≤ last_number
           most a b p q = omega (arith, p, q)
-      by tid part s known some (inr bare) = absurd (never (waits_in tid node.queues s) some (bare.waits s))
-        where
-          never : (n : ℕ) → 1 ≤ n → n ≡ 0 → ⊥
-          never n some none = omega (arith, some, none)
+      by tid part s known some (inr bare) = absurd (some_not_zero (waits_in tid node.queues s) some (bare.waits s))
 
 one_low : (size : ℕ) → size ≡ 1 → 0 < size
 one_low size one = omega (arith, one)
@@ -185,17 +146,14 @@ module _ (P : Opening → World → Type 0) (o : Opening) (world : World) (j : J
   rise_counted : (n stamp inc : ℕ) → n ≡ 0 → world.channels.up n ≡ false → nat_lt (world.channels.inc n) inc ≡ true → world.size ≡ 1 → AreTallied NoneBesides (tally_of ((moved (Rise n stamp inc) world).hosts 0).node)
   rise_counted n stamp inc zero_is off later one = subst (λ (k : ℕ). AreTallied NoneBesides (tally_of ((moved (Rise k stamp inc) world).hosts 0).node)) (sym zero_is)
       (opened_tallied (world.hosts 0).node.manager.alloc (record (world.hosts 0).node.setting { inc = inc }) (recovered_of (world.hosts 0).log) (world.hosts 0).node.kept.saved
-      (both_and (list_all (is_loan_before inc) (world.hosts 0).node.kept.saved.loans) (list_all (is_label_before (world.hosts 0).node.setting.node inc) (world.hosts 0).node.kept.saved.labels)
-      (steady.kept 0 inc (one_low world.size one) (subst (λ (k : ℕ). world.channels.up k ≡ false) zero_is off) (less (world.channels.inc 0) inc (subst (λ (k : ℕ). nat_lt (world.channels.inc k) inc ≡ true) zero_is later)))).0)
-    where
-      less : (a b : ℕ) → nat_lt a b ≡ true → a < b
-      less a b is = grind (arith, nat_tests, is)
+      (and_parts (list_all (is_loan_before inc) (world.hosts 0).node.kept.saved.loans) (list_all (is_label_before (world.hosts 0).node.setting.node inc) (world.hosts 0).node.kept.saved.labels)
+      (steady.kept 0 inc (one_low world.size one) (subst (λ (k : ℕ). world.channels.up k ≡ false) zero_is off) (ltb-true (world.channels.inc 0) inc (subst (λ (k : ℕ). nat_lt (world.channels.inc k) inc ≡ true) zero_is later)))).0)
 
 pub moves_counted : (P : Opening → World → Type 0) → MovesKeepCounted P
 moves_counted P o world move j counted may = goes move may
   where
     low_of : (n stamp : ℕ) (rest : Bool) → (is_in_order world n stamp && rest) ≡ true → n < world.size
-    low_of n stamp rest is = in_run world n stamp (both_and (is_in_order world n stamp) rest is).0
+    low_of n stamp rest is = in_run world n stamp (and_parts (is_in_order world n stamp) rest is).0
 
     -- a node that stops does not run
     stops : (n : ℕ) (cause : CrashCause) → n < world.size → world.size ≡ 1 → with_at world.channels.up n false 0 ≡ true → ⊥
@@ -216,17 +174,17 @@ moves_counted P o world move j counted may = goes move may
     goes (Cut n stamp free source is_kept cause) may = cut_goes (event_of world n stamp source)
       where
         low : n < world.size
-        low = (step_may world n stamp source (both_and (may_step world n stamp source) (is_crash cause) may).0).low
+        low = (step_may world n stamp source (and_parts (may_step world n stamp source) (is_crash cause) may).0).low
 
         cut_goes : (e : Option Event) → CountedAt o (cut_with world n stamp free is_kept cause e)
         cut_goes None = counted
         cut_goes (Some event) = λ one up. absurd (stops n cause low one up)
-    goes (Stop n stamp cause) may = λ one up. absurd (stops n cause (low_of n stamp (is_crash cause) (both_and (world.channels.up n) (is_in_order world n stamp && is_crash cause) may).1) one up)
+    goes (Stop n stamp cause) may = λ one up. absurd (stops n cause (low_of n stamp (is_crash cause) (and_parts (world.channels.up n) (is_in_order world n stamp && is_crash cause) may).1) one up)
     goes (Rise n stamp inc) may = λ one up. rise_counted P o world j counted n stamp inc (only P o world j counted n one (low_of n stamp (nat_lt (world.channels.inc n) inc) tests.1)) (not_true (world.channels.up n) tests.0)
-        (both_and (is_in_order world n stamp) (nat_lt (world.channels.inc n) inc) tests.1).1 one
+        (and_parts (is_in_order world n stamp) (nat_lt (world.channels.inc n) inc) tests.1).1 one
       where
         tests : (not (world.channels.up n) ≡ true) × ((is_in_order world n stamp && nat_lt (world.channels.inc n) inc) ≡ true)
-        tests = both_and (not (world.channels.up n)) (is_in_order world n stamp && nat_lt (world.channels.inc n) inc) may
+        tests = and_parts (not (world.channels.up n)) (is_in_order world n stamp && nat_lt (world.channels.inc n) inc) may
     goes (Meet n stamp m inc) may = meet_goes
       where
         meet_goes : CountedAt o (moved (Meet n stamp m inc) world)

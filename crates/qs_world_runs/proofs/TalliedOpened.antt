@@ -1,38 +1,17 @@
 -- As an incarnation begins, nothing waits at its node, nothing of it is lent there, and its home has decided what it finds in its log.
-use Rattle.std.proofs.Common.{◌≡◌, ◌⊎◌, inl, inr, ℕ, ◌==◌, ◌||◌, ◌&&◌, not, arith, nat_lt, Bool, true, false, List, [], ◌∷◌, ◌++◌, length, fold, Option, Some, None, refl, sym, ap, subst, ◌∙◌, if◌then◌else◌}
-use Rattle.std.proofs.lemmas.Bool.Decides.{nat_tests}
-use Rattle.std.specs.Global.{Global}
-use Rattle.std.specs.List.{list_all, list_any}
-use Rattle.std.specs.Prelude.{is_some}
-use Rattle.qs_base.proofs.TidOrder.{tid_total}
-use Rattle.qs_base.specs.Order.{same_tid, tid_cmp}
-use Rattle.qs_base.specs.declared.identifiers.NodeNo.{NodeNo}
-use Rattle.qs_base.specs.declared.identifiers.ServerNo.{ServerNo}
-use Rattle.qs_base.specs.declared.identifiers.Tid.{Tid}
-use Rattle.qs_engage.specs.Nodes.{same_node}
-use Rattle.qs_node_kept.specs.Loans.{is_standing_loan}
+use Rattle.qs_world_runs.proofs.Words.{◌≡◌, ◌⊎◌, inl, inr, ℕ, ◌==◌, ◌&&◌, not, arith, Bool, true, false, List, [], ◌∷◌, ◌++◌, length, fold, Option, Some, None, refl, sym, ap, subst, ◌∙◌, if◌then◌else◌, Global, list_all, list_any, is_some, tid_total, same_tid, tid_cmp, NodeNo, ServerNo, Tid, same_node, is_standing_loan, Lent, IsRising, put_rises, Record, Recovered, new_manager, take_up, Setting, committed_before, voted_before, new_participant, Manager, Participant, same_or_apart, each_changed}
+use Rattle.qs_world_runs.proofs.Words.{put_there, clash, of_some, AreTallied, NoneBesides, tally_of, and_parts}
 use Rattle.qs_node_kept.specs.declared.kept.Kept.{Kept}
-use Rattle.qs_node_kept.specs.declared.kept.Lent.{Lent}
-use Rattle.qs_book_laws.proofs.Rising.{IsRising, put_rises}
-use Rattle.qs_record.specs.declared.record.Record.{Record}
 use Rattle.qs_record.specs.declared.record.Record.TheVariants as records
-use Rattle.qs_restart.specs.declared.recovered.Recovered.{Recovered}
-use Rattle.qs_node_step.specs.Opening.{new_manager, opened_node, take_up}
-use Rattle.qs_node_step.specs.declared.setting.Setting.{Setting}
+use Rattle.qs_node_step.specs.Opening.{opened_node}
 use Rattle.qs_tm.specs.Manager as tm
-use Rattle.qs_tm.specs.Outcomes.{committed_before, voted_before}
-use Rattle.qs_tm.specs.Participant.{new_participant}
-use Rattle.qs_tm.specs.declared.manager.Manager.{Manager}
-use Rattle.qs_tm.specs.declared.participant.Participant.{Participant}
 use Rattle.qs_world_refine.specs.Sound.{is_loan_before}
-use Rattle.qs_world_lawful.proofs.Apart.{Apart, same_or_apart}
+use Rattle.qs_world_lawful.proofs.Apart.{Apart}
 use Rattle.qs_world_lawful.proofs.Faces.{put_apart}
-use Rattle.qs_world_lawful.proofs.FactsKept.{each_changed}
 use Rattle.qs_world_lawful.proofs.FreshLog.{all_taken}
-use Rattle.qs_world_lawful.proofs.Marks.{changed_rises, put_there}
-use Rattle.qs_world_lawful.proofs.Truths.{clash, of_some}
-use Rattle.qs_world_runs.specs.Counted.{AreTallied, NoneBesides, tally_of}
-use Rattle.qs_world_runs.proofs.DueParts.{both_and}
+use Rattle.qs_world_lawful.proofs.Marks.{changed_rises}
+use Rattle.std.proofs.lemmas.Bool.{or_from}
+use Rattle.qs_base_lemmas.proofs.Tests.{ltb_apart}
 
 -- ---- what is taken up from the log
 
@@ -116,21 +95,15 @@ all_found me (records.End tid ∷ rs) m h = all_found me rs m h
 
 old_loans : (inc : ℕ) (tid : Tid) (loans : List Lent) → list_all (is_loan_before inc) loans ≡ true → list_any (is_standing_loan tid inc) loans ≡ false
 old_loans inc tid [] before = refl
-old_loans inc tid (loan ∷ loans) before = off (is_standing_loan tid inc loan) (list_any (is_standing_loan tid inc) loans) (passed (same_tid tid loan.tid) (not loan.yielded) (loan.inc == inc) (other loan.inc inc parts.0)) (old_loans inc tid loans parts.1)
+old_loans inc tid (loan ∷ loans) before = or_from (is_standing_loan tid inc loan) (list_any (is_standing_loan tid inc) loans) (passed (same_tid tid loan.tid) (not loan.yielded) (loan.inc == inc) (ltb_apart loan.inc inc parts.0)) (old_loans inc tid loans parts.1)
   where
     parts : (is_loan_before inc loan ≡ true) × (list_all (is_loan_before inc) loans ≡ true)
-    parts = both_and (is_loan_before inc loan) (list_all (is_loan_before inc) loans) before
-
-    other : (a b : ℕ) → nat_lt a b ≡ true → (a == b) ≡ false
-    other a b less = grind (arith, nat_tests, less)
+    parts = and_parts (is_loan_before inc loan) (list_all (is_loan_before inc) loans) before
 
     passed : (a b c : Bool) → c ≡ false → (a && (b && c)) ≡ false
     passed true true c e = e
     passed true false c e = refl
     passed false b c e = refl
-
-    off : (a b : Bool) → a ≡ false → b ≡ false → (a || b) ≡ false
-    off a b p q = rw (p, q) refl
 
 -- ---- the node of an incarnation
 

@@ -1,41 +1,18 @@
 -- What a rule changes at a node leaves what was served and what waits within the numbers that were given.
-use Rattle.std.proofs.Common.{◌≡◌, ◌⊎◌, inl, inr, ℕ, zero, suc, ◌+◌, ◌≤◌, ◌==◌, arith, Bool, true, false, List, [], ◌∷◌, Option, Some, None, refl, sym, subst, ◌∙◌}
-use Rattle.std.proofs.lemmas.Bool.{eqb-true}
-use Rattle.std.proofs.lemmas.Bool.Decides.{nat_tests}
+use Rattle.qs_world_runs.proofs.Words.{◌≡◌, ◌⊎◌, inl, inr, ℕ, zero, suc, ◌+◌, ◌≤◌, ◌==◌, arith, Bool, true, false, List, [], ◌∷◌, Option, Some, None, refl, sym, subst, ◌∙◌, le_refl, eqb-true, nat_tests, is_at, slice_index_or, slice_set, tid_total, tid_cmp, ClientNo, ServerNo, Tid, at_exact, put_rises, remove_rises, removed, drop_counts, no_member, begun_participant, member_of, with_member, Manager, MemberPart, Participant, server_no, forget_apart, same_or_apart, part_changed, part_unknown}
+use Rattle.qs_world_runs.proofs.Words.{each_changed, put_there, clash, of_some, AreTallied, IsBare, IsTallied, Tally, given_in, waits_in, zero_le}
 use Rattle.std.proofs.lemmas.List.{get_or-set_other}
-use Rattle.std.specs.BTreeMap.{is_at}
-use Rattle.std.specs.Prelude.{slice_index_or, slice_set}
-use Rattle.qs_base.proofs.TidOrder.{tid_total}
-use Rattle.qs_base.specs.Order.{tid_cmp}
-use Rattle.qs_base.specs.declared.identifiers.ClientNo.{ClientNo}
-use Rattle.qs_base.specs.declared.identifiers.ServerNo.{ServerNo}
-use Rattle.qs_base.specs.declared.identifiers.Tid.{Tid}
-use Rattle.qs_book_laws.proofs.Alikes.{at_exact}
-use Rattle.qs_book_laws.proofs.Rising.{put_rises, remove_rises, removed}
-use Rattle.qs_node_step.specs.Telling.{drop_counts}
 use Rattle.qs_tm.specs.Manager as tm
-use Rattle.qs_tm.specs.Members.{no_member}
 use Rattle.qs_tm.specs.Participant as participant
-use Rattle.qs_tm.specs.Participant.{begun_participant, member_of, with_member}
-use Rattle.qs_tm.specs.declared.manager.Manager.{Manager}
-use Rattle.qs_tm.specs.declared.members.MemberPart.{MemberPart}
-use Rattle.qs_tm.specs.declared.participant.Participant.{Participant}
-use Rattle.qs_world_refine.specs.Sights.{server_no}
-use Rattle.qs_world_refine.proofs.Others.{forget_apart}
-use Rattle.qs_world_lawful.proofs.Apart.{Apart, same_or_apart}
-use Rattle.qs_world_lawful.proofs.Faces.{part_apart, part_changed, part_unknown, put_apart}
-use Rattle.qs_world_lawful.proofs.FactsKept.{each_changed}
-use Rattle.qs_world_lawful.proofs.Marks.{changed_rises, put_there}
-use Rattle.qs_world_lawful.proofs.Truths.{clash, of_some}
-use Rattle.qs_world_runs.specs.Counted.{AreTallied, IsBare, IsTallied, Tally, given_in, served_in, waits_in}
+use Rattle.qs_world_lawful.proofs.Apart.{Apart}
+use Rattle.qs_world_lawful.proofs.Faces.{part_apart, put_apart}
+use Rattle.qs_world_lawful.proofs.Marks.{changed_rises}
+use Rattle.qs_world_runs.specs.Counted.{served_in}
 
 -- ---- members
 
-none_less : (n : ℕ) → 0 ≤ n
-none_less n = omega arith
-
 pub at_set : (ms : List MemberPart) (i : ℕ) (m : MemberPart) → (slice_index_or (slice_set ms i m) i no_member).served ≤ m.served
-at_set [] i m = none_less m.served
+at_set [] i m = zero_le m.served
 at_set (x ∷ xs) zero m = omega arith
 at_set (x ∷ xs) (suc i) m = at_set xs i m
 
@@ -75,9 +52,6 @@ less_tallied tid t u same was served waits given = record {
     less : (a b c d e f : ℕ) → a + c ≤ e → b ≤ a → d ≤ c → e ≤ f → b + d ≤ f
     less a b c d e f p q r v = omega (arith, p, q, r, v)
 
-pub at_most : (n : ℕ) → n ≤ n
-at_most n = omega arith
-
 abbrev pub managed : (Manager → Manager) → Tally → Tally
 managed f t = record t { manager = f t.manager }
 
@@ -91,7 +65,7 @@ module _ (tid : Tid) (f : Participant → Participant) (served : (p : Participan
 
       by : (tid ≡ k) ⊎ Apart tid k → served_in (tm.part_of k (tm.with_part tid f m)) s ≤ served_in (tm.part_of k m) s
       by (inl e) = subst (λ (x : Tid). served_in (tm.part_of x (tm.with_part tid f m)) s ≤ served_in (tm.part_of x m) s) e (own (tm.part_of tid m) refl)
-      by (inr far) = subst (λ (o : Option Participant). served_in o s ≤ served_in (tm.part_of k m) s) (sym (part_apart tid k f m far)) (at_most (served_in (tm.part_of k m) s))
+      by (inr far) = subst (λ (o : Option Participant). served_in o s ≤ served_in (tm.part_of k m) s) (sym (part_apart tid k f m far)) (le_refl (served_in (tm.part_of k m) s))
 
 module _ (W : Tid → Type 0) where
   pub part_tallied : (tid : Tid) (f : Participant → Participant) → IsStill f → (t : Tally) → AreTallied W t → AreTallied W (managed (tm.with_part tid f) t)
@@ -110,7 +84,7 @@ module _ (W : Tid → Type 0) where
       new = managed (tm.with_part tid f) t
 
       less : (k : Tid) → IsTallied k t → IsTallied k new
-      less k was = less_tallied k t new refl was (λ s. less_served tid f still.served k t.manager s) (λ s. at_most (waits_in k t.queues s)) (at_most (given_in k t.locals))
+      less k was = less_tallied k t new refl was (λ s. less_served tid f still.served k t.manager s) (λ s. le_refl (waits_in k t.queues s)) (le_refl (given_in k t.locals))
 
       by : (k : Tid) → IsTallied k t ⊎ IsBare k t → IsTallied k new ⊎ IsBare k new
       by k (inl was) = inl (less k was)
@@ -132,7 +106,7 @@ module _ (W : Tid → Type 0) where
       new = managed (tm.ask tid) t
 
       less : (k : Tid) → IsTallied k t → IsTallied k new
-      less k was = less_tallied k t new refl was (λ s. less_served tid participant.ask (λ p r. at_most (member_of p (server_no r)).served) k t.manager s) (λ s. at_most (waits_in k t.queues s)) (at_most (given_in k t.locals))
+      less k was = less_tallied k t new refl was (λ s. less_served tid participant.ask (λ p r. le_refl (member_of p (server_no r)).served) k t.manager s) (λ s. le_refl (waits_in k t.queues s)) (le_refl (given_in k t.locals))
 
       by : (k : Tid) → IsTallied k t ⊎ IsBare k t → IsTallied k new ⊎ IsBare k new
       by k (inl was) = inl (less k was)
@@ -254,11 +228,11 @@ module _ (W : Tid → Type 0) where
       stood k p known (inr far) goes = goes (sym (forget_apart k tid t.manager far.by) ∙ known)
 
       served : (k : Tid) (s : ℕ) → (k ≡ tid) ⊎ Apart k tid → served_in (tm.part_of k new.manager) s ≤ served_in (tm.part_of k t.manager) s
-      served k s (inl e) = subst (λ (x : Tid). served_in (tm.part_of x new.manager) s ≤ served_in (tm.part_of x t.manager) s) (sym e) (subst (λ (o : Option Participant). served_in o s ≤ served_in (tm.part_of tid t.manager) s) (sym gone) (none_less (served_in (tm.part_of tid t.manager) s)))
-      served k s (inr far) = subst (λ (o : Option Participant). served_in o s ≤ served_in (tm.part_of k t.manager) s) (sym (forget_apart k tid t.manager far.by)) (at_most (served_in (tm.part_of k t.manager) s))
+      served k s (inl e) = subst (λ (x : Tid). served_in (tm.part_of x new.manager) s ≤ served_in (tm.part_of x t.manager) s) (sym e) (subst (λ (o : Option Participant). served_in o s ≤ served_in (tm.part_of tid t.manager) s) (sym gone) (zero_le (served_in (tm.part_of tid t.manager) s)))
+      served k s (inr far) = subst (λ (o : Option Participant). served_in o s ≤ served_in (tm.part_of k t.manager) s) (sym (forget_apart k tid t.manager far.by)) (le_refl (served_in (tm.part_of k t.manager) s))
 
       less : (k : Tid) → IsTallied k t → IsTallied k new
-      less k was = less_tallied k t new refl was (λ s. served k s (same_or_apart k tid)) (λ s. subst (λ (n : ℕ). n ≤ waits_in k t.queues s) (sym (same k s)) (at_most (waits_in k t.queues s))) (at_most (given_in k t.locals))
+      less k was = less_tallied k t new refl was (λ s. served k s (same_or_apart k tid)) (λ s. subst (λ (n : ℕ). n ≤ waits_in k t.queues s) (sym (same k s)) (le_refl (waits_in k t.queues s))) (le_refl (given_in k t.locals))
 
       by : (k : Tid) → IsTallied k t ⊎ IsBare k t → IsTallied k new ⊎ IsBare k new
       by k (inl was) = inl (less k was)

@@ -1,39 +1,21 @@
 -- What is issued to a server of the node itself, what leaves its queue and is served, and what is lent, stays within the numbers that were given.
-use Rattle.std.proofs.Common.{◌≡◌, ◌⊎◌, inl, inr, ℕ, ◌+◌, ◌≤◌, ◌==◌, ◌||◌, arith, Bool, true, false, List, ◌∷◌, drop, Option, Some, None, refl, sym, ap, subst, ◌∙◌, if◌then◌else◌}
-use Rattle.std.proofs.lemmas.Bool.{eqb-true}
-use Rattle.std.proofs.lemmas.Bool.Decides.{nat_tests}
-use Rattle.std.specs.BTreeMap.{insert_entry, is_at}
-use Rattle.std.specs.Prelude.{unwrap_or}
-use Rattle.std.specs.declared.cmp.Ordering.TheVariants.{Equal}
-use Rattle.qs_base.specs.Order.{same_tid, tid_cmp}
-use Rattle.qs_base.proofs.Same.{same_tid-self}
-use Rattle.qs_base.proofs.TidOrder.{tid_exact}
-use Rattle.qs_base.specs.declared.identifiers.ServerNo.{ServerNo}
-use Rattle.qs_base.specs.declared.identifiers.Tid.{Tid}
-use Rattle.qs_engage.specs.Engage.{last_number}
+use Rattle.qs_world_runs.proofs.Words.{◌≡◌, ◌⊎◌, inl, inr, ℕ, ◌+◌, ◌≤◌, ◌==◌, ◌||◌, arith, Bool, true, false, List, ◌∷◌, drop, Option, Some, None, refl, sym, ap, subst, ◌∙◌, if◌then◌else◌, le_refl, eqb-true, nat_tests, insert_entry, is_at, unwrap_or, Equal, same_tid, tid_cmp, same_tid-self, tid_exact, ServerNo, Tid, last_number, IpcValue, queue_at, Delivery, class_here, is_told_class, member_of, with_member, MemberPart, Participant, server_no, same_or_apart, part_changed, part_unknown}
+use Rattle.qs_world_runs.proofs.Words.{each_changed, AreTallied, IsBare, IsTallied, Tally, given_in, waits_in, le_next}
 use Rattle.qs_ipc.specs.Ipc as ipc
-use Rattle.qs_ipc.specs.Ipc.{IpcValue, queue_at}
 use Rattle.qs_ipc.specs.Queue.{count_of}
-use Rattle.qs_ipc.specs.declared.delivery.Delivery.{Delivery}
 use Rattle.qs_tm.specs.Manager as tm
-use Rattle.qs_tm.specs.Members.{class_here, is_told_class}
 use Rattle.qs_tm.specs.Participant as participant
-use Rattle.qs_tm.specs.Participant.{member_of, with_member}
-use Rattle.qs_tm.specs.declared.members.MemberPart.{MemberPart}
-use Rattle.qs_tm.specs.declared.participant.Participant.{Participant}
 use Rattle.qs_world_agree.specs.World.{with_at}
-use Rattle.qs_world_refine.specs.Sights.{server_no}
 use Rattle.qs_world_refine.proofs.Maps.{lookup_put, lookup_put_apart}
 use Rattle.qs_world_refine.proofs.Queues.{waits_first, waits_next, waits_next_other, waits_other, waits_put}
 use Rattle.qs_world_refine.proofs.ServeFrames.{first_is}
-use Rattle.qs_world_lawful.proofs.Apart.{Apart, same_or_apart}
-use Rattle.qs_world_lawful.proofs.Faces.{part_apart, part_changed, part_unknown}
-use Rattle.qs_world_lawful.proofs.FactsKept.{each_changed}
+use Rattle.qs_world_lawful.proofs.Apart.{Apart}
+use Rattle.qs_world_lawful.proofs.Faces.{part_apart}
 use Rattle.qs_world_lawful.proofs.FactsQuiet.{served_quiet}
 use Rattle.qs_world_lawful.proofs.Marks.{changed_rises}
-use Rattle.qs_world_runs.specs.Counted.{AreTallied, IsBare, IsTallied, Tally, given_in, served_in, waits_in}
+use Rattle.qs_world_runs.specs.Counted.{served_in}
 use Rattle.qs_world_runs.proofs.StoreRules.{served_unasked}
-use Rattle.qs_world_runs.proofs.TalliedParts.{at_most, less_tallied, member_apart, member_set}
+use Rattle.qs_world_runs.proofs.TalliedParts.{less_tallied, member_apart, member_set}
 
 -- ---- numbers that were given
 
@@ -79,8 +61,8 @@ module _ (W : Tid → Type 0) where
             less a b c d p q = omega (arith, p, q)
 
         far_on : (k : Tid) → Apart tid k → IsTallied k t → IsTallied k new
-        far_on k far it = less_tallied k t new refl it (λ s. at_most (served_in (tm.part_of k t.manager) s)) (λ s. subst (λ (n : ℕ). n ≤ waits_in k t.queues s) (sym (same k far s)) (at_most (waits_in k t.queues s)))
-            (subst (λ (n : ℕ). given_in k t.locals ≤ n) (sym (given_apart tid k (given_in tid t.locals + 1) t.locals far)) (at_most (given_in k t.locals)))
+        far_on k far it = less_tallied k t new refl it (λ s. le_refl (served_in (tm.part_of k t.manager) s)) (λ s. subst (λ (n : ℕ). n ≤ waits_in k t.queues s) (sym (same k far s)) (le_refl (waits_in k t.queues s)))
+            (subst (λ (n : ℕ). given_in k t.locals ≤ n) (sym (given_apart tid k (given_in tid t.locals + 1) t.locals far)) (le_refl (given_in k t.locals)))
 
         other : (k : Tid) → (tid ≡ k) ⊎ Apart tid k → IsTallied k t → IsTallied k new
         other k (inl e) it = subst (λ (x : Tid). IsTallied x new) e own
@@ -108,17 +90,11 @@ module _ (W : Tid → Type 0) where
         one s = subst (λ (n : ℕ). n ≤ waits_in tid t.queues s + 1) (sym (put s)) (by (s == server.0) refl)
           where
             by : (b : Bool) → (s == server.0) ≡ b → (if b then waits_in tid t.queues server.0 + 1 else waits_in tid t.queues s) ≤ waits_in tid t.queues s + 1
-            by true is = subst (λ (k : ℕ). waits_in tid t.queues server.0 + 1 ≤ waits_in tid t.queues k + 1) (sym (eqb-true s server.0 is)) (at_most (waits_in tid t.queues server.0 + 1))
-            by false is = more (waits_in tid t.queues s)
-              where
-                more : (n : ℕ) → n ≤ n + 1
-                more n = omega arith
+            by true is = subst (λ (k : ℕ). waits_in tid t.queues server.0 + 1 ≤ waits_in tid t.queues k + 1) (sym (eqb-true s server.0 is)) (le_refl (waits_in tid t.queues server.0 + 1))
+            by false is = le_next (waits_in tid t.queues s)
 
     pub refused_tallied : AreTallied W (record t { locals = numbered })
-    refused_tallied = issued_tallied t.queues (λ s. more (waits_in tid t.queues s)) (λ k far s. refl)
-      where
-        more : (n : ℕ) → n ≤ n + 1
-        more n = omega arith
+    refused_tallied = issued_tallied t.queues (λ s. le_next (waits_in tid t.queues s)) (λ k far s. refl)
 
   -- ---- the first request that waits leaves its queue
 
@@ -149,11 +125,11 @@ module _ (W : Tid → Type 0) where
           where
             less : (a b : ℕ) → a ≡ b + 1 → b ≤ a
             less a b e = omega (arith, e)
-        by false is = at_most (waits_in d.tid t.queues s)
+        by false is = le_refl (waits_in d.tid t.queues s)
 
     any_fewer : (k : Tid) (s : ℕ) → (d.tid ≡ k) ⊎ Apart d.tid k → waits_in k left.queues s ≤ waits_in k t.queues s
     any_fewer k s (inl e) = subst (λ (x : Tid). waits_in x left.queues s ≤ waits_in x t.queues s) e (fewer s)
-    any_fewer k s (inr far) = subst (λ (n : ℕ). n ≤ waits_in k t.queues s) (sym (far_waits k far s)) (at_most (waits_in k t.queues s))
+    any_fewer k s (inr far) = subst (λ (n : ℕ). n ≤ waits_in k t.queues s) (sym (far_waits k far s)) (le_refl (waits_in k t.queues s))
 
     none_left : (a b : ℕ) → a ≤ b → b ≡ 0 → a ≡ 0
     none_left a b p q = omega (arith, p, q)
@@ -171,7 +147,7 @@ module _ (W : Tid → Type 0) where
     }
       where
         on : (k : Tid) → IsTallied k t → IsTallied k left
-        on k it = less_tallied k t left refl it (λ s. at_most (served_in (tm.part_of k t.manager) s)) (λ s. any_fewer k s (same_or_apart d.tid k)) (at_most (given_in k t.locals))
+        on k it = less_tallied k t left refl it (λ s. le_refl (served_in (tm.part_of k t.manager) s)) (λ s. any_fewer k s (same_or_apart d.tid k)) (le_refl (given_in k t.locals))
 
         by : (k : Tid) → IsTallied k t ⊎ IsBare k t → IsTallied k left ⊎ IsBare k left
         by k (inl it) = inl (on k it)
@@ -249,8 +225,8 @@ module _ (W : Tid → Type 0) where
     }
       where
         far_on : (k : Tid) → Apart d.tid k → IsTallied k t → IsTallied k served_now
-        far_on k far it = less_tallied k t served_now refl it (λ s. subst (λ (o : Option Participant). served_in o s ≤ served_in (tm.part_of k t.manager) s) (sym (part_apart d.tid k (participant.served server) t.manager far)) (at_most (served_in (tm.part_of k t.manager) s)))
-            (λ s. any_fewer k s (inr far)) (at_most (given_in k t.locals))
+        far_on k far it = less_tallied k t served_now refl it (λ s. subst (λ (o : Option Participant). served_in o s ≤ served_in (tm.part_of k t.manager) s) (sym (part_apart d.tid k (participant.served server) t.manager far)) (le_refl (served_in (tm.part_of k t.manager) s)))
+            (λ s. any_fewer k s (inr far)) (le_refl (given_in k t.locals))
 
         other : (k : Tid) → (d.tid ≡ k) ⊎ Apart d.tid k → IsTallied k t → IsTallied k served_now
         other k (inl e) it = subst (λ (x : Tid). IsTallied x served_now) e served_it

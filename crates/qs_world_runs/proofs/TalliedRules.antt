@@ -1,86 +1,54 @@
 -- Each rule of a step leaves what was served and what waits within the numbers that were given; a request is issued where that is known of its transaction.
-use Rattle.std.proofs.Common.{◌≡◌, ℕ, ◌+◌, ◌≤◌, ◌==◌, arith, Bool, true, false, List, [], ◌∷◌, ◌++◌, fold, Option, Some, None, refl, sym, subst, ◌∙◌}
-use Rattle.std.proofs.lemmas.Bool.Decides.{nat_tests}
-use Rattle.std.specs.BTreeMap.{insert_entry, is_at}
-use Rattle.std.specs.Map.{lookup, remove_entry}
-use Rattle.std.specs.Prelude.{slice_index_or, if◌then◌else◌}
-use Rattle.qs_base.specs.declared.identifiers.ClientNo.{ClientNo}
-use Rattle.qs_base.specs.declared.identifiers.Member.{Member}
-use Rattle.qs_base.specs.declared.identifiers.NodeNo.{NodeNo}
+use Rattle.qs_world_runs.proofs.Words.{◌≡◌, ℕ, ◌+◌, ◌≤◌, ◌==◌, arith, Bool, true, false, List, [], ◌∷◌, ◌++◌, fold, Option, Some, None, refl, sym, subst, ◌∙◌, le_refl, nat_tests, insert_entry, is_at, lookup, remove_entry, slice_index_or, if◌then◌else◌, ClientNo, Member, NodeNo, ServerNo, Tid, last_number, uncovered, listed, same_node, Delivery, answer_of, after_serving, Answer, Cause, Op, Reply, Notice, Vote, tid_cmp, server_no, Message, Record, client_of, is_client, become_asked}
+use Rattle.qs_world_runs.proofs.Words.{where_undecided, answer, enter, is_other, log_if, member_here, send, send_each, send_next, tid_of, due_endings, end_member, end_members, give_notices, keep_outcome, learn_member, learn_members, learners_at, notice_of, notify, answer_issuer, ask_on, enter_issue, is_asked, issue, issue_away, issue_here, label_of, next_local, reply_came, take_reply, waits_as, with_local, enter_serve, lent_to, make_loan, reply_here, serve, serve_all, serve_next}
+use Rattle.qs_world_runs.proofs.Words.{serve_or_drop, Work, change_server, client_cmp, here, with_doings, with_manager, OpenCommand, ballot_of, no_member, MemberPart, is_by_files, is_undecided, member_of, Decision, Outstanding, Participant, AreTallied, IsTallied, Tally, tally_of}
 use Rattle.qs_base.specs.declared.identifiers.Outcome.{Outcome}
 use Rattle.qs_base.specs.declared.identifiers.Outcome.TheVariants as outcomes
-use Rattle.qs_base.specs.declared.identifiers.ServerNo.{ServerNo}
-use Rattle.qs_base.specs.declared.identifiers.Tid.{Tid}
-use Rattle.qs_engage.specs.Engage.{last_number, uncovered}
-use Rattle.qs_engage.specs.Nodes.{listed, same_node}
 use Rattle.qs_ipc.specs.Ipc as ipc
 use Rattle.qs_ipc.specs.Queue.{is_for}
-use Rattle.qs_ipc.specs.declared.delivery.Delivery.{Delivery}
 use Rattle.qs_book_journal.specs.declared.entry.Act.TheVariants as acts
-use Rattle.qs_ops.specs.Operations.{answer_of}
-use Rattle.qs_ops.specs.Server.{after_serving}
-use Rattle.qs_ops.specs.declared.answer.Answer.{Answer}
-use Rattle.qs_ops.specs.declared.answer.Cause.{Cause}
 use Rattle.qs_ops.specs.declared.answer.Cause.TheVariants as causes
-use Rattle.qs_ops.specs.declared.operation.Op.{Op}
-use Rattle.qs_ops.specs.declared.reply.Reply.{Reply}
-use Rattle.qs_ops.specs.declared.vote.Notice.{Notice}
 use Rattle.qs_ops.specs.declared.vote.Notice.TheVariants as notices
-use Rattle.qs_ops.specs.declared.vote.Vote.{Vote}
-use Rattle.qs_base.specs.Order.{tid_cmp}
-use Rattle.qs_world_refine.specs.Sights.{server_no}
-use Rattle.qs_packet.specs.declared.message.Message.{Message}
 use Rattle.qs_packet.specs.declared.message.Message.TheVariants as messages
-use Rattle.qs_record.specs.declared.record.Record.{Record}
-use Rattle.qs_node_servers.specs.Servers.{client_of, is_client}
-use Rattle.qs_node_step.specs.Asking.{become_asked, where_undecided}
-use Rattle.qs_node_step.specs.Bringing.{answer, enter, is_other, log, log_if, member_here, send, send_each, send_next, tid_of}
-use Rattle.qs_node_step.specs.Deciding.{decide, decide_commit, due_endings, end_member, end_members, give_notices, keep_outcome, learn_member, learn_members, learners_at, notice_of, notify}
+use Rattle.qs_node_step.specs.Bringing.{log}
+use Rattle.qs_node_step.specs.Deciding.{decide, decide_commit}
 use Rattle.qs_node_step.specs.Requests as requests
-use Rattle.qs_node_step.specs.Requests.{answer_issuer, ask_on, enter_issue, is_asked, issue, issue_away, issue_here, label_of, local_count, next_local, reply_came, take_reply, waits_as, with_local}
-use Rattle.qs_node_step.specs.Serving.{enter_serve, lent_to, make_loan, may_serve, reply_here, serve, serve_all, serve_next, serve_or_drop}
-use Rattle.qs_node_step.specs.State.{Work, change_server, client_cmp, here, part_of, with_doings, with_manager}
+use Rattle.qs_node_step.specs.Requests.{local_count}
+use Rattle.qs_node_step.specs.Serving.{may_serve}
+use Rattle.qs_node_step.specs.State.{part_of}
 use Rattle.qs_node_step.specs.State as state
-use Rattle.qs_node_step.specs.declared.state.OpenCommand.{OpenCommand}
 use Rattle.qs_tm.specs.Manager as tm
-use Rattle.qs_tm.specs.Members.{ballot_of, no_member}
-use Rattle.qs_tm.specs.declared.members.MemberPart.{MemberPart}
 use Rattle.qs_tm.specs.Outcomes as outcome_rules
 use Rattle.qs_tm.specs.Participant as participant
-use Rattle.qs_tm.specs.Participant.{is_by_files, is_undecided, member_of}
-use Rattle.qs_tm.specs.declared.manager.Decision.{Decision}
-use Rattle.qs_tm.specs.declared.participant.Outstanding.{Outstanding}
-use Rattle.qs_tm.specs.declared.participant.Participant.{Participant}
 use Rattle.qs_world_lawful.proofs.FactsQuiet.{sent_home}
-use Rattle.qs_world_runs.specs.Counted.{AreTallied, IsTallied, Tally, tally_of}
 use Rattle.qs_world_runs.proofs.TalliedLoans.{lend_tallied}
-use Rattle.qs_world_runs.proofs.TalliedParts.{IsStill, ask_tallied, at_most, part_tallied, same_served}
+use Rattle.qs_world_runs.proofs.TalliedParts.{IsStill, ask_tallied, part_tallied, same_served}
 use Rattle.qs_world_runs.proofs.TalliedQueues.{enqueued_tallied, left_tallied, refused_tallied, served_it, served_tallied}
 
 -- ---- what counts no more
 
 issued_still : (request : Outstanding) → IsStill (participant.issued request)
-issued_still request = record { home = λ p. refl; outcome = λ p e. e; asked = λ p e. e; served = λ p s. at_most (member_of p (server_no s)).served }
+issued_still request = record { home = λ p. refl; outcome = λ p e. e; asked = λ p e. e; served = λ p s. le_refl (member_of p (server_no s)).served }
 
 sent_still : (to : NodeNo) → IsStill (participant.sent to)
-sent_still to = record { home = λ p. sent_home to p.engage; outcome = λ p e. e; asked = λ p e. e; served = λ p s. at_most (member_of p (server_no s)).served }
+sent_still to = record { home = λ p. sent_home to p.engage; outcome = λ p e. e; asked = λ p e. e; served = λ p s. le_refl (member_of p (server_no s)).served }
 
 logged_still : (rec : Record) → IsStill (outcome_rules.logged rec)
-logged_still rec = record { home = λ p. refl; outcome = λ p e. e; asked = λ p e. e; served = λ p s. at_most (member_of p (server_no s)).served }
+logged_still rec = record { home = λ p. refl; outcome = λ p e. e; asked = λ p e. e; served = λ p s. le_refl (member_of p (server_no s)).served }
 
 pub plain_still : (f : Participant → Participant) → ((p : Participant) → (f p).engage.home ≡ p.engage.home) → ((p : Participant) → (f p).outcome ≡ p.outcome) → ((p : Participant) → (f p).asked ≡ p.asked) → ((p : Participant) → (f p).members ≡ p.members) → IsStill f
 plain_still f home outcome asked members = record {
   home = home;
   outcome = λ p e. sym (outcome p) ∙ e;
   asked = λ p e. sym (asked p) ∙ e;
-  served = λ p s. subst (λ (ms : List MemberPart). (slice_index_or ms s no_member).served ≤ (member_of p (server_no s)).served) (sym (members p)) (at_most (member_of p (server_no s)).served);
+  served = λ p s. subst (λ (ms : List MemberPart). (slice_index_or ms s no_member).served ≤ (member_of p (server_no s)).served) (sym (members p)) (le_refl (member_of p (server_no s)).served);
 }
 
 settled_still : (server : ServerNo) → IsStill (outcome_rules.settled server)
 settled_still server = record { home = λ p. refl; outcome = λ p e. e; asked = λ p e. e; served = λ p s. same_served p server (record (member_of p server) { fresh = false }) refl s }
 
 decided_still : (outcome : Outcome) → IsStill (outcome_rules.decided outcome)
-decided_still outcome = record { home = λ p. refl; outcome = λ p e. absurd (cc e); asked = λ p e. e; served = λ p s. at_most (member_of p (server_no s)).served }
+decided_still outcome = record { home = λ p. refl; outcome = λ p e. absurd (cc e); asked = λ p e. e; served = λ p s. le_refl (member_of p (server_no s)).served }
 
 pub voted_still : (member : Member) (vote : Vote) (covers : ℕ) → IsStill (participant.voted member vote covers)
 voted_still member vote covers = record {

@@ -1,59 +1,30 @@
 -- Each stage of a step to which nothing comes from another node leaves what was served and what waits within the numbers that were given.
-use Rattle.std.proofs.Common.{◌≡◌, ℕ, ◌&&◌, not, Bool, true, false, List, [], ◌∷◌, fold, Option, Some, None, refl, subst}
-use Rattle.std.specs.BTreeMap.{is_at}
-use Rattle.std.specs.Map.{lookup}
-use Rattle.std.specs.Prelude.{is_none, if◌then◌else◌}
-use Rattle.qs_base.specs.declared.identifiers.ClientNo.{ClientNo}
-use Rattle.qs_base.specs.declared.identifiers.NodeNo.{NodeNo}
+use Rattle.qs_world_runs.proofs.Words.{◌≡◌, ℕ, ◌&&◌, not, Bool, true, false, List, [], ◌∷◌, fold, Option, Some, None, refl, subst, is_at, lookup, if◌then◌else◌, ClientNo, NodeNo, ServerNo, Tid, release_of, listed, Command, after_vote, changes_in, vote_of, Cause, Note, Vote, server_at, kept_outcome, is_aborted, answer, member_here, send, decided_answer, end_members, give_notices, begin_incarnation, known_tids, resume_home, resume_part, resume_tid, label_at, answer_superior, due_tids}
+use Rattle.qs_world_runs.proofs.Words.{forget_rule, is_busy, is_pass_due, is_put_off, is_quiet, may_answer, pass_rule, ready, ready_rule, refusal_goes_to, refuse_elsewhere, refuse_home, refuse_rule, say_yes, send_refusal, settle, settle_tid, try, Work, change_server, client_cmp, doings_of, here, with_doings, with_manager, with_node, work_on, abort_old, age_rule, answer_waiting, borrower_waits, happen, is_owner, owner_waits, step_work, wait_command, wait_on, waiting_clients, waits_at, forget}
+use Rattle.qs_world_runs.proofs.Words.{record_learnt, change_count, due_votes, enter_vote, issue_note, log_vote, owes_note, served_count, vote_frame, vote_next, vote_pass, vote_with, Event, Issued, told_with_own, is_forgotten, is_undecided, needs_pass, Participant, tick_work, HasNodeFacts, AreTallied, IsTallied, NoneBesides, tally_of, waits_in, and_parts}
 use Rattle.qs_base.specs.declared.identifiers.Outcome.{Outcome}
 use Rattle.qs_base.specs.declared.identifiers.Outcome.TheVariants as outcomes
-use Rattle.qs_base.specs.declared.identifiers.ServerNo.{ServerNo}
-use Rattle.qs_base.specs.declared.identifiers.Tid.{Tid}
-use Rattle.qs_engage.specs.Engage.{release_of}
-use Rattle.qs_engage.specs.Nodes.{listed}
 use Rattle.qs_ipc.specs.Ipc as ipc
-use Rattle.qs_book_journal.specs.declared.script_line.Command.{Command}
-use Rattle.qs_ops.specs.Server.{after_vote, changes_in, vote_of}
 use Rattle.qs_ops.specs.declared.answer.Answer.TheVariants as answers
-use Rattle.qs_ops.specs.declared.answer.Cause.{Cause}
 use Rattle.qs_ops.specs.declared.answer.Cause.TheVariants as causes
-use Rattle.qs_ops.specs.declared.operation.Op.TheVariants.{Note}
-use Rattle.qs_ops.specs.declared.vote.Vote.{Vote}
 use Rattle.qs_ops.specs.declared.vote.Vote.TheVariants as votes
 use Rattle.qs_packet.specs.declared.message.Message.TheVariants as messages
 use Rattle.qs_record.specs.declared.record.Record.TheVariants as records
-use Rattle.qs_node_servers.specs.Servers.{audit_no, server_at}
-use Rattle.qs_node_step.specs.Answering.{kept_outcome}
-use Rattle.qs_node_step.specs.Borrowing.{is_aborted}
-use Rattle.qs_node_step.specs.Bringing.{answer, member_here, send}
-use Rattle.qs_node_step.specs.Commands.{decided_answer}
-use Rattle.qs_node_step.specs.Deciding.{decide, decide_commit, end_members, give_notices}
-use Rattle.qs_node_step.specs.Restarts.{begin_incarnation, known_tids, resume_home, resume_part, resume_tid}
-use Rattle.qs_node_step.specs.Serving.{label_at}
-use Rattle.qs_node_step.specs.Settling.{answer_superior, due_tids, forget_rule, is_busy, is_pass_due, is_put_off, is_quiet, may_answer, pass_rule, ready, ready_rule, refusal_goes_to, refuse_elsewhere, refuse_home, refuse_rule, say_yes, send_refusal, settle, settle_tid, try}
-use Rattle.qs_node_step.specs.State.{NodeValue, Work, change_server, client_cmp, doings_of, here, part_of, with_doings, with_manager, with_node, work_on}
-use Rattle.qs_node_step.specs.Step.{abort_old, age_rule, answer_waiting, borrower_waits, happen, is_owner, owner_waits, step_work, wait_command, wait_on, waiting_clients, waits_at}
-use Rattle.qs_node_step.specs.Telling.{forget, record_learnt}
-use Rattle.qs_node_step.specs.Voting.{change_count, due_votes, enter_vote, issue_note, log_vote, note_text, owes_note, served_count, vote_frame, vote_next, vote_pass, vote_with}
-use Rattle.qs_node_step.specs.declared.event.Event.{Event}
+use Rattle.qs_node_servers.specs.Servers.{audit_no}
+use Rattle.qs_node_step.specs.Deciding.{decide, decide_commit}
+use Rattle.qs_node_step.specs.State.{NodeValue, part_of}
+use Rattle.qs_node_step.specs.Voting.{note_text}
 use Rattle.qs_node_step.specs.declared.event.Event.TheVariants as events
-use Rattle.qs_node_step.specs.declared.state.Issued.{Issued}
 use Rattle.qs_tm.specs.Manager as tm
 use Rattle.qs_tm.specs.Members as members
-use Rattle.qs_tm.specs.Outcomes.{told_with_own}
 use Rattle.qs_tm.specs.Participant as participant
-use Rattle.qs_tm.specs.Participant.{is_forgotten, is_undecided, needs_pass}
-use Rattle.qs_tm.specs.declared.participant.Participant.{Participant}
 use Rattle.qs_world_refine.proofs.Others.{forget_queues_leave}
-use Rattle.qs_world_lawful.specs.GivenStep.{tick_work}
-use Rattle.qs_world_lawful.specs.NodeFacts.{HasNodeFacts}
 use Rattle.qs_world_lawful.proofs.FactsTold as facts_told
-use Rattle.qs_world_runs.specs.Counted.{AreTallied, IsTallied, NoneBesides, tally_of, waits_in}
-use Rattle.qs_world_runs.proofs.DueParts.{both_and}
 use Rattle.qs_world_runs.proofs.TalliedCommands.{borrower_keeps, command_keeps}
 use Rattle.qs_world_runs.proofs.TalliedParts.{forget_tallied, tick_tallied}
 use Rattle.qs_world_runs.proofs.TalliedRules as rules
 use Rattle.qs_world_runs.proofs.TalliedRules.{plain_still, voted_still}
+use Rattle.qs_base_lemmas.proofs.Tests.{none_is}
 
 -- ---- the vote pass, of a transaction of which numbers were given
 
@@ -90,11 +61,7 @@ abbrev N : Tid → Type 0
 N = NoneBesides
 
 none_of : (part : Participant) → is_undecided part ≡ true → part.outcome ≡ None
-none_of part is = by part.outcome is
-  where
-    by : (o : Option Outcome) → is_none o ≡ true → o ≡ None
-    by None e = refl
-    by (Some o) e = absurd (cc e)
+none_of part is = none_is part.outcome is
 
 -- a pass is due of what is asked, at its home
 passes_keep : (work : Work) (tid : Tid) → Keeps work (try tid pass_rule work)
@@ -104,7 +71,7 @@ passes_keep work tid = rules.undecided_keeps N tid (pass_rule tid) work (λ part
     due part known open_now is h = back (pass_keeps (λ k. tid ≡ k) tid refl work (record { in_inc = h.in_inc; rising = h.rising; each = h.each; runs = h.runs; asked = h.asked; given = h.given; besides = λ k e. subst (λ (x : Tid). IsTallied x (tally_of work.node)) e it }))
       where
         asked : part.asked ≡ true
-        asked = (both_and part.asked (not (is_busy tid work.node part)) (both_and (part.asked && not (is_busy tid work.node part)) (needs_pass part && not (is_put_off (doings_of tid work))) is).0).0
+        asked = (and_parts part.asked (not (is_busy tid work.node part)) (and_parts (part.asked && not (is_busy tid work.node part)) (needs_pass part && not (is_put_off (doings_of tid work))) is).0).0
 
         it : IsTallied tid (tally_of work.node)
         it = h.runs tid part known (h.asked tid part known asked) (none_of part open_now)

@@ -1,12 +1,8 @@
 -- A set that has nodes of the run alone, and lacks one of them, has fewer nodes than the run.
-use Rattle.std.proofs.Common.{length-append, ◌≡◌, ℕ, ◌+◌, ◌-◌, ◌<◌, ◌≤◌, ◌==◌, ◌&&◌, Bool, true, false, List, [], ◌∷◌, ◌++◌, length, fold, refl, subst, arith, nat_le, nat_lt, if◌then◌else◌}
-use Rattle.std.proofs.lemmas.Bool.Decides.{nat_tests}
-use Rattle.std.specs.List.{list_all}
-use Rattle.qs_base.specs.declared.identifiers.NodeNo.{NodeNo}
-use Rattle.qs_engage.specs.Nodes.{all_nodes, has_node, listed, with_listed}
-use Rattle.qs_engage.specs.declared.nodes.Nodes.{Nodes}
-use Rattle.qs_world_refine.specs.Sound.{where_so}
+use Rattle.qs_world_runs.proofs.Words.{length-append, ◌≡◌, ℕ, ◌+◌, ◌-◌, ◌<◌, ◌≤◌, ◌==◌, ◌&&◌, Bool, true, false, List, [], ◌∷◌, ◌++◌, length, fold, refl, subst, arith, nat_le, nat_lt, if◌then◌else◌, nat_tests, list_all, NodeNo, listed, Nodes, where_so}
+use Rattle.qs_engage.specs.Nodes.{all_nodes, has_node, with_listed}
 use Rattle.qs_world_refine.proofs.SoundParts.{and_both}
+use Rattle.qs_base_lemmas.proofs.Tests.{eqb_turned}
 
 -- in order, from that number on
 abbrev are_up : ℕ → List NodeNo → Bool
@@ -58,11 +54,8 @@ module _ (nodes : Nodes) (size : ℕ) where
         differs : has_node nodes x ≡ true → nat_lt x.0 other ≡ false → other < x.0
         differs has not_below = by (x.0 == other) refl
           where
-            equal : (a b : ℕ) → (a == b) ≡ true → b ≡ a
-            equal a b is = grind (arith, nat_tests, is)
-
             by : (b : Bool) → (x.0 == other) ≡ b → other < x.0
-            by true same = absurd (let off : has_node nodes x ≡ false = subst (λ (k : ℕ). has_node nodes (record { 0 = k }) ≡ false) (equal x.0 other same) lacks in cc (off, has))
+            by true same = absurd (let off : has_node nodes x ≡ false = subst (λ (k : ℕ). has_node nodes (record { 0 = k }) ≡ false) (eqb_turned x.0 other same) lacks in cc (off, has))
             by false apart = let n = not_below in grind (arith, nat_tests, apart, n)
 
         by : (c : Bool) → nat_lt x.0 other ≡ c → ((more : List NodeNo) → x.0 + 1 ≤ other → length (fold (with_listed nodes) more xs) < length more + (size - (x.0 + 1))) → (b : Bool) → has_node nodes x ≡ b → length (fold (with_listed nodes) (if b then acc ++ x ∷ [] else acc) xs) < length acc + (size - low)

@@ -1,40 +1,18 @@
 -- What all things that a rule does keep, the commands of clients keep.
-use Rattle.std.proofs.Common.{◌≡◌, true, [], ◌∷◌, ◌++◌, Option, Some, None, refl, sym, subst, ◌∙◌}
-use Rattle.std.specs.BTreeMap.{is_at}
-use Rattle.std.specs.Map.{lookup, remove_entry}
-use Rattle.std.specs.Prelude.{if◌then◌else◌}
-use Rattle.qs_base.specs.declared.identifiers.ClientNo.{ClientNo}
-use Rattle.qs_base.specs.declared.identifiers.Member.{Member}
+use Rattle.qs_world_runs.proofs.Words.{◌≡◌, true, [], ◌∷◌, ◌++◌, Option, Some, None, refl, sym, subst, ◌∙◌, is_at, lookup, remove_entry, if◌then◌else◌, ClientNo, Member, Tid, Command, ScriptLine, first_untaken, give_back, last_taken, take_first, Op, client_server, kept_outcome, become_asked, borrower_command, is_void, lent_command, loan_command, take, take_command, with_loan, answer, enter, ask, begin_command, begin_or_refuse, decided_answer, enter_ask, open_command, owner_command, request_as}
+use Rattle.qs_world_runs.proofs.Words.{request_command, label_at, put_label, Work, client_cmp, with_doings, with_kept, with_manager, is_owner, labelled, obey, OpenCommand, BeginFault, Deeds, deeds_of, traced, IsKeptAt, entered, fresh_command, some_same}
 use Rattle.qs_base.specs.declared.identifiers.Outcome.TheVariants as outcomes
-use Rattle.qs_base.specs.declared.identifiers.Tid.{Tid}
 use Rattle.qs_book_journal.specs.declared.entry.Act.TheVariants as acts
-use Rattle.qs_book_journal.specs.declared.script_line.Command.{Command}
 use Rattle.qs_book_journal.specs.declared.script_line.Command.TheVariants as commands
-use Rattle.qs_book_journal.specs.declared.script_line.ScriptLine.{ScriptLine}
-use Rattle.qs_node_kept.specs.Loans.{first_untaken, give_back, last_taken, take_first}
 use Rattle.qs_ops.specs.declared.answer.Answer.TheVariants as answers
 use Rattle.qs_ops.specs.declared.answer.Cause.TheVariants as causes
-use Rattle.qs_ops.specs.declared.operation.Op.{Op}
-use Rattle.qs_node_servers.specs.Servers.{client_server}
-use Rattle.qs_node_step.specs.Answering.{kept_outcome}
-use Rattle.qs_node_step.specs.Asking.{become_asked}
-use Rattle.qs_node_step.specs.Borrowing.{borrower_command, is_void, lent_command, loan_command, take, take_command, with_loan}
-use Rattle.qs_node_step.specs.Bringing.{answer, enter}
-use Rattle.qs_node_step.specs.Commands.{ask, begin_command, begin_or_refuse, decided_answer, enter_ask, open_command, owner_command, request_as, request_command}
 use Rattle.qs_node_step.specs.Commands as command_rules
 use Rattle.qs_node_step.specs.Deciding.{decide}
 use Rattle.qs_node_step.specs.Requests.{next_number}
-use Rattle.qs_node_step.specs.Serving.{label_at, put_label}
-use Rattle.qs_node_step.specs.State.{Work, client_cmp, with_doings, with_kept, with_manager}
-use Rattle.qs_node_step.specs.Step.{is_owner, labelled, obey}
-use Rattle.qs_node_step.specs.declared.state.OpenCommand.{OpenCommand}
 use Rattle.qs_tm.specs.Manager as tm
-use Rattle.qs_tm.specs.declared.manager.BeginFault.{BeginFault}
 use Rattle.qs_tm.specs.declared.manager.BeginFault.TheVariants as faults
-use Rattle.qs_world_runs.specs.Deeds.{Deeds, deeds_of, traced}
-use Rattle.qs_world_runs.specs.DeedsReplied.{IsKeptAt}
 use Rattle.qs_world_runs.specs.Traces as traces
-use Rattle.qs_world_runs.specs.Traces.{answered, entered, fresh_command}
+use Rattle.qs_world_runs.specs.Traces.{answered}
 use Rattle.qs_world_runs.proofs.TraceFirst as firsts
 use Rattle.qs_world_runs.proofs.TraceRules as rules
 
@@ -57,9 +35,6 @@ module _ (P : Deeds → Type 0) (k : IsKeptAt P) where
       begun = enter (acts.Begin (tm.next_tid work.node.manager) line.label line.client)
           (put_label (record { label = line.label; tid = Some (tm.next_tid work.node.manager); owner = Some line.client }) (with_manager (tm.begin line.client) work))
 
-      one : {c d : OpenCommand} → Some c ≡ Some d → c ≡ d
-      one e = cc e
-
       began : (o : Option OpenCommand) → lookup (is_at (client_cmp line.client)) work.node.commands ≡ o → P (deeds_of (elim o [
         | None ↦ begun
         | Some command ↦ record begun {
@@ -71,7 +46,7 @@ module _ (P : Deeds → Type 0) (k : IsKeptAt P) where
         }
       ]))
       began None none = absurd (cc (sym waits ∙ none))
-      began (Some command) there = subst (λ (c : OpenCommand). P (traced (λ t. answered line.client c answers.Done (entered (acts.Begin (tm.next_tid work.node.manager) line.label line.client) (traces.noted (record { label = line.label; tid = Some (tm.next_tid work.node.manager); owner = Some line.client }) t))) (deeds_of work))) (one (sym waits ∙ there))
+      began (Some command) there = subst (λ (c : OpenCommand). P (traced (λ t. answered line.client c answers.Done (entered (acts.Begin (tm.next_tid work.node.manager) line.label line.client) (traces.noted (record { label = line.label; tid = Some (tm.next_tid work.node.manager); owner = Some line.client }) t))) (deeds_of work))) (some_same (sym waits ∙ there))
           (k.begins (deeds_of work) line (tm.next_tid work.node.manager) waits is h)
 
       by : (fault : Option BeginFault) → P (deeds_of (begin_or_refuse line fault work))

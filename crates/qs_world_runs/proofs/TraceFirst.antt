@@ -1,29 +1,15 @@
 -- What entries and plain messages keep, is kept by rules that do no more: notices, engagement, and what the first step of an incarnation resumes.
-use Rattle.std.proofs.Common.{◌≡◌, ℕ, Bool, true, false, List, [], ◌∷◌, ◌++◌, fold, Option, Some, None, refl}
-use Rattle.std.specs.Prelude.{if◌then◌else◌}
-use Rattle.qs_base.specs.declared.identifiers.NodeNo.{NodeNo}
+use Rattle.qs_world_runs.proofs.Words.{◌≡◌, ℕ, Bool, true, false, List, [], ◌∷◌, ◌++◌, fold, Option, Some, None, refl, if◌then◌else◌, NodeNo, Tid, listed, same_node, Engaged, Message, Record, where_undecided, is_other, log_if, member_here, send, send_each, send_next, due_endings, end_member, end_members, give_notices, learn_member, learn_members, learners_at, begin_incarnation, known_tids, resume_home, resume_part, resume_tid, cover_from, engage, Work, here, with_manager, with_node}
+use Rattle.qs_world_runs.proofs.Words.{record_learnt, is_undecided, Participant, Deeds, deeds_of, IsKeptFirst}
 use Rattle.qs_base.specs.declared.identifiers.Outcome.{Outcome}
 use Rattle.qs_base.specs.declared.identifiers.Outcome.TheVariants as outcomes
-use Rattle.qs_base.specs.declared.identifiers.Tid.{Tid}
-use Rattle.qs_engage.specs.Nodes.{listed, same_node}
-use Rattle.qs_engage.specs.declared.engage.Engaged.{Engaged}
 use Rattle.qs_engage.specs.declared.engage.Engaged.TheVariants as engagements
 use Rattle.qs_book_journal.specs.declared.entry.Act.TheVariants as acts
-use Rattle.qs_packet.specs.declared.message.Message.{Message}
 use Rattle.qs_packet.specs.declared.message.Message.TheVariants as messages
-use Rattle.qs_record.specs.declared.record.Record.{Record}
-use Rattle.qs_node_step.specs.Asking.{where_undecided}
-use Rattle.qs_node_step.specs.Bringing.{is_other, log_if, member_here, send, send_each, send_next}
-use Rattle.qs_node_step.specs.Deciding.{due_endings, end_member, end_members, give_notices, learn_member, learn_members, learners_at}
-use Rattle.qs_node_step.specs.Restarts.{begin_incarnation, known_tids, resume_home, resume_part, resume_tid}
-use Rattle.qs_node_step.specs.Serving.{cover_from, engage, met}
-use Rattle.qs_node_step.specs.State.{Work, here, part_of, with_manager, with_node}
-use Rattle.qs_node_step.specs.Telling.{record_learnt}
+use Rattle.qs_node_step.specs.Serving.{met}
+use Rattle.qs_node_step.specs.State.{part_of}
 use Rattle.qs_tm.specs.Manager as tm
-use Rattle.qs_tm.specs.Participant.{is_undecided}
-use Rattle.qs_tm.specs.declared.participant.Participant.{Participant}
-use Rattle.qs_world_runs.specs.Deeds.{Deeds, deeds_of}
-use Rattle.qs_world_runs.specs.DeedsReplied.{IsKeptFirst, IsPlain}
+use Rattle.qs_world_runs.specs.DeedsReplied.{IsPlain}
 
 module _ (P : Deeds → Type 0) where
   abbrev pub Keeps : Work → Work → Type 0

@@ -1,20 +1,9 @@
 -- What all things that a rule does keep, whichever messages they send, is kept where each reply is tied to its request.
-use Rattle.std.proofs.Common.{◌≡◌, true, Option, Some, None, ap}
-use Rattle.std.specs.Prelude.{unwrap_or}
-use Rattle.qs_base.specs.Order.{tid_cmp}
-use Rattle.qs_base.specs.declared.identifiers.ClientNo.{ClientNo}
-use Rattle.qs_base.specs.declared.identifiers.ServerNo.{ServerNo}
-use Rattle.qs_ipc.specs.declared.delivery.Delivery.{Delivery}
-use Rattle.qs_book_laws.proofs.Alikes.{tid_itself}
+use Rattle.qs_world_runs.proofs.Words.{◌≡◌, true, Option, Some, None, ap, unwrap_or, tid_cmp, ClientNo, ServerNo, Delivery, tid_itself, Reply, Message, no_doings, Event, Doings, Deeds, IsKeptSo, IsKeptAt, IsKeptFirst, TakesInAt}
 use Rattle.qs_book_laws.proofs.Maps.{lookup_put}
-use Rattle.qs_ops.specs.declared.reply.Reply.{Reply}
-use Rattle.qs_packet.specs.declared.message.Message.{Message}
 use Rattle.qs_packet.specs.declared.message.Message.TheVariants as messages
-use Rattle.qs_node_step.specs.State.{no_doings}
-use Rattle.qs_node_step.specs.declared.event.Event.{Event}
-use Rattle.qs_node_step.specs.declared.state.Doings.{Doings}
-use Rattle.qs_world_runs.specs.Deeds.{Deeds, IsKeptSo, TakesInSo, doings_in}
-use Rattle.qs_world_runs.specs.DeedsReplied.{IsKeptAt, IsKeptFirst, IsPlain, TakesInAt, lent, served}
+use Rattle.qs_world_runs.specs.Deeds.{TakesInSo, doings_in}
+use Rattle.qs_world_runs.specs.DeedsReplied.{IsPlain, lent, served}
 use Rattle.qs_world_runs.specs.Traces.{AsksNothing, member_at}
 
 asks_nothing : (message : Message) → IsPlain message → AsksNothing message

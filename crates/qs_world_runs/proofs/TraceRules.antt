@@ -1,49 +1,21 @@
 -- What all things that a rule does keep, its rules keep: messages, answers, requests and replies, serving, notices and decisions.
-use Rattle.std.proofs.Common.{◌≡◌, ℕ, Bool, true, false, List, [], ◌∷◌, ◌++◌, Option, Some, None, refl}
-use Rattle.std.specs.BTreeMap.{is_at}
-use Rattle.std.specs.Map.{lookup, remove_entry}
-use Rattle.std.specs.Prelude.{not, ◌&&◌, if◌then◌else◌}
-use Rattle.qs_base.specs.declared.identifiers.ClientNo.{ClientNo}
-use Rattle.qs_base.specs.declared.identifiers.Member.{Member}
-use Rattle.qs_base.specs.declared.identifiers.NodeNo.{NodeNo}
+use Rattle.qs_world_runs.proofs.Words.{◌≡◌, ℕ, Bool, true, false, List, [], ◌∷◌, ◌++◌, Option, Some, None, refl, is_at, lookup, remove_entry, not, ◌&&◌, if◌then◌else◌, ClientNo, Member, NodeNo, ServerNo, Tid, is_node, uncovered, listed, same_node, Delivery, answer_of, after_serving, Answer, Cause, Op, Reply, Message, Record, client_of, is_client, ask_came, asked_by, become_asked, block, closer_came, count, pass_unknown, refusal_came, answer, enter, is_other, log_if, member_here, send}
+use Rattle.qs_world_runs.proofs.Words.{send_each, give_notices, keep_outcome, answer_issuer, ask_on, enqueue, enter_issue, is_asked, issue, issue_as, issue_away, issue_here, label_of, reply_came, take_reply, waits_as, with_local, lent_to, make_loan, reply_here, serve, serve_all, serve_next, serve_or_drop, is_quiet, Work, change_server, client_cmp, doings_of, here, no_doings, with_doings, with_manager, OpenCommand, is_by_files, is_undecided, Decision, Outstanding, Participant, Deeds, deeds_of}
+use Rattle.qs_world_runs.proofs.Words.{traced, IsKeptAt}
 use Rattle.qs_base.specs.declared.identifiers.Outcome.{Outcome}
 use Rattle.qs_base.specs.declared.identifiers.Outcome.TheVariants as outcomes
-use Rattle.qs_base.specs.declared.identifiers.ServerNo.{ServerNo}
-use Rattle.qs_base.specs.declared.identifiers.Tid.{Tid}
-use Rattle.qs_engage.specs.Engage.{is_node, uncovered}
-use Rattle.qs_engage.specs.Nodes.{listed, same_node}
 use Rattle.qs_ipc.specs.Ipc as ipc
 use Rattle.qs_ipc.specs.Queue.{is_for}
-use Rattle.qs_ipc.specs.declared.delivery.Delivery.{Delivery}
 use Rattle.qs_book_journal.specs.declared.entry.Act.TheVariants as acts
-use Rattle.qs_ops.specs.Operations.{answer_of}
-use Rattle.qs_ops.specs.Server.{after_serving}
-use Rattle.qs_ops.specs.declared.answer.Answer.{Answer}
-use Rattle.qs_ops.specs.declared.answer.Cause.{Cause}
 use Rattle.qs_ops.specs.declared.answer.Cause.TheVariants as causes
-use Rattle.qs_ops.specs.declared.operation.Op.{Op}
-use Rattle.qs_ops.specs.declared.reply.Reply.{Reply}
-use Rattle.qs_packet.specs.declared.message.Message.{Message}
 use Rattle.qs_packet.specs.declared.message.Message.TheVariants as messages
-use Rattle.qs_record.specs.declared.record.Record.{Record}
-use Rattle.qs_node_servers.specs.Servers.{client_of, is_client}
-use Rattle.qs_node_step.specs.Asking.{ask_came, asked_by, become_asked, block, closer_came, count, pass_unknown, refusal_came}
-use Rattle.qs_node_step.specs.Bringing.{answer, enter, is_other, log_if, member_here, send, send_each}
-use Rattle.qs_node_step.specs.Deciding.{decide, decide_commit, give_notices, keep_outcome}
+use Rattle.qs_node_step.specs.Deciding.{decide, decide_commit}
 use Rattle.qs_node_step.specs.Requests as requests
-use Rattle.qs_node_step.specs.Requests.{answer_issuer, ask_on, enqueue, enter_issue, is_asked, issue, issue_as, issue_away, issue_here, label_of, next_number, reply_came, take_reply, waits_as, with_local}
-use Rattle.qs_node_step.specs.Serving.{lent_to, make_loan, may_serve, reply_here, serve, serve_all, serve_next, serve_or_drop}
-use Rattle.qs_node_step.specs.Settling.{is_quiet}
-use Rattle.qs_node_step.specs.State.{Work, change_server, client_cmp, doings_of, here, no_doings, part_of, with_doings, with_manager}
+use Rattle.qs_node_step.specs.Requests.{next_number}
+use Rattle.qs_node_step.specs.Serving.{may_serve}
+use Rattle.qs_node_step.specs.State.{part_of}
 use Rattle.qs_node_step.specs.State as state
-use Rattle.qs_node_step.specs.declared.state.OpenCommand.{OpenCommand}
 use Rattle.qs_tm.specs.Manager as tm
-use Rattle.qs_tm.specs.Participant.{is_by_files, is_undecided}
-use Rattle.qs_tm.specs.declared.manager.Decision.{Decision}
-use Rattle.qs_tm.specs.declared.participant.Outstanding.{Outstanding}
-use Rattle.qs_tm.specs.declared.participant.Participant.{Participant}
-use Rattle.qs_world_runs.specs.Deeds.{Deeds, deeds_of, traced}
-use Rattle.qs_world_runs.specs.DeedsReplied.{IsKeptAt}
 use Rattle.qs_world_runs.specs.Traces.{sent}
 use Rattle.qs_world_runs.proofs.TraceFirst as firsts
 

@@ -1,59 +1,26 @@
 -- What all things that a rule does keep, a whole step keeps: votes and settling, what comes, and commands that stayed open.
-use Rattle.std.proofs.Common.{◌≡◌, ℕ, Bool, true, false, List, [], ◌∷◌, Option, Some, None, refl, subst, fold}
-use Rattle.std.specs.BTreeMap.{insert_entry, is_at}
-use Rattle.std.specs.Map.{lookup}
-use Rattle.std.specs.Prelude.{if◌then◌else◌, is_none}
-use Rattle.std.proofs.lemmas.Cmp.{tied_itself, nat_cmp_total}
-use Rattle.qs_base.specs.declared.identifiers.ClientNo.{ClientNo}
-use Rattle.qs_base.specs.declared.identifiers.Member.{Member}
-use Rattle.qs_base.specs.declared.identifiers.NodeNo.{NodeNo}
+use Rattle.qs_world_runs.proofs.Words.{◌≡◌, ℕ, Bool, true, false, List, [], ◌∷◌, Option, Some, None, refl, subst, fold, insert_entry, is_at, lookup, if◌then◌else◌, is_none, tied_itself, nat_cmp_total, ClientNo, Member, NodeNo, ServerNo, Tid, release_of, listed, same_node, Act, Command, ScriptLine, vote_of, Cause, Op, Note, Vote, Message, server_at, kept_outcome, is_aborted, answer, member_here, decided_answer, end_members, begin_incarnation, engage, is_dropped, label_at, learn_label}
+use Rattle.qs_world_runs.proofs.Words.{put_label, request_came, take_in, answer_superior, due_tids, forget_rule, is_pass_due, is_put_off, is_quiet, may_answer, pass_rule, ready, ready_rule, refusal_goes_to, refuse_elsewhere, refuse_home, refuse_rule, say_yes, send_refusal, settle, settle_tid, try, Work, client_cmp, doings_of, here, with_manager, with_queues, work_on, abort_old, age_rule, borrower_waits, command_came, happen, is_owner, message_came, owner_waits, step_work, wait_command}
+use Rattle.qs_world_runs.proofs.Words.{wait_on, waiting_clients, waits_at, with_command, forget, change_count, due_votes, enter_vote, issue_note, log_vote, owes_note, served_count, vote_frame, vote_next, vote_pass, vote_with, Event, Issued, told_with_own, is_forgotten, AtEach, done_work, first_work, Deeds, IsKeptSo, IsStill, deeds_of, IsKeptAt, IsKeptFirst, TakesInAt, IsKept, IsOrdinary, Trace, fresh_command, trace_of}
 use Rattle.qs_base.specs.declared.identifiers.Outcome.TheVariants as outcomes
-use Rattle.qs_base.specs.declared.identifiers.ServerNo.{ServerNo}
-use Rattle.qs_base.specs.declared.identifiers.Tid.{Tid}
-use Rattle.qs_engage.specs.Engage.{release_of}
-use Rattle.qs_engage.specs.Nodes.{listed, same_node}
 use Rattle.qs_ipc.specs.Ipc as ipc
 use Rattle.qs_ipc.specs.Queue.{is_for}
-use Rattle.qs_book_journal.specs.declared.entry.Act.{Act}
 use Rattle.qs_book_journal.specs.declared.entry.Act.TheVariants as acts
-use Rattle.qs_book_journal.specs.declared.script_line.Command.{Command}
-use Rattle.qs_book_journal.specs.declared.script_line.ScriptLine.{ScriptLine}
 use Rattle.qs_book_laws.proofs.Maps.{lookup_put}
-use Rattle.qs_ops.specs.Server.{vote_of}
 use Rattle.qs_ops.specs.declared.answer.Answer.TheVariants as answers
-use Rattle.qs_ops.specs.declared.answer.Cause.{Cause}
 use Rattle.qs_ops.specs.declared.answer.Cause.TheVariants as causes
-use Rattle.qs_ops.specs.declared.operation.Op.{Op}
-use Rattle.qs_ops.specs.declared.operation.Op.TheVariants.{Note}
-use Rattle.qs_ops.specs.declared.vote.Vote.{Vote}
 use Rattle.qs_ops.specs.declared.vote.Vote.TheVariants as votes
-use Rattle.qs_packet.specs.declared.message.Message.{Message}
 use Rattle.qs_packet.specs.declared.message.Message.TheVariants as messages
-use Rattle.qs_node_servers.specs.Servers.{audit_no, server_at}
-use Rattle.qs_node_step.specs.Answering.{kept_outcome}
-use Rattle.qs_node_step.specs.Borrowing.{is_aborted}
-use Rattle.qs_node_step.specs.Bringing.{answer, member_here}
-use Rattle.qs_node_step.specs.Commands.{decided_answer}
-use Rattle.qs_node_step.specs.Deciding.{decide, decide_commit, end_members}
-use Rattle.qs_node_step.specs.Restarts.{begin_incarnation}
-use Rattle.qs_node_step.specs.Serving.{engage, is_dropped, label_at, learn_label, put_label, request_came, take_in}
-use Rattle.qs_node_step.specs.Settling.{answer_superior, due_tids, forget_rule, is_pass_due, is_put_off, is_quiet, may_answer, pass_rule, ready, ready_rule, refusal_goes_to, refuse_elsewhere, refuse_home, refuse_rule, say_yes, send_refusal, settle, settle_tid, try}
-use Rattle.qs_node_step.specs.State.{NodeValue, Work, client_cmp, doings_of, here, part_of, with_manager, with_queues, work_on}
-use Rattle.qs_node_step.specs.Step.{abort_old, age_rule, borrower_waits, command_came, happen, is_owner, message_came, owner_waits, step_work, wait_command, wait_on, waiting_clients, waits_at, with_command}
-use Rattle.qs_node_step.specs.Telling.{forget}
-use Rattle.qs_node_step.specs.Voting.{change_count, due_votes, enter_vote, issue_note, log_vote, note_text, owes_note, served_count, vote_frame, vote_next, vote_pass, vote_with}
-use Rattle.qs_node_step.specs.declared.event.Event.{Event}
+use Rattle.qs_node_servers.specs.Servers.{audit_no}
+use Rattle.qs_node_step.specs.Deciding.{decide, decide_commit}
+use Rattle.qs_node_step.specs.State.{NodeValue, part_of}
+use Rattle.qs_node_step.specs.Voting.{note_text}
 use Rattle.qs_node_step.specs.declared.event.Event.TheVariants as events
-use Rattle.qs_node_step.specs.declared.state.Issued.{Issued}
 use Rattle.qs_tm.specs.Manager as tm
 use Rattle.qs_tm.specs.Members as members
-use Rattle.qs_tm.specs.Outcomes.{told_with_own}
-use Rattle.qs_tm.specs.Participant.{is_forgotten}
-use Rattle.qs_world_lawful.specs.Given.{AtEach}
-use Rattle.qs_world_lawful.specs.GivenStep.{done_work, first_work}
-use Rattle.qs_world_runs.specs.Deeds.{Deeds, IsKeptSo, IsStill, TakesInSo, deeds_of}
-use Rattle.qs_world_runs.specs.DeedsReplied.{IsKeptAt, IsKeptFirst, IsNotice, TakesInAt}
-use Rattle.qs_world_runs.specs.Traces.{IsKept, IsOrdinary, TakesIn, Trace, fresh_command, trace_of}
+use Rattle.qs_world_runs.specs.Deeds.{TakesInSo}
+use Rattle.qs_world_runs.specs.DeedsReplied.{IsNotice}
+use Rattle.qs_world_runs.specs.Traces.{TakesIn}
 use Rattle.qs_world_runs.proofs.PassDoings.{due_off, ended_off, vote_off}
 use Rattle.qs_world_runs.proofs.TraceCommands as commanded
 use Rattle.qs_world_runs.proofs.TraceFirst as firsts

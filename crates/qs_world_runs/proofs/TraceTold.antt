@@ -1,28 +1,15 @@
 -- What all things that a rule does keep, is kept as outcomes are told and taken in, as inquiries are answered, and as nodes restart.
-use Rattle.std.proofs.Common.{ℕ, Bool, true, false, List, Option, Some, None}
-use Rattle.std.specs.List.{list_any}
-use Rattle.std.specs.Prelude.{not, ◌&&◌, if◌then◌else◌}
-use Rattle.qs_base.specs.declared.identifiers.NodeNo.{NodeNo}
+use Rattle.qs_world_runs.proofs.Words.{ℕ, Bool, true, false, List, Option, Some, None, list_any, not, ◌&&◌, if◌then◌else◌, NodeNo, Tid, listed, same_node, answer_known, answer_unknown, inquiry_at_home, inquiry_came, block, send, give_notices, find_gone, inquire, is_orphaned_by, name_again, notice_decided, notice_part, notice_tid, peer_restarted, tell_again, Work, here, with_manager, with_queues, end_told, is_other_node, keep_abort_told, learn, learn_unknown, names_at, record_learnt}
+use Rattle.qs_world_runs.proofs.Words.{take_names, take_outcome, tell_came, told_at_home, told_came, told_known, told_unknown, is_told_again, named_by, is_owed_by, is_undecided, Participant, Deeds, deeds_of, IsKeptAt}
 use Rattle.qs_base.specs.declared.identifiers.Outcome.{Outcome}
 use Rattle.qs_base.specs.declared.identifiers.Outcome.TheVariants as outcomes
-use Rattle.qs_base.specs.declared.identifiers.Tid.{Tid}
-use Rattle.qs_engage.specs.Nodes.{listed, same_node}
 use Rattle.qs_ipc.specs.Ipc as ipc
 use Rattle.qs_ops.specs.declared.answer.Cause.TheVariants as causes
 use Rattle.qs_packet.specs.declared.message.Message.TheVariants as messages
-use Rattle.qs_node_step.specs.Answering.{answer_known, answer_unknown, inquiry_at_home, inquiry_came, was_committed}
-use Rattle.qs_node_step.specs.Asking.{block}
-use Rattle.qs_node_step.specs.Bringing.{send}
-use Rattle.qs_node_step.specs.Deciding.{give_notices}
-use Rattle.qs_node_step.specs.Restarts.{find_gone, inquire, is_orphaned_by, name_again, notice_decided, notice_part, notice_tid, peer_restarted, tell_again}
-use Rattle.qs_node_step.specs.State.{Work, here, part_of, with_manager, with_queues}
-use Rattle.qs_node_step.specs.Telling.{end_told, is_other_node, keep_abort_told, learn, learn_unknown, names_at, record_learnt, take_names, take_outcome, tell_came, told_at_home, told_came, told_known, told_unknown}
+use Rattle.qs_node_step.specs.Answering.{was_committed}
+use Rattle.qs_node_step.specs.State.{part_of}
 use Rattle.qs_tm.specs.Manager as tm
-use Rattle.qs_tm.specs.Outcomes.{is_abort, is_told_again, named_by}
-use Rattle.qs_tm.specs.Participant.{is_owed_by, is_undecided}
-use Rattle.qs_tm.specs.declared.participant.Participant.{Participant}
-use Rattle.qs_world_runs.specs.Deeds.{Deeds, deeds_of}
-use Rattle.qs_world_runs.specs.DeedsReplied.{IsKeptAt}
+use Rattle.qs_tm.specs.Outcomes.{is_abort}
 use Rattle.qs_world_runs.proofs.TraceFirst as firsts
 
 module _ (P : Deeds → Type 0) (k : IsKeptAt P) where

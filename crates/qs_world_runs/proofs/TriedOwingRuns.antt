@@ -1,7 +1,6 @@
 -- The tests of what is owed and stands open, each by evaluation.
-use Rattle.std.proofs.Common.{◌≡◌, true, false, refl}
+use Rattle.qs_world_runs.proofs.Words.{◌≡◌, true, false, refl, Global}
 use Rattle.std.specs.Fmt.{digits}
-use Rattle.std.specs.Global.{Global}
 use Rattle.qs_engage.specs.Nodes.{all_nodes}
 use Rattle.qs_tm.specs.Members.{all_servers}
 use Rattle.qs_world.specs.DrivenRuns.{late}

@@ -1,8 +1,7 @@
 -- A run with a stale record, by evaluation.
-use Rattle.std.proofs.Common.{◌≡◌, None, [], ◌∷◌, refl}
+use Rattle.qs_world_runs.proofs.Words.{◌≡◌, None, [], ◌∷◌, refl, Global}
 use Rattle.std.specs.Prelude.{codes}
 use Rattle.std.specs.Fmt.{digits}
-use Rattle.std.specs.Global.{Global}
 use Rattle.qs_engage.specs.Nodes.{all_nodes}
 use Rattle.qs_tm.specs.Members.{all_servers}
 use Rattle.qs_world.specs.Driven.{first_fault, rise}

@@ -1,51 +1,25 @@
 -- What its home is ready to commit at its turn began before the step: what begins in it nobody asks to commit there.
-use Rattle.std.proofs.Common.{◌≡◌, ℕ, ◌<◌, ◌&&◌, not, Bool, true, false, List, [], ◌∷◌, Option, Some, None, is_some, refl, sym, ap, subst, ◌∙◌}
-use Rattle.std.proofs.lemmas.Bool.{eqb-true}
-use Rattle.std.specs.List.{list_any}
+use Rattle.qs_world_runs.proofs.Words.{◌≡◌, ℕ, ◌<◌, ◌&&◌, not, Bool, true, false, List, [], ◌∷◌, Option, Some, None, is_some, refl, sym, ap, subst, ◌∙◌, eqb-true, or_parts, list_any, Tid, is_passive, Act, Inv, Obliged, BookValue, find_transaction, borrower_at, book_after, effect, TransactionValue, due_tids, is_busy, settle_tid, Work, Event, all_agree, is_ready, Source, entries_of, entry_of, Opening, World, StepMay, step_may, book_at, face_of, AtEach, done_work, HoldsAt, HoldsTid, in_runs}
+use Rattle.qs_world_runs.proofs.Words.{MakesStep, nodes_in, deeds_of, is_noted, Joined, book_in, PlacesAt, Here, IsReadyAt, and_first}
 use Rattle.qs_base.specs.declared.identifiers.Outcome.TheVariants as outcomes
-use Rattle.qs_base.specs.declared.identifiers.Tid.{Tid}
-use Rattle.qs_engage.specs.Engage.{is_passive}
-use Rattle.qs_book_journal.specs.declared.entry.Act.{Act}
 use Rattle.qs_book_journal.specs.declared.entry.Act.TheVariants as acts
-use Rattle.qs_book_laws.proofs.Outcomes.{Inv}
 use Rattle.qs_book_laws.proofs.Steps.{stepped}
-use Rattle.qs_book_laws.proofs.Turns.{Obliged}
-use Rattle.qs_book_machine.specs.Book.{BookValue, find_transaction}
-use Rattle.qs_book_machine.specs.Clauses.{borrower_at}
-use Rattle.qs_book_machine.specs.Lawful.{IsLawful, book_after, effect}
-use Rattle.qs_book_machine.specs.Transaction.{TransactionValue, is_open}
-use Rattle.qs_node_step.specs.Settling.{due_tids, is_busy, settle_tid}
-use Rattle.qs_node_step.specs.State.{Work}
-use Rattle.qs_node_step.specs.declared.event.Event.{Event}
+use Rattle.qs_book_machine.specs.Lawful.{IsLawful}
+use Rattle.qs_book_machine.specs.Transaction.{is_open}
 use Rattle.qs_tm.specs.Manager as tm
-use Rattle.qs_tm.specs.Participant.{all_agree, is_ready}
-use Rattle.qs_world.specs.Moves.{Source}
-use Rattle.qs_world.specs.Posting.{entries_of, entry_of}
-use Rattle.qs_world.specs.World.{Opening, World}
 use Rattle.qs_world_refine.specs.Begun.{has_begun}
 use Rattle.qs_world_refine.specs.Links.{node_no}
-use Rattle.qs_world_refine.proofs.MoveGoes.{StepMay, step_may}
-use Rattle.qs_world_lawful.specs.Entering.{book_at}
-use Rattle.qs_world_lawful.specs.Face.{face_of}
-use Rattle.qs_world_lawful.specs.Given.{AtEach}
-use Rattle.qs_world_lawful.specs.GivenStep.{done_work}
-use Rattle.qs_world_lawful.specs.Holds.{HoldsAt, HoldsHome, HoldsTid}
+use Rattle.qs_world_lawful.specs.Holds.{HoldsHome}
 use Rattle.qs_world_lawful.specs.NodeFacts.{IsPart, locals_of}
 use Rattle.qs_world_lawful.specs.Standing.{Stands}
-use Rattle.qs_world_lawful.proofs.LastsAlways.{in_runs}
 use Rattle.qs_world_lawful.proofs.LearningAll.{stands}
-use Rattle.qs_world_runs.specs.Agrees.{MakesStep, nodes_in}
-use Rattle.qs_world_runs.specs.Deeds.{deeds_of}
-use Rattle.qs_world_runs.specs.Firsts.{Unnoted, is_noted}
-use Rattle.qs_world_runs.specs.Joined.{Joined, book_in}
-use Rattle.qs_world_runs.specs.JoinedPlaces.{PlacesAt}
-use Rattle.qs_world_runs.specs.PlacesAmid.{Here}
-use Rattle.qs_world_runs.specs.PlacesTurns.{BeganAtTurn, IsReadyAt, TurnsBegan, passed}
+use Rattle.qs_world_runs.specs.Firsts.{Unnoted}
+use Rattle.qs_world_runs.specs.PlacesTurns.{BeganAtTurn, TurnsBegan, passed}
 use Rattle.qs_world_runs.proofs.PlacedActs.{step_here}
 use Rattle.qs_world_runs.proofs.PlacesBegin.{begun_up}
 use Rattle.qs_world_runs.proofs.PlacesJoined.{amid}
 use Rattle.qs_world_runs.proofs.TraceStages.{turns_done}
-use Rattle.qs_world_runs.proofs.UnanimousEarlier.{aside, aside_for, both_or, gives}
+use Rattle.qs_world_runs.proofs.UnanimousEarlier.{aside, aside_for, gives}
 use Rattle.qs_world_runs.proofs.Unnoted.{AllUnnoted, same_unnoted, unnoted_kept}
 
 -- ---- nobody has asked to commit it: so it stays, where the step does none of what it notes
@@ -74,7 +48,7 @@ module _ (tid : Tid) (n stamp : ℕ) where
 
   unasked : (done : List Act) (book : BookValue) → Inv book → IsLawful book (entries_of n stamp done) → list_any (is_noted tid) done ≡ false → Here tid Unasked book → Here tid Unasked (book_after book (entries_of n stamp done))
   unasked [] book i lawful off p = p
-  unasked (act ∷ done) book i lawful off p = let two = both_or (is_noted tid act) _ off in
+  unasked (act ∷ done) book i lawful off p = let two = or_parts (is_noted tid act) _ off in
       unasked done (effect book (entry_of n stamp act)) (stepped book (entry_of n stamp act) i lawful.0).inv lawful.1 two.1
       (step_here tid Unasked Unasked book (entry_of n stamp act) i lawful.0 (stays book act two.0) (λ label client ticks is asked. cc asked) p)
 
@@ -110,12 +84,8 @@ module _ (o : Opening) (world : World) (j : Joined PlacesAt o world) (n stamp fr
     undecided = home.undecided ready.part ready.known ready.open_now
 
     asked : is_some found.0.asked ≡ true
-    asked = home.asked ready.part ready.known undecided ∙ first_of ready.part.asked (not ready.part.blocked) (not (is_busy tid now.node ready.part)) (is_passive ready.part.engage) (all_agree ready.part) (front (is_ready (is_busy tid now.node ready.part) ready.part) _ ready.may)
+    asked = home.asked ready.part ready.known undecided ∙ first_of ready.part.asked (not ready.part.blocked) (not (is_busy tid now.node ready.part)) (is_passive ready.part.engage) (all_agree ready.part) (and_first (is_ready (is_busy tid now.node ready.part) ready.part) _ ready.may)
       where
-        front : (a b : Bool) → (a && b) ≡ true → a ≡ true
-        front true b so = refl
-        front false b so = absurd (cc so)
-
         first_of : (a b c d e : Bool) → ((a && b) && ((c && d) && e)) ≡ true → a ≡ true
         first_of true b c d e so = refl
         first_of false b c d e so = absurd (cc so)

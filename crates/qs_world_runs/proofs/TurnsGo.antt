@@ -1,29 +1,9 @@
 -- What all places hold as a step begins they hold at the turn of the transaction, or it is doomed: what comes is done, others settle before it, and its own votes are cast.
-use Rattle.std.proofs.Common.{◌≡◌, ◌⊎◌, inl, inr, ℕ, false, List, [], ◌∷◌, Some, arith}
-use Rattle.std.proofs.lemmas.Bool.Decides.{nat_tests}
-use Rattle.qs_base.specs.Order.{same_tid}
-use Rattle.qs_base.specs.declared.identifiers.Tid.{Tid}
-use Rattle.qs_book_machine.specs.Book.{BookValue}
-use Rattle.qs_node_step.specs.Settling.{due_tids, pass_rule, settle_tid, try}
-use Rattle.qs_node_step.specs.State.{NodeValue, Work, work_on}
-use Rattle.qs_node_step.specs.declared.event.Event.{Event}
-use Rattle.qs_world.specs.Moves.{Source, event_of, taken_by}
-use Rattle.qs_world.specs.World.{Opening, World}
+use Rattle.qs_world_runs.proofs.Words.{◌≡◌, ◌⊎◌, inl, inr, ℕ, false, List, [], ◌∷◌, Some, arith, nat_tests, same_tid, Tid, BookValue, due_tids, pass_rule, settle_tid, try, Work, work_on, Event, Source, event_of, taken_by, Opening, World, IsDoomed, seen, AtEach, done_work, first_work, Every, book_in, Field, field_of, OpenPlaced, Here, taken, HoldsOr, AreLawful, IsAmid, ComesWell}
+use Rattle.qs_node_step.specs.State.{NodeValue}
 use Rattle.qs_world_agree.specs.World as machine
-use Rattle.qs_world_agree.specs.Doomed.{IsDoomed}
-use Rattle.qs_world_refine.proofs.SoundViews.{seen}
-use Rattle.qs_world_lawful.specs.Given.{AtEach}
-use Rattle.qs_world_lawful.specs.GivenStep.{done_work, first_work}
-use Rattle.qs_world_lawful.specs.Logs.{Every}
-use Rattle.qs_world_runs.specs.Joined.{book_in}
-use Rattle.qs_world_runs.specs.Placed.{Field, field_of}
-use Rattle.qs_world_runs.specs.PlacedActs.{OpenPlaced}
-use Rattle.qs_world_runs.specs.PlacesAmid.{Here}
-use Rattle.qs_world_runs.specs.PlacesEnds.{taken}
-use Rattle.qs_world_runs.specs.PlacesGo.{Goes, HoldsOr}
-use Rattle.qs_world_runs.specs.PlacesRules.{AreLawful, IsAmid}
+use Rattle.qs_world_runs.specs.PlacesGo.{Goes}
 use Rattle.qs_world_runs.specs.PlacesTurns.{FindsAtTurn, FindsSettle, GoesToTurn, IsFoundThere, PlacedAtTurn, TurnsGo}
-use Rattle.qs_world_runs.specs.PlacesWhole.{ComesWell}
 use Rattle.qs_world_runs.proofs.AgreesPasses.{HaveTurns, due_turns, stages_sound}
 use Rattle.qs_world_runs.proofs.FieldBegins.{step_begins}
 use Rattle.qs_world_runs.proofs.LeftOutcomes.{begin_leaves}

@@ -1,43 +1,23 @@
 -- At each turn all that was settled before is lawful, so what stands there may show that a commit there is unanimous; and so on to the next turn.
-use Rattle.std.proofs.Common.{◌≡◌, ℕ, true, List, [], ◌∷◌, Some, refl, ap, sym, subst, ◌∙◌}
-use Rattle.qs_base.specs.declared.identifiers.ServerNo.{ServerNo}
-use Rattle.qs_base.specs.declared.identifiers.Tid.{Tid}
+use Rattle.qs_world_runs.proofs.Words.{◌≡◌, ℕ, true, List, [], ◌∷◌, Some, refl, ap, sym, subst, ◌∙◌, ServerNo, Tid, BookValue, serve_next, due_tids, pass_rule, settle_tid, try, Work, work_on, Event, Setting, Participant, is_pass_due, opened_from, Source, Opening, World, is_sound, StepMay, step_may, InRun, HappensSo, ComesTo, HoldsWork, book_at, entries_so_far, AtEach, done_work, first_work, FitsEvent, HoldsNodeAt, opens_soundly, begin_incarnation_keeps, in_runs, begin_same, happen_same}
+use Rattle.qs_world_runs.proofs.Words.{held_at, first_held, MakesStep, PassesUndone, nodes_in, Joined, book_in, CommitsSettled, PlacesAt, is_later}
 use Rattle.qs_ipc.specs.Ipc as ipc
-use Rattle.qs_book_machine.specs.Book.{BookValue}
-use Rattle.qs_node_step.specs.Serving.{serve_next}
-use Rattle.qs_node_step.specs.Settling.{due_tids, pass_rule, settle_tid, try}
-use Rattle.qs_node_step.specs.State.{NodeValue, Work, work_on}
-use Rattle.qs_node_step.specs.declared.event.Event.{Event}
+use Rattle.qs_node_step.specs.State.{NodeValue}
 use Rattle.qs_node_step.specs.declared.event.Event.TheVariants as events
-use Rattle.qs_node_step.specs.declared.setting.Setting.{Setting}
 use Rattle.qs_tm.specs.Manager as tm
-use Rattle.qs_tm.specs.declared.participant.Participant.{Participant}
-use Rattle.qs_node_step.specs.Settling.{is_pass_due}
-use Rattle.qs_world.specs.Histories.{opened_from}
-use Rattle.qs_world.specs.Moves.{Source}
-use Rattle.qs_world.specs.World.{Opening, World}
-use Rattle.qs_world_refine.specs.Sound.{is_sound}
-use Rattle.qs_world_refine.proofs.MoveGoes.{StepMay, step_may}
 use Rattle.qs_world_refine.proofs.SoundParts.{and_both}
 use Rattle.qs_world_lawful.specs.Agreed.{AgreementGives, AgreesEvent}
-use Rattle.qs_world_lawful.specs.Amid.{InRun}
-use Rattle.qs_world_lawful.specs.BesideStep.{AreCommitted, HappensSo, HasCountRoom}
-use Rattle.qs_world_lawful.specs.Coming.{ComesTo}
-use Rattle.qs_world_lawful.specs.Entering.{HoldsWork, book_at, entries_so_far}
-use Rattle.qs_world_lawful.specs.Given.{AtEach, MayPass, MayServe}
-use Rattle.qs_world_lawful.specs.GivenStep.{MayHappen, done_work, first_work}
+use Rattle.qs_world_lawful.specs.BesideStep.{AreCommitted, HasCountRoom}
+use Rattle.qs_world_lawful.specs.Given.{MayPass, MayServe}
+use Rattle.qs_world_lawful.specs.GivenStep.{MayHappen}
 use Rattle.qs_world_lawful.specs.Holds.{Holds}
-use Rattle.qs_world_lawful.specs.NodeFacts.{FitsEvent}
 use Rattle.qs_world_lawful.specs.Standing.{CanCount, HoldsHomes, KeepsStanding, Stands}
-use Rattle.qs_world_lawful.specs.Worlds.{HoldsNodeAt}
 use Rattle.qs_world_lawful.proofs.BesideGoes.{Goes}
 use Rattle.qs_world_lawful.proofs.BesideHappens.{goes_happens}
 use Rattle.qs_world_lawful.proofs.BesideRestarts.{goes_incarnation}
 use Rattle.qs_world_lawful.proofs.BesideWhole.{keeps_beside, logged_still}
-use Rattle.qs_world_lawful.proofs.CoherentOpenings.{opens_soundly}
 use Rattle.qs_world_lawful.proofs.ComesFirst.{comes_first, fits_so}
 use Rattle.qs_world_lawful.proofs.FactsStages.{happens_keep}
-use Rattle.qs_world_lawful.proofs.FactsTold.{begin_incarnation_keeps}
 use Rattle.qs_world_lawful.proofs.GivenComing.{may_come}
 use Rattle.qs_world_lawful.proofs.GivenServing.{may_serve}
 use Rattle.qs_world_lawful.proofs.GivenSettling.{may_pass}
@@ -45,27 +25,19 @@ use Rattle.qs_world_lawful.proofs.GivenStages.{at_each, s_settled}
 use Rattle.qs_world_lawful.proofs.GivenWaiting.{may_command}
 use Rattle.qs_world_lawful.proofs.GivenWhole.{all_any}
 use Rattle.qs_world_lawful.proofs.HomesStand.{homes_stand}
-use Rattle.qs_world_lawful.proofs.LastsAlways.{in_runs}
 use Rattle.qs_world_lawful.proofs.OldEnough.{may_age}
 use Rattle.qs_world_lawful.proofs.PassingAll.{by_pass_rule}
 use Rattle.qs_world_lawful.proofs.Replied.{by_served}
-use Rattle.qs_world_lawful.proofs.SameSettingTold.{begin_same}
-use Rattle.qs_world_lawful.proofs.SameSettings.{happen_same}
 use Rattle.qs_world_lawful.proofs.Stages.{by_undecided}
 use Rattle.qs_world_lawful.proofs.StandsOn.{keeps_standing, stands_on}
-use Rattle.qs_world_lawful.proofs.Still.{held_at}
-use Rattle.qs_world_lawful.proofs.WholeStep.{by_happen, first_held}
-use Rattle.qs_world_runs.specs.Agrees.{MakesStep, PassesUndone, nodes_in}
-use Rattle.qs_world_runs.specs.Joined.{Joined, book_in}
-use Rattle.qs_world_runs.specs.JoinedLaws.{CommitsSettled}
-use Rattle.qs_world_runs.specs.JoinedPlaces.{PlacesAt}
+use Rattle.qs_world_lawful.proofs.WholeStep.{by_happen}
 use Rattle.qs_world_runs.specs.PlacesTurns.{SettledBy, TurnsSettle}
 use Rattle.qs_world_runs.proofs.AgreesPasses.{passes_agree, stages_sound}
 use Rattle.qs_world_runs.proofs.AgreesWhole.{event_agrees}
 use Rattle.qs_world_runs.proofs.JoinedGiven.{comes_to, counts, happens_so}
 use Rattle.qs_world_runs.proofs.JoinedLogged.{logged_by_log}
 use Rattle.qs_world_runs.proofs.JoinedSound.{sound_gives}
-use Rattle.qs_world.specs.Moves.{is_in_order, is_later}
+use Rattle.qs_world.specs.Moves.{is_in_order}
 
 module _ (o : Opening) (world : World) (j : Joined PlacesAt o world) (n stamp free : ℕ) (source : Source) (event : Event) (makes : MakesStep world n stamp source event) where
   abbrev before : BookValue

@@ -1,55 +1,24 @@
 -- A machine that shows a transaction before a step leads to one that shows it at its turn, over the channels as the step took what came from them.
-use Rattle.std.proofs.Common.{◌≡◌, ℕ, ◌≤◌, ◌<◌, ◌==◌, ◌&&◌, nat_lt, not, Bool, true, false, List, [], ◌∷◌, ◌++◌, Option, Some, None, refl, sym, ap, subst, ◌∙◌, arith, if◌then◌else◌}
-use Rattle.std.specs.List.{filter}
-use Rattle.std.proofs.lemmas.Bool.Decides.{nat_tests}
-use Rattle.qs_base.specs.declared.identifiers.NodeNo.{NodeNo}
-use Rattle.qs_base.specs.declared.identifiers.Tid.{Tid}
-use Rattle.qs_packet.specs.declared.message.Message.{Message}
-use Rattle.qs_record.specs.declared.record.Record.{Record}
-use Rattle.qs_restart.specs.Recovery.{recovery}
+use Rattle.qs_world_runs.proofs.Words.{◌≡◌, ℕ, ◌≤◌, ◌<◌, ◌==◌, ◌&&◌, nat_lt, not, Bool, true, false, List, [], ◌∷◌, ◌++◌, Option, Some, None, refl, sym, ap, subst, ◌∙◌, arith, if◌then◌else◌, filter, nat_tests, NodeNo, Tid, Message, Record, recovery, due_tids, pass_rule, settle_tid, try, Work, accept, Event, Participant, Source, World, names_transaction, leads_on, ShowsAll, all_said, taken_scene, face_at, known_place, place, Scene, sent_to, sight, scene_of, IsShownWorld, IsSteady, StepCame}
+use Rattle.qs_world_runs.proofs.Words.{step_came, StepMay, step_may, inc_taken, up_taken, settle_tid_goes, shown_fit, known_sound, begun_low, steady_gives, AtEach, done_work, MakesStep, ShownAt}
 use Rattle.qs_node_step.specs.Bringing.{is_forced}
-use Rattle.qs_node_step.specs.Settling.{due_tids, pass_rule, settle_tid, try}
-use Rattle.qs_node_step.specs.State.{Work, part_of}
-use Rattle.qs_node_step.specs.Step.{accept}
-use Rattle.qs_node_step.specs.declared.event.Event.{Event}
-use Rattle.qs_tm.specs.declared.participant.Participant.{Participant}
-use Rattle.qs_world.specs.Moves.{Source}
-use Rattle.qs_world.specs.World.{World}
-use Rattle.qs_restart.specs.Recovery.{names_transaction}
+use Rattle.qs_node_step.specs.State.{part_of}
 use Rattle.qs_world_agree.specs.World as machine
-use Rattle.qs_world_agree.proofs.Carries.{leads_on}
 use Rattle.qs_world_refine.specs.Begun.{has_begun}
-use Rattle.qs_world_refine.specs.EachMove.{ShowsAll}
 use Rattle.qs_world_refine.specs.Links.{node_no}
-use Rattle.qs_world_refine.specs.Messages.{all_said}
-use Rattle.qs_world_refine.specs.MoveLaws.{taken_scene}
-use Rattle.qs_world_refine.specs.NodeFaces.{face_at}
-use Rattle.qs_world_refine.specs.Places.{known_place, place}
-use Rattle.qs_world_refine.specs.Shows.{Scene, Shows, sent_to, sight, sight_during, said_during, scene_of, unmet_during}
-use Rattle.qs_world_refine.specs.ShownWorlds.{IsShownWorld}
+use Rattle.qs_world_refine.specs.Shows.{Shows, sight_during, said_during, unmet_during}
 use Rattle.qs_world_refine.specs.Sights.{ShowsSight, is_in_doubt}
 use Rattle.qs_world_refine.specs.Sound.{is_superior}
 use Rattle.qs_world_refine.specs.Stands.{Stands}
 use Rattle.qs_world_refine.specs.StepLaws.{stepped}
-use Rattle.qs_world_refine.specs.Steady.{IsSteady}
 use Rattle.qs_world_refine.specs.Steps.{IsAt}
 use Rattle.qs_world_refine.proofs.Alike.{SameFace, SameFound, found_itself, same_itself, sight_alike}
-use Rattle.qs_world_refine.proofs.EachEvent.{StepCame, step_came}
-use Rattle.qs_world_refine.proofs.MoveGoes.{StepMay, step_may}
-use Rattle.qs_world_refine.proofs.Moving.{inc_taken, up_taken}
 use Rattle.qs_world_refine.proofs.Reading.{face_for}
 use Rattle.qs_world_refine.proofs.Sending.{said_append}
-use Rattle.qs_world_refine.proofs.SettleGoes.{settle_tid_goes}
 use Rattle.qs_world_refine.proofs.SettleRules.{pass_stands, try_stands}
-use Rattle.qs_world_refine.proofs.ShownMoves.{shown_fit}
-use Rattle.qs_world_refine.proofs.SoundHolds.{known_sound}
 use Rattle.qs_world_refine.proofs.SoundParts.{and_both}
-use Rattle.qs_world_refine.proofs.SteadyFrom.{begun_low, steady_gives}
 use Rattle.qs_world_refine.proofs.StepEdges.{step_ends}
-use Rattle.qs_world_lawful.specs.Given.{AtEach}
-use Rattle.qs_world_lawful.specs.GivenStep.{done_work}
-use Rattle.qs_world_runs.specs.Agrees.{MakesStep}
-use Rattle.qs_world_runs.specs.PlacesTurns.{FollowsAtTurn, ShownAt, ShownAtTurn, TurnsFollow, TurnsShown}
+use Rattle.qs_world_runs.specs.PlacesTurns.{FollowsAtTurn, ShownAtTurn, TurnsFollow, TurnsShown}
 
 -- ---- what shows a scene at the end of a step shows it in the middle, where the log has what was forced
 

@@ -1,65 +1,33 @@
 -- What a home commits in a step was unanimous as the step began: what leaves it open and is not noted makes nothing unanimous.
-use Rattle.std.proofs.Common.{◌≡◌, inl, inr, ℕ, ◌&&◌, ◌||◌, Bool, true, false, List, [], ◌∷◌, ◌++◌, Option, Some, None, refl, sym, ap, subst, ◌∙◌, cond}
-use Rattle.std.specs.BTreeMap.{insert_entry, is_at}
-use Rattle.std.specs.List.{list_all, list_any}
-use Rattle.std.specs.Map.{lookup, set_value}
-use Rattle.std.specs.Prelude.{slice_get}
-use Rattle.qs_base.specs.Order.{same_tid}
-use Rattle.qs_base.specs.declared.identifiers.Class.{Class}
+use Rattle.qs_world_runs.proofs.Words.{◌≡◌, inl, inr, ℕ, ◌&&◌, Bool, true, false, List, [], ◌∷◌, ◌++◌, Option, Some, None, refl, sym, ap, subst, ◌∙◌, cond, insert_entry, is_at, list_all, list_any, lookup, set_value, slice_get, same_tid, Class, Member, Tid, Act, Inv, held, Gives, GivesFor, Obliged, BookValue, cell_of_transaction, find_transaction, inc_at, borrower_at, book_after, broken, broken_act, broken_at, effect, TransactionValue, agrees, agrees_in, all_served, changed_value, ended_part}
+use Rattle.qs_world_runs.proofs.Words.{is_commit, is_served, is_unanimous, issued, learnt_part, request_cmp, requests_at, Cell, Life, Part, Request, RequestNo, class_of, Cause, effects_of, step_work, Event, entries_of, entry_of, HasCommitted, deeds_of, Here, is_noted, and_parts, or_parts}
 use Rattle.qs_base.specs.declared.identifiers.Class.TheVariants as classes
 use Rattle.qs_base.specs.declared.identifiers.Outcome.{Outcome}
 use Rattle.qs_base.specs.declared.identifiers.Outcome.TheVariants as outcomes
-use Rattle.qs_base.specs.declared.identifiers.Member.{Member}
-use Rattle.qs_base.specs.declared.identifiers.Tid.{Tid}
-use Rattle.qs_book_journal.specs.declared.entry.Act.{Act}
 use Rattle.qs_book_journal.specs.declared.entry.Act.TheVariants as acts
 use Rattle.qs_book_laws.proofs.Maps.{lookup_put}
-use Rattle.qs_book_laws.proofs.Outcomes.{Inv}
-use Rattle.qs_book_laws.proofs.Steps.{held, stepped}
-use Rattle.qs_book_laws.proofs.Turns.{Gives, GivesFor, Obliged}
-use Rattle.qs_book_machine.specs.Book.{BookValue, cell_of_transaction, find_transaction, inc_at}
-use Rattle.qs_book_machine.specs.Clauses.{borrower_at, broken_decide, broken_outcome, may_decide}
-use Rattle.qs_book_machine.specs.Lawful.{IsLawful, book_after, broken, broken_act, broken_at, effect, is_in_order}
+use Rattle.qs_book_laws.proofs.Steps.{stepped}
+use Rattle.qs_book_machine.specs.Clauses.{broken_decide, broken_outcome, may_decide}
+use Rattle.qs_book_machine.specs.Lawful.{IsLawful, is_in_order}
 use Rattle.qs_book_machine.specs.Nodes as machine
-use Rattle.qs_book_machine.specs.Transaction.{TransactionValue, agrees, agrees_in, all_served, changed_value, ended, ended_part, is_commit, is_served, is_unanimous, issued, learnt, learnt_part, request_cmp, requests_at}
-use Rattle.qs_book_machine.specs.declared.transaction.Cell.{Cell}
+use Rattle.qs_book_machine.specs.Transaction.{ended, learnt}
 use Rattle.qs_book_machine.specs.declared.transaction.Cell.TheVariants as cells
-use Rattle.qs_book_machine.specs.declared.transaction.Life.{Life}
-use Rattle.qs_book_machine.specs.declared.transaction.Part.{Part}
-use Rattle.qs_book_machine.specs.declared.transaction.Request.{Request}
-use Rattle.qs_book_machine.specs.declared.transaction.RequestNo.{RequestNo}
-use Rattle.qs_ops.specs.Members.{class_of}
-use Rattle.qs_ops.specs.declared.answer.Cause.{Cause}
 use Rattle.qs_node_step.specs.State.{NodeValue}
-use Rattle.qs_node_step.specs.Step.{effects_of, step_work}
-use Rattle.qs_node_step.specs.declared.event.Event.{Event}
-use Rattle.qs_world.specs.Posting.{entries_of, entry_of}
-use Rattle.qs_world_lawful.specs.Logged.{HasCommitted}
-use Rattle.qs_world_runs.specs.Deeds.{deeds_of}
-use Rattle.qs_world_runs.specs.PlacesAmid.{Here}
-use Rattle.qs_world_runs.specs.Firsts.{CommitsSo, is_commit_of, is_noted}
+use Rattle.qs_world_runs.specs.Firsts.{CommitsSo, is_commit_of}
 use Rattle.qs_world_runs.proofs.CommitsFirst.{commits_so}
 use Rattle.qs_world_runs.proofs.PlacedActs.{step_here}
 use Rattle.qs_world_runs.proofs.PlacedTx.{request_self}
-
-both_and : (a b : Bool) → (a && b) ≡ true → (a ≡ true) × (b ≡ true)
-both_and true b is = (refl, is)
-both_and false b is = absurd (cc is)
-
-pub both_or : (a b : Bool) → (a || b) ≡ false → (a ≡ false) × (b ≡ false)
-both_or false b is = (refl, is)
-both_or true b is = absurd (cc is)
 
 -- ---- what the change of a transaction leaves
 
 -- a request that was just issued is not served
 last_served : (requests : List Request) (request : Request) → list_all is_served (requests ++ request ∷ []) ≡ true → request.served ≡ true
-last_served [] request all = (both_and request.served true all).0
-last_served (r ∷ requests) request all = last_served requests request (both_and r.served _ all).1
+last_served [] request all = (and_parts request.served true all).0
+last_served (r ∷ requests) request all = last_served requests request (and_parts r.served _ all).1
 
 entry_passes : {K V : Type 0} (test : K → Bool) (p : V → Bool) (es : List (K × V)) (v : V) → lookup test es ≡ Some v → list_all (λ (entry : K × V). p entry.1) es ≡ true → p v ≡ true
 entry_passes test p [] v there all = absurd (cc there)
-entry_passes {K} {V} test p (e ∷ es) v there all = by (test e.0) there (both_and (p e.1) _ all) (λ is rest. entry_passes test p es v is rest)
+entry_passes {K} {V} test p (e ∷ es) v there all = by (test e.0) there (and_parts (p e.1) _ all) (λ is rest. entry_passes test p es v is rest)
   where
     one : Some e.1 ≡ Some v → e.1 ≡ v
     one is = cc is
@@ -155,7 +123,7 @@ module _ (tid : Tid) (n stamp : ℕ) where
 
   stays_divided : (book : BookValue) (act : Act) → broken book (entry_of n stamp act) ≡ None → is_noted tid act ≡ false → Obliged tid Divided Divided book stamp n act
   stays_divided book (acts.Begin t label client) h off = λ tx p. p
-  stays_divided book (acts.Issue t issuer other number op) h off = gives Divided book t _ (λ tx p is. unserved _ _ (inc_at book other.node) book.place tx refl (both_and _ _ (both_and _ _ is).0).1)
+  stays_divided book (acts.Issue t issuer other number op) h off = gives Divided book t _ (λ tx p is. unserved _ _ (inc_at book other.node) book.place tx refl (and_parts _ _ (and_parts _ _ is).0).1)
   stays_divided book (acts.Serve t other from number reply) h off = aside Divided book t _ off
   stays_divided book (acts.Vote t other ballot covers) h off = aside Divided book t _ off
   stays_divided book (acts.Ask t) h off = aside Divided book t _ off
@@ -173,7 +141,7 @@ module _ (tid : Tid) (n stamp : ℕ) where
 
   divided_commit : (before after : List Act) (cause : Option Cause) (book : BookValue) → Inv book → IsLawful book (entries_of n stamp (before ++ acts.Decide tid outcomes.Commit cause ∷ after)) → list_any (is_noted tid) before ≡ false → Here tid Divided book → ⊥
   divided_commit [] after cause book i lawful off s = let d = decide_unanimous book n stamp tid cause lawful.0 in s d.0 d.1 d.2
-  divided_commit (act ∷ before) after cause book i lawful off s = let two = both_or (is_noted tid act) _ off in
+  divided_commit (act ∷ before) after cause book i lawful off s = let two = or_parts (is_noted tid act) _ off in
       divided_commit before after cause (effect book (entry_of n stamp act)) (stepped book (entry_of n stamp act) i lawful.0).inv lawful.1 two.1
       (step_here tid Divided Divided book (entry_of n stamp act) i lawful.0 (stays_divided book act lawful.0 two.0) (λ label client ticks is un. cc un) s)
 
@@ -207,7 +175,7 @@ module _ (tid : Tid) (n stamp : ℕ) where
 
   uncommitted : (done : List Act) (book : BookValue) → Inv book → IsLawful book (entries_of n stamp done) → list_any (is_commit_of tid) done ≡ false → Here tid Uncommitted book → Here tid Uncommitted (book_after book (entries_of n stamp done))
   uncommitted [] book i lawful off s = s
-  uncommitted (act ∷ done) book i lawful off s = let two = both_or (is_commit_of tid act) _ off in
+  uncommitted (act ∷ done) book i lawful off s = let two = or_parts (is_commit_of tid act) _ off in
       uncommitted done (effect book (entry_of n stamp act)) (stepped book (entry_of n stamp act) i lawful.0).inv lawful.1 two.1
       (step_here tid Uncommitted Uncommitted book (entry_of n stamp act) i lawful.0 (stays_open book act two.0) (λ label client ticks is un. cc un) s)
 

@@ -1,23 +1,6 @@
 -- A transaction that is unanimous is placed whatever nodes and channels have: no request of it stands, and each life agrees.
-use Rattle.std.proofs.Common.{◌≡◌, inr, ℕ, ◌<◌, ◌≤◌, ◌&&◌, not, Bool, true, false, List, [], ◌∷◌, refl, sym, subst, arith}
-use Rattle.std.specs.BTreeMap.{is_at}
-use Rattle.std.specs.List.{find, list_all}
-use Rattle.std.specs.Prelude.{is_some}
-use Rattle.qs_base.specs.Order.{same_member}
-use Rattle.qs_base.specs.declared.identifiers.Member.{Member}
-use Rattle.qs_base.specs.declared.identifiers.ServerNo.{ServerNo}
-use Rattle.qs_base.specs.declared.identifiers.Tid.{Tid}
-use Rattle.qs_book_machine.specs.Transaction.{TransactionValue, agrees, is_served, is_standing, is_unanimous, request_cmp, requests_in}
-use Rattle.qs_book_machine.specs.declared.transaction.Life.{Life}
-use Rattle.qs_book_machine.specs.declared.transaction.Part.{Part}
-use Rattle.qs_book_machine.specs.declared.transaction.Request.{Request}
-use Rattle.qs_book_machine.specs.declared.transaction.RequestNo.{RequestNo}
-use Rattle.qs_world_lawful.specs.Face.{at_server}
-use Rattle.qs_world_runs.specs.Placed.{Field, standing, IsPlaced, EachPlaced, EachLives, Placed}
-
-two : (a b : Bool) → (a && b) ≡ true → (a ≡ true) × (b ≡ true)
-two true b is = (refl, is)
-two false b is = absurd (cc is)
+use Rattle.qs_world_runs.proofs.Words.{◌≡◌, inr, ℕ, ◌<◌, Bool, true, false, List, [], ◌∷◌, refl, sym, subst, is_at, find, list_all, is_some, same_member, Member, ServerNo, Tid, TransactionValue, agrees, is_served, is_standing, is_unanimous, request_cmp, requests_in, Life, Part, Request, RequestNo, at_server, Field, standing, IsPlaced, EachPlaced, EachLives, Placed, zero_least, and_parts}
+use Rattle.qs_base_lemmas.proofs.Tests.{and_not}
 
 -- what was served stands nowhere
 pub none_stands : (at : RequestNo) (server : ServerNo) (requests : List Request) → list_all is_served requests ≡ true → standing at server requests ≡ 0
@@ -25,28 +8,20 @@ none_stands at server [] all = refl
 none_stands at server (request ∷ requests) all = by (none_stands at server requests both.1)
   where
     both : (request.served ≡ true) × (list_all is_served requests ≡ true)
-    both = two request.served (list_all is_served requests) all
-
-    off : (a b : Bool) → b ≡ true → (a && not b) ≡ false
-    off true b is = rw is refl
-    off false b is = refl
+    both = and_parts request.served (list_all is_served requests) all
 
     by : standing at server requests ≡ 0 → standing at server (request ∷ requests) ≡ 0
-    by more = let stands : is_standing (at_server at.link.to server) request ≡ false = off (same_member request.member (at_server at.link.to server)) request.served both.0 in rw stands more
+    by more = let stands : is_standing (at_server at.link.to server) request ≡ false = and_not (same_member request.member (at_server at.link.to server)) request.served both.0 in rw stands more
 
 none_in : (member : Member) (requests : List Request) → list_all is_served requests ≡ true → is_some (find (is_standing member) requests) ≡ true → ⊥
 none_in member [] all stands = cc stands
 none_in member (request ∷ requests) all stands = by (is_standing member request) refl stands (none_in member requests both.1)
   where
     both : (request.served ≡ true) × (list_all is_served requests ≡ true)
-    both = two request.served (list_all is_served requests) all
-
-    off : (a b : Bool) → b ≡ true → (a && not b) ≡ false
-    off true b is = rw is refl
-    off false b is = refl
+    both = and_parts request.served (list_all is_served requests) all
 
     by : (b : Bool) → is_standing member request ≡ b → is_some (find (is_standing member) (request ∷ requests)) ≡ true → (is_some (find (is_standing member) requests) ≡ true → ⊥) → ⊥
-    by true is stands more = let none : is_standing member request ≡ false = off (same_member request.member member) request.served both.0 in cc (is, none)
+    by true is stands more = let none : is_standing member request ≡ false = and_not (same_member request.member member) request.served both.0 in cc (is, none)
     by false is stands more = more (rw is at stands)
 
 none_standing : (at : RequestNo) (member : Member) (entries : List (RequestNo × List Request)) → list_all (λ (entry : RequestNo × List Request). list_all is_served entry.1) entries ≡ true → is_some (find (is_standing member) (requests_in entries at)) ≡ true → ⊥
@@ -54,7 +29,7 @@ none_standing at member [] all stands = cc stands
 none_standing at member (entry ∷ entries) all stands = by (is_at (request_cmp at) entry.0) refl stands (none_standing at member entries)
   where
     both : (list_all is_served entry.1 ≡ true) × (list_all (λ (e : RequestNo × List Request). list_all is_served e.1) entries ≡ true)
-    both = two (list_all is_served entry.1) _ all
+    both = and_parts (list_all is_served entry.1) _ all
 
     by : (b : Bool) → is_at (request_cmp at) entry.0 ≡ b → is_some (find (is_standing member) (requests_in (entry ∷ entries) at)) ≡ true
         → (list_all (λ (e : RequestNo × List Request). list_all is_served e.1) entries ≡ true → is_some (find (is_standing member) (requests_in entries at)) ≡ true → ⊥) → ⊥
@@ -62,34 +37,31 @@ none_standing at member (entry ∷ entries) all stands = by (is_at (request_cmp 
     by false is s more = more both.1 (rw is at s)
 
 module _ (tid : Tid) (tx : TransactionValue) (old new : Field) (sized : new.size ≡ old.size) where
-  least : (a b : ℕ) → a ≡ 0 → a ≤ b
-  least a b none = omega (arith, none)
-
   one : (at : RequestNo) (requests : List Request) → list_all is_served requests ≡ true → IsPlaced tid old at requests → IsPlaced tid new at requests
   one at requests all placed = record {
     from_in = subst (λ (s : ℕ). at.link.from.0 < s) (sym sized) placed.from_in;
     to_in = subst (λ (s : ℕ). at.link.to.0 < s) (sym sized) placed.to_in;
     there = placed.there;
-    runs = λ up server. least (standing at server requests) _ (none_stands at server requests all);
-    stopped = λ off server. least (standing at server requests) _ (none_stands at server requests all);
+    runs = λ up server. zero_least (standing at server requests) _ (none_stands at server requests all);
+    stopped = λ off server. zero_least (standing at server requests) _ (none_stands at server requests all);
   }
 
   each : (entries : List (RequestNo × List Request)) → list_all (λ (entry : RequestNo × List Request). list_all is_served entry.1) entries ≡ true → EachPlaced tid old entries → EachPlaced tid new entries
   each [] all placed = tt
-  each (entry ∷ entries) all placed = let both = two (list_all is_served entry.1) _ all in (one entry.0 entry.1 both.0 placed.0, each entries both.1 placed.1)
+  each (entry ∷ entries) all placed = let both = and_parts (list_all is_served entry.1) _ all in (one entry.0 entry.1 both.0 placed.0, each entries both.1 placed.1)
 
   lives : (entries : List (Life × Part)) → list_all agrees entries ≡ true → EachLives tx old entries → EachLives tx new entries
   lives [] all each = tt
-  lives (entry ∷ entries) all each = let both = two (agrees entry) (list_all agrees entries) all in
+  lives (entry ∷ entries) all each = let both = and_parts (agrees entry) (list_all agrees entries) all in
       (record { kept = each.0.kept; member = each.0.member; cast = each.0.cast; made = each.0.made; lives = inr both.0 }, lives entries both.1 each.1)
 
   pub unanimous_placed : is_unanimous tx ≡ true → Placed tid tx old → Placed tid tx new
   unanimous_placed is placed = record {
     numbers = placed.numbers;
     members = placed.members;
-    requests = each tx.requests (two _ _ (two _ _ is).0).1 placed.requests;
-    issued = λ at member stands. absurd (none_standing at member tx.requests (two _ _ (two _ _ is).0).1 stands);
-    lives = lives tx.parts (two _ _ (two _ _ is).1).0 placed.lives;
+    requests = each tx.requests (and_parts _ _ (and_parts _ _ is).0).1 placed.requests;
+    issued = λ at member stands. absurd (none_standing at member tx.requests (and_parts _ _ (and_parts _ _ is).0).1 stands);
+    lives = lives tx.parts (and_parts _ _ (and_parts _ _ is).1).0 placed.lives;
     unrefused = placed.unrefused;
     uncrossed = placed.uncrossed;
   }

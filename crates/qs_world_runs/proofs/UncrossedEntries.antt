@@ -1,44 +1,14 @@
 -- While the only node of a run goes on in one incarnation, each entry leaves a transaction clean, or gives a number to a request of what began in another incarnation.
-use Rattle.std.proofs.Common.{◌≡◌, ◌⊎◌, inl, inr, ℕ, ◌+◌, ◌≤◌, ◌<◌, ◌==◌, ◌&&◌, not, nat_lt, Bool, true, false, List, [], ◌∷◌, Option, Some, None, refl, ap, subst, ◌∙◌, arith}
-use Rattle.std.proofs.lemmas.Bool.{eqb-true}
-use Rattle.std.proofs.lemmas.Bool.Decides.{nat_tests}
-use Rattle.std.proofs.lemmas.Option.{slice_get_within}
-use Rattle.std.specs.BTreeMap.{is_at}
-use Rattle.std.specs.Map.{lookup}
-use Rattle.std.specs.Prelude.{is_some, length, slice_get}
-use Rattle.qs_base.proofs.Same.{same_tid-true}
-use Rattle.qs_base.specs.Order.{same_tid}
-use Rattle.qs_base.specs.declared.identifiers.Member.{Member}
+use Rattle.qs_world_runs.proofs.Words.{◌≡◌, ◌⊎◌, inl, inr, ℕ, ◌+◌, ◌≤◌, ◌<◌, ◌==◌, ◌&&◌, not, nat_lt, Bool, true, false, List, [], ◌∷◌, Option, Some, None, refl, ap, subst, ◌∙◌, arith, eqb-true, ltb-true, slice_get_within, is_at, lookup, is_some, length, slice_get, same_tid-true, same_tid, Member, Tid, Act, CrashCause, Entry, Found, ran_run, held, Gives, GivesFor, Obliged, BookValue, find_transaction, inc_at, borrower_at, broken_issue, broken_issuer, link_to, book_after, broken, broken_act}
+use Rattle.qs_world_runs.proofs.Words.{broken_at, effect, TransactionValue, crossed_by, is_commit, is_empty, issued, link_cmp, sent_in, sent_on, standing_request, Link, Request, RequestNo, Sent, Op, entry_of, Actor, actor, lasts_on, LastsWell, way_between, AreIssued, Field, Here, HasGiven}
 use Rattle.qs_base.specs.declared.identifiers.Outcome.TheVariants as outcomes
-use Rattle.qs_base.specs.declared.identifiers.Tid.{Tid}
-use Rattle.qs_book_journal.specs.declared.entry.Act.{Act}
 use Rattle.qs_book_journal.specs.declared.entry.Act.TheVariants as acts
-use Rattle.qs_book_journal.specs.declared.entry.CrashCause.{CrashCause}
-use Rattle.qs_book_journal.specs.declared.entry.Entry.{Entry}
-use Rattle.qs_book_journal.specs.declared.entry.Found.{Found}
 use Rattle.qs_book_laws.proofs.Holding.{right_of}
-use Rattle.qs_book_laws.proofs.InRun.{ran_run}
 use Rattle.qs_book_laws.proofs.Pasts.{inc_rises}
-use Rattle.qs_book_laws.proofs.Steps.{held}
-use Rattle.qs_book_laws.proofs.Turns.{Gives, GivesFor, Obliged}
-use Rattle.qs_book_machine.specs.Book.{BookValue, find_transaction, inc_at}
-use Rattle.qs_book_machine.specs.Clauses.{borrower_at, broken_issue, broken_issuer, is_for, is_numbered, link_to}
-use Rattle.qs_book_machine.specs.Lawful.{IsLawful, book_after, broken, broken_act, broken_at, effect, is_in_order}
+use Rattle.qs_book_machine.specs.Clauses.{is_for, is_numbered}
+use Rattle.qs_book_machine.specs.Lawful.{IsLawful, is_in_order}
 use Rattle.qs_book_machine.specs.Nodes as machine
-use Rattle.qs_book_machine.specs.Transaction.{TransactionValue, begun, crossed_by, is_commit, is_empty, issued, link_cmp, next_number, sent_in, sent_on, served_in, standing_request}
-use Rattle.qs_book_machine.specs.declared.transaction.Link.{Link}
-use Rattle.qs_book_machine.specs.declared.transaction.Request.{Request}
-use Rattle.qs_book_machine.specs.declared.transaction.RequestNo.{RequestNo}
-use Rattle.qs_book_machine.specs.declared.transaction.Sent.{Sent}
-use Rattle.qs_ops.specs.declared.operation.Op.{Op}
-use Rattle.qs_world.specs.Posting.{entry_of}
-use Rattle.qs_world_lawful.proofs.EntryTurns.{Actor, actor}
-use Rattle.qs_world_lawful.proofs.LastsEntry.{lasts_on}
-use Rattle.qs_world_lawful.proofs.LastsWell.{LastsWell}
-use Rattle.qs_world_lawful.specs.Parcels.{way_between}
-use Rattle.qs_world_runs.specs.Placed.{AreIssued, Field}
-use Rattle.qs_world_runs.specs.PlacesAmid.{Here}
-use Rattle.qs_world_runs.specs.RepliesTrue.{HasGiven}
+use Rattle.qs_book_machine.specs.Transaction.{begun, next_number, served_in}
 use Rattle.qs_world_runs.proofs.PlacedActs.{step_here}
 use Rattle.qs_world_runs.proofs.PlacedIssued.{counted_given, given_own, issued_left, issued_on, none_stood, numbered_next, served_on}
 use Rattle.qs_world_runs.proofs.RepliesEntries.{given_as, given_issued}
@@ -129,11 +99,8 @@ module _ (tid : Tid) (base : Field) where
               next : k ≡ sent_in (inc_at book (record { 0 = here })) (sent_on tx at.link) + 1
               next = numbered_next book here stamp t issuer other k op fine tx found_it
 
-              low : (a b : ℕ) → nat_lt a b ≡ true → a < b
-              low a b e = grind (arith, nat_tests, e)
-
               link_is : at.link ≡ (way_between 0 0 1).link
-              link_is = own_link here other.node.0 is (only other.node.0 (length book.nodes) one (low other.node.0 (length book.nodes) (goes_in_run book here stamp t issuer other k op fine tx found_it)))
+              link_is = own_link here other.node.0 is (only other.node.0 (length book.nodes) one (ltb-true other.node.0 (length book.nodes) (goes_in_run book here stamp t issuer other k op fine tx found_it)))
                 where
                   own_link : (a b : ℕ) → a ≡ 0 → b ≡ 0 → ◌≡◌ {A = Link} (record { from = record { 0 = a }; to = record { 0 = b } }) (way_between 0 0 1).link
                   own_link a b p q = rw (p, q) refl

@@ -1,40 +1,11 @@
 -- At the only node of a run no transaction is crossed, along the whole run: what gets a number there began in the node's present incarnation.
-use Rattle.std.proofs.Common.{◌≡◌, ◌⊎◌, inl, inr, ℕ, ◌≤◌, ◌<◌, ◌==◌, Bool, true, List, [], ◌∷◌, Option, Some, None, refl, sym, ap, subst, ◌∙◌, arith}
-use Rattle.std.proofs.lemmas.Bool.Decides.{nat_tests}
-use Rattle.std.specs.Prelude.{◌++◌, length, map, slice_get}
-use Rattle.qs_base.specs.declared.identifiers.NodeNo.{NodeNo}
-use Rattle.qs_base.specs.declared.identifiers.Tid.{Tid}
+use Rattle.qs_world_runs.proofs.Words.{◌≡◌, ◌⊎◌, inl, inr, ℕ, ◌≤◌, ◌<◌, Bool, true, List, [], ◌∷◌, Option, Some, None, refl, sym, ap, subst, ◌∙◌, arith, ◌++◌, length, map, slice_get, NodeNo, Tid, CrashCause, Entry, BookValue, find_transaction, inc_at, book_after, TransactionValue, sent_in, sent_on, recovered_of, effects_of, Event, book_of, opened_from, Cut, Meet, Move, Rise, Source, Step, Stop, cut_with, event_of, may_move, moved, step_with, taken_by, entries_of, Run, Opening, World, start}
+use Rattle.qs_world_runs.proofs.Words.{StepMay, step_may, inc_taken, up_taken, inc_all, up_all, face_of, HoldsAt, HoldsStill, HoldsTid, way_between, HoldsNodeAt, HoldsUp, opening_empty, clash, of_some, AlongRun, IsBare, IsTallied, given_in, tally_of, Joined, book_in, entries_in, Field, field_of, Here, eq-eqb, some_not_zero}
 use Rattle.qs_book_journal.specs.declared.entry.Act.TheVariants as acts
-use Rattle.qs_book_journal.specs.declared.entry.CrashCause.{CrashCause}
-use Rattle.qs_book_journal.specs.declared.entry.Entry.{Entry}
-use Rattle.qs_book_machine.specs.Book.{BookValue, find_transaction, inc_at}
-use Rattle.qs_book_machine.specs.Lawful.{IsLawful, book_after}
+use Rattle.qs_book_machine.specs.Lawful.{IsLawful}
 use Rattle.qs_book_machine.specs.Nodes as machine
-use Rattle.qs_book_machine.specs.Transaction.{TransactionValue, sent_in, sent_on}
-use Rattle.qs_node_step.specs.Opening.{recovered_of}
-use Rattle.qs_node_step.specs.Step.{effects_of}
 use Rattle.qs_node_step.specs.State.{NodeValue}
-use Rattle.qs_node_step.specs.declared.event.Event.{Event}
-use Rattle.qs_world.specs.Histories.{book_of, opened_from}
-use Rattle.qs_world.specs.Moves.{Cut, Meet, Move, Rise, Source, Step, Stop, cut_with, event_of, found_of, may_move, moved, step_with, taken_by}
-use Rattle.qs_world.specs.Posting.{entries_of}
-use Rattle.qs_world.specs.Runs.{Run}
-use Rattle.qs_world.specs.World.{Opening, World, start}
-use Rattle.qs_world_refine.proofs.MoveGoes.{StepMay, step_may}
-use Rattle.qs_world_refine.proofs.Moving.{inc_taken, up_taken}
-use Rattle.qs_world_refine.proofs.Posted.{inc_all, up_all}
-use Rattle.qs_world_lawful.specs.Face.{face_of}
-use Rattle.qs_world_lawful.specs.Holds.{HoldsAt, HoldsStill, HoldsTid}
-use Rattle.qs_world_lawful.specs.Parcels.{way_between}
-use Rattle.qs_world_lawful.specs.Worlds.{HoldsNodeAt, HoldsUp}
-use Rattle.qs_world_lawful.proofs.LastsOpening.{opening_empty}
-use Rattle.qs_world_lawful.proofs.Truths.{clash, of_some}
-use Rattle.qs_world_runs.specs.AlongRun.{AlongRun}
-use Rattle.qs_world_runs.specs.Counted.{IsBare, IsTallied, given_in, tally_of}
-use Rattle.qs_world_runs.specs.Joined.{Joined, book_in}
-use Rattle.qs_world_runs.specs.JoinedLaws.{entries_in}
-use Rattle.qs_world_runs.specs.Placed.{Field, field_of}
-use Rattle.qs_world_runs.specs.PlacesAmid.{Here}
+use Rattle.qs_world.specs.Moves.{found_of}
 use Rattle.qs_world_runs.specs.Uncrossed.{EachUncrossedAlone}
 use Rattle.qs_world_runs.proofs.JoinedMoves.{each_move_joined}
 use Rattle.qs_world_runs.proofs.JoinedOver.{each_opens_joined, each_run_joined}
@@ -91,14 +62,8 @@ module _ (o : Opening) (world : World) (j : Joined AlongRun o world) (one : worl
       given = subst (λ (n : ℕ). 1 ≤ n) local_is late.given
 
       by : IsTallied tid (tally_of node) ⊎ IsBare tid (tally_of node) → ⊥
-      by (inl it) = clash (sym late.apart ∙ same (world.channels.inc 0) tid.inc (sym inc_is ∙ sym it.began))
-        where
-          same : (a b : ℕ) → a ≡ b → (a == b) ≡ true
-          same a b e = grind (arith, nat_tests, e)
-      by (inr bare) = never (given_in tid node.locals) given bare.none
-        where
-          never : (n : ℕ) → 1 ≤ n → n ≡ 0 → ⊥
-          never n some none = omega (arith, some, none)
+      by (inl it) = clash (sym late.apart ∙ eq-eqb (world.channels.inc 0) tid.inc (sym inc_is ∙ sym it.began))
+      by (inr bare) = some_not_zero (given_in tid node.locals) given bare.none
 
 -- ---- along a run
 

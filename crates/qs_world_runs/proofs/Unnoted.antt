@@ -1,23 +1,9 @@
 -- Where nothing that a step noted of a transaction forbids its commit, the step did none of what it would have noted.
-use Rattle.std.proofs.Common.{◌≡◌, ◌||◌, not, Bool, true, false, List, [], ◌∷◌, ◌++◌, Option, Some, refl, sym, ap, subst, ◌∙◌}
-use Rattle.std.specs.BTreeMap.{insert_entry, is_at}
-use Rattle.std.specs.List.{list_any}
-use Rattle.std.specs.Map.{lookup}
-use Rattle.std.specs.Prelude.{unwrap_or}
-use Rattle.std.proofs.lemmas.List.Folds.{list_any-append}
-use Rattle.qs_base.proofs.Same.{same_tid-true}
-use Rattle.qs_base.proofs.TidOrder.{tid_exact}
-use Rattle.qs_base.specs.Order.{same_tid, tid_cmp}
-use Rattle.qs_base.specs.declared.identifiers.Tid.{Tid}
-use Rattle.qs_book_journal.specs.declared.entry.Act.{Act}
+use Rattle.qs_world_runs.proofs.Words.{◌≡◌, ◌||◌, not, Bool, true, false, List, [], ◌∷◌, ◌++◌, Option, Some, refl, sym, ap, subst, ◌∙◌, insert_entry, is_at, list_any, lookup, unwrap_or, list_any-append, same_tid-true, tid_exact, same_tid, tid_cmp, Tid, Act, at_exact, tid_itself, is_quiet, no_doings, Doings, Deeds, IsKeptSo, IsStill, is_noted}
 use Rattle.qs_book_journal.specs.declared.entry.Act.TheVariants as acts
-use Rattle.qs_book_laws.proofs.Alikes.{at_exact, tid_itself}
 use Rattle.qs_book_laws.proofs.Maps.{lookup_put, lookup_put_apart}
-use Rattle.qs_node_step.specs.Settling.{is_quiet}
-use Rattle.qs_node_step.specs.State.{no_doings}
-use Rattle.qs_node_step.specs.declared.state.Doings.{Doings}
-use Rattle.qs_world_runs.specs.Deeds.{Deeds, IsKeptSo, IsStill, doings_in}
-use Rattle.qs_world_runs.specs.Firsts.{Unnoted, is_commit_of, is_noted}
+use Rattle.qs_world_runs.specs.Deeds.{doings_in}
+use Rattle.qs_world_runs.specs.Firsts.{Unnoted, is_commit_of}
 
 -- ---- what forbids it
 

@@ -1,45 +1,19 @@
 -- A server votes only in a pass that is not put off: so no vote on a transaction comes behind what the step asked or served of it.
-use Rattle.std.proofs.Common.{◌≡◌, ℕ, ◌&&◌, ◌||◌, not, Bool, true, false, List, [], ◌∷◌, ◌++◌, Option, Some, refl, sym, ap, subst, ◌∙◌}
-use Rattle.std.specs.BTreeMap.{insert_entry, is_at}
-use Rattle.std.specs.List.{list_any}
-use Rattle.std.specs.Map.{lookup}
-use Rattle.std.specs.Prelude.{unwrap_or}
-use Rattle.std.proofs.lemmas.List.Folds.{list_any-append}
-use Rattle.qs_base.proofs.Same.{same_tid-self, same_tid-true}
-use Rattle.qs_base.proofs.TidOrder.{tid_exact}
-use Rattle.qs_base.specs.Order.{same_tid, tid_cmp}
-use Rattle.qs_base.specs.declared.identifiers.Tid.{Tid}
-use Rattle.qs_book_journal.specs.declared.entry.Act.{Act}
+use Rattle.qs_world_runs.proofs.Words.{◌≡◌, ℕ, ◌&&◌, ◌||◌, not, Bool, true, false, List, [], ◌∷◌, ◌++◌, Option, Some, refl, sym, ap, subst, ◌∙◌, insert_entry, is_at, list_any, lookup, unwrap_or, list_any-append, same_tid-self, same_tid-true, tid_exact, or-true, same_tid, tid_cmp, Tid, Act, at_exact, tid_itself, is_put_off, no_doings, step_work, Event, Doings, Deeds, IsKeptSo, IsStill, deeds_of, and_parts}
 use Rattle.qs_book_journal.specs.declared.entry.Act.TheVariants as acts
-use Rattle.qs_book_laws.proofs.Alikes.{at_exact, tid_itself}
 use Rattle.qs_book_laws.proofs.Maps.{lookup_put, lookup_put_apart}
-use Rattle.qs_node_step.specs.Settling.{is_put_off}
-use Rattle.qs_node_step.specs.State.{NodeValue, no_doings}
-use Rattle.qs_node_step.specs.Step.{step_work}
-use Rattle.qs_node_step.specs.declared.event.Event.{Event}
-use Rattle.qs_node_step.specs.declared.state.Doings.{Doings}
-use Rattle.qs_world_runs.specs.Deeds.{Deeds, IsKeptSo, IsStill, deeds_of, doings_in}
+use Rattle.qs_node_step.specs.State.{NodeValue}
+use Rattle.qs_world_runs.specs.Deeds.{doings_in}
 use Rattle.qs_world_runs.specs.Firsts.{StepsVoteFirst, is_asked_or_served, is_vote_of, votes_first}
 use Rattle.qs_world_runs.proofs.TraceStages.{step_done}
-
-both : (a b : Bool) → (a && b) ≡ true → (a ≡ true) × (b ≡ true)
-both true b is = (refl, is)
-both false b is = absurd (cc is)
-
-or_assoc : (a b c : Bool) → ((a || b) || c) ≡ (a || (b || c))
-or_assoc true b c = refl
-or_assoc false b c = refl
+use Rattle.qs_base_lemmas.proofs.Tests.{or_assoc}
 
 or_none : (a b : Bool) → (a || false) ≡ a
 or_none true b = refl
 or_none false b = refl
 
 served_off : (o : Doings) → is_put_off (record o { served = true }) ≡ true
-served_off o = by o.asked
-  where
-    by : (a : Bool) → (a || true) ≡ true
-    by true = refl
-    by false = refl
+served_off o = or-true o.asked
 
 module _ (tid : Tid) where
   -- one more act, that is no vote behind one of these
@@ -50,7 +24,7 @@ module _ (tid : Tid) where
       by false c f = refl
       by true false f = refl
       by true true f = absurd (let off : true ≡ false = f refl in cc off)
-  one_more (x ∷ done) act came first fits = let p = both (not (is_vote_of tid x && came)) _ first in
+  one_more (x ∷ done) act came first fits = let p = and_parts (not (is_vote_of tid x && came)) _ first in
       rw (p.0) (one_more done act (came || is_asked_or_served tid x) p.1 (λ is. or_assoc came (is_asked_or_served tid x) (list_any (is_asked_or_served tid) done) ∙ fits is))
 
   record So (d : Deeds) : Type 0 where

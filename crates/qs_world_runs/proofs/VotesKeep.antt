@@ -1,16 +1,10 @@
 -- A server that votes so that it can commit is one whose changes a log keeps, has some pending, and keeps them.
-use Rattle.std.proofs.Common.{◌≡◌, ℕ, ◌==◌, not, Bool, true, false, List, [], ◌∷◌, length, Option, Some, None, refl, ap, ◌∙◌, if◌then◌else◌}
-use Rattle.qs_base.specs.declared.identifiers.ServerNo.{ServerNo}
-use Rattle.qs_base.specs.declared.identifiers.Tid.{Tid}
-use Rattle.qs_book_machine.specs.Transaction.{is_empty}
-use Rattle.qs_ops.specs.Server.{ServerValue, after_vote, changes_in, changes_vote, is_logged, names_vote, vote_of, voted_by}
+use Rattle.qs_world_runs.proofs.Words.{◌≡◌, ℕ, ◌==◌, not, Bool, true, false, List, [], ◌∷◌, length, Option, Some, None, refl, ap, ◌∙◌, if◌then◌else◌, ServerNo, Tid, is_empty, ServerValue, after_vote, changes_in, is_logged, vote_of, voted_by, share_of, Op, ServerKind, ServersValue, server_at, with_server}
+use Rattle.qs_ops.specs.Server.{changes_vote, names_vote}
 use Rattle.qs_ops.specs.Servers as numbers
-use Rattle.qs_ops.specs.Table.{has_changes, least_taken, share_of}
-use Rattle.qs_ops.specs.declared.operation.Op.{Op}
-use Rattle.qs_ops.specs.declared.server.ServerKind.{ServerKind}
+use Rattle.qs_ops.specs.Table.{has_changes, least_taken}
 use Rattle.qs_ops.specs.declared.server.ServerKind.TheVariants as kinds
 use Rattle.qs_ops.specs.declared.vote.Vote.TheVariants as votes
-use Rattle.qs_node_servers.specs.Servers.{ServersValue, server_at, with_server}
 
 -- the server of a number, as its tests choose it, and what changes it
 abbrev chosen : (a b c d e g : Bool) → ServersValue → ServerValue

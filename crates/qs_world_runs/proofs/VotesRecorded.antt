@@ -1,25 +1,10 @@
 -- A vote that goes on record in a step has its Prepare in the batch; and what the log has of a vote that is on record it has with as many covers, or with its Commit.
-use Rattle.std.proofs.Common.{◌≡◌, ◌⊎◌, inl, inr, ℕ, ◌==◌, ◌&&◌, ◌||◌, Bool, true, false, List, [], ◌∷◌, Option, Some, None, refl, sym, ap, subst, ◌∙◌, arith, nat_le}
-use Rattle.std.proofs.lemmas.Bool.Decides.{nat_tests}
-use Rattle.std.proofs.lemmas.List.Folds.{list_any-append}
-use Rattle.std.specs.List.{list_any}
-use Rattle.qs_base.proofs.Same.{same_tid-self, same_tid-true}
-use Rattle.qs_base.specs.Order.{same_tid}
-use Rattle.qs_base.specs.declared.identifiers.Member.{Member}
-use Rattle.qs_base.specs.declared.identifiers.Tid.{Tid}
-use Rattle.qs_book_journal.specs.declared.entry.Act.{Act}
+use Rattle.qs_world_runs.proofs.Words.{◌≡◌, ◌⊎◌, inl, inr, ℕ, ◌==◌, ◌&&◌, ◌||◌, Bool, true, false, List, [], ◌∷◌, Option, Some, None, refl, sym, ap, subst, ◌∙◌, arith, nat_le, nat_tests, list_any-append, list_any, same_tid-self, same_tid-true, same_tid, Member, Tid, Act, BookValue, is_among, OnRecord, Record, Prepared, Recovery, names_transaction, Every, IsVoteLogged, is_found_in, EntersVote, is_prepare_at, is_recording, and_first, eqb-self, and_parts, eqb-true, or_right}
 use Rattle.qs_book_journal.specs.declared.entry.Act.TheVariants as acts
-use Rattle.qs_book_machine.specs.Book.{BookValue}
 use Rattle.qs_book_machine.specs.Nodes as machine
-use Rattle.qs_book_machine.specs.Restart.{is_among}
-use Rattle.qs_book_machine.specs.declared.state.OnRecord.{OnRecord}
 use Rattle.qs_ops.specs.declared.vote.Vote.TheVariants as votes
-use Rattle.qs_record.specs.declared.record.Record.{Record}
-use Rattle.qs_restart.specs.Recovery.{Prepared, Recovery, names_transaction}
-use Rattle.qs_world_lawful.specs.Logs.{Every, IsVoteLogged}
-use Rattle.qs_world_lawful.proofs.LogRecords.{found_is, is_found, is_found_in}
-use Rattle.qs_world_runs.specs.CutVotes.{EntersVote}
-use Rattle.qs_world_runs.specs.OnRecord.{IsPut, is_prepare_at, is_recording}
+use Rattle.qs_world_lawful.proofs.LogRecords.{found_is, is_found}
+use Rattle.qs_world_runs.specs.OnRecord.{IsPut}
 
 -- ---- which vote put it there
 
@@ -39,12 +24,8 @@ vote_in tid s (act ∷ done) some = by (is_recording tid s act) refl some (vote_
     first (acts.Vote t member votes.Recoverable covers) is = record {
       member = member;
       covers = covers;
-      enters = record { before = []; after = done; is = ap (λ (x : Tid). acts.Vote x member votes.Recoverable covers ∷ done) (same_tid-true t tid (left (same_tid t tid) (member.server.0 == s) is)) };
+      enters = record { before = []; after = done; is = ap (λ (x : Tid). acts.Vote x member votes.Recoverable covers ∷ done) (same_tid-true t tid (and_first (same_tid t tid) (member.server.0 == s) is)) };
     }
-      where
-        left : (a b : Bool) → (a && b) ≡ true → a ≡ true
-        left true b e = refl
-        left false b e = absurd (cc e)
     first act is = absurd (cc is)
 
     by : (b : Bool) → is_recording tid s act ≡ b → (b || list_any (is_recording tid s) done) ≡ true → (list_any (is_recording tid s) done ≡ true → Recording tid s done) → Recording tid s (act ∷ done)
@@ -56,16 +37,9 @@ pub put_in : (tid : Tid) (s : ℕ) (batch : List Record) (done : List Act) → E
 put_in tid s batch [] puts some = absurd (cc some)
 put_in tid s batch (act ∷ done) puts some = by (is_recording tid s act) refl some (put_in tid s batch done puts.1)
   where
-    and_both : (a b : Bool) → (a && b) ≡ true → (a ≡ true) × (b ≡ true)
-    and_both true b e = (refl, e)
-    and_both false b e = absurd (cc e)
-
-    number_is : (m n : ℕ) → (m == n) ≡ true → m ≡ n
-    number_is m n e = grind (arith, nat_tests, e)
-
     first : (a : Act) → IsPut batch a → is_recording tid s a ≡ true → list_any (is_prepare_at tid s) batch ≡ true
-    first (acts.Vote t member votes.Recoverable covers) put is = let p = and_both (same_tid t tid) (member.server.0 == s) is in
-        subst (λ (x : Tid). list_any (is_prepare_at x s) batch ≡ true) (same_tid-true t tid p.0) (subst (λ (k : ℕ). list_any (is_prepare_at t k) batch ≡ true) (number_is member.server.0 s p.1) put)
+    first (acts.Vote t member votes.Recoverable covers) put is = let p = and_parts (same_tid t tid) (member.server.0 == s) is in
+        subst (λ (x : Tid). list_any (is_prepare_at x s) batch ≡ true) (same_tid-true t tid p.0) (subst (λ (k : ℕ). list_any (is_prepare_at t k) batch ≡ true) (eqb-true member.server.0 s p.1) put)
     first act put is = absurd (cc is)
 
     by : (b : Bool) → is_recording tid s act ≡ b → (b || list_any (is_recording tid s) done) ≡ true → (list_any (is_recording tid s) done ≡ true → list_any (is_prepare_at tid s) batch ≡ true) → list_any (is_prepare_at tid s) batch ≡ true
@@ -76,12 +50,9 @@ put_in tid s batch (act ∷ done) puts some = by (is_recording tid s act) refl s
 pub is_in : (tid : Tid) (member : Member) (covers : ℕ) (done : List Act) → EntersVote tid member votes.Recoverable covers done → list_any (is_recording tid member.server.0) done ≡ true
 is_in tid member covers done e = subst (λ (xs : List Act). list_any (is_recording tid member.server.0) xs ≡ true) (sym e.is) (list_any-append (is_recording tid member.server.0) e.before (acts.Vote tid member votes.Recoverable covers ∷ e.after) ∙ last (list_any (is_recording tid member.server.0) e.before))
   where
-    itself : (n : ℕ) → (n == n) ≡ true
-    itself n = grind (arith, nat_tests)
-
     last : (b : Bool) → (b || ((same_tid tid tid && (member.server.0 == member.server.0)) || list_any (is_recording tid member.server.0) e.after)) ≡ true
     last true = refl
-    last false = rw (same_tid-self tid, itself member.server.0) refl
+    last false = rw (same_tid-self tid, eqb-self member.server.0) refl
 
 -- ---- what the log has of it, under the covers that are on record
 
@@ -90,16 +61,9 @@ pub found_covers : (n : ℕ) (book : BookValue) (state : machine.NodeValue) (log
 found_covers n book state log tid s rec has [] logged some = absurd (cc some)
 found_covers n book state log tid s rec has (vote ∷ xs) logged some = by (is_found (machine.voter tid s) 0 vote) refl some (found_covers n book state log tid s rec has xs logged.1)
   where
-    or_last : (a b : Bool) → b ≡ true → (a || b) ≡ true
-    or_last true b is = refl
-    or_last false b is = is
-
     more : (is_found_in (machine.voter tid s) rec.covers xs ≡ true) ⊎ (is_among log.committed tid ≡ true) → (is_found_in (machine.voter tid s) rec.covers (vote ∷ xs) ≡ true) ⊎ (is_among log.committed tid ≡ true)
-    more (inl found) = inl (or_last (is_found (machine.voter tid s) rec.covers vote) (is_found_in (machine.voter tid s) rec.covers xs) found)
+    more (inl found) = inl (or_right (is_found (machine.voter tid s) rec.covers vote) (is_found_in (machine.voter tid s) rec.covers xs) found)
     more (inr among) = inr among
-
-    number_is : (m n : ℕ) → (m == n) ≡ true → m ≡ n
-    number_is m n e = grind (arith, nat_tests, e)
 
     least : (n m : ℕ) → (n == m) ≡ true → nat_le n m ≡ true
     least n m e = grind (arith, nat_tests, e)
@@ -118,7 +82,7 @@ found_covers n book state log tid s rec has (vote ∷ xs) logged some = by (is_f
         its = found_is (machine.voter tid s) 0 vote found
 
         same : (rec.covers == vote.covers) ≡ true
-        same = subst (λ (o : Option OnRecord). (elim o [ None ↦ false | Some x ↦ x.covers == vote.covers ]) ≡ true) (subst (λ (t : Tid). machine.record_of state t vote.server.0 ≡ Some rec) (sym its.0) (subst (λ (k : ℕ). machine.record_of state tid k ≡ Some rec) (sym (number_is vote.server.0 s its.1)) has)) on
+        same = subst (λ (o : Option OnRecord). (elim o [ None ↦ false | Some x ↦ x.covers == vote.covers ]) ≡ true) (subst (λ (t : Tid). machine.record_of state t vote.server.0 ≡ Some rec) (sym its.0) (subst (λ (k : ℕ). machine.record_of state tid k ≡ Some rec) (sym (eqb-true vote.server.0 s its.1)) has)) on
 
     by : (b : Bool) → is_found (machine.voter tid s) 0 vote ≡ b → (b || list_any (is_found (machine.voter tid s) 0) xs) ≡ true
         → (list_any (is_found (machine.voter tid s) 0) xs ≡ true → (is_found_in (machine.voter tid s) rec.covers xs ≡ true) ⊎ (is_among log.committed tid ≡ true))
@@ -131,10 +95,6 @@ pub found_named : (tid : Tid) (s : ℕ) (xs : List Prepared) → is_found_in (ma
 found_named tid s [] some = absurd (cc some)
 found_named tid s (vote ∷ xs) some = by (is_found (machine.voter tid s) 0 vote) refl some (found_named tid s xs)
   where
-    left : (a b : Bool) → (a && b) ≡ true → a ≡ true
-    left true b e = refl
-    left false b e = absurd (cc e)
-
     by : (b : Bool) → is_found (machine.voter tid s) 0 vote ≡ b → (b || list_any (is_found (machine.voter tid s) 0) xs) ≡ true → (list_any (is_found (machine.voter tid s) 0) xs ≡ true → names_transaction tid ≡ true) → names_transaction tid ≡ true
-    by true found rest behind = subst (λ (t : Tid). names_transaction t ≡ true) (found_is (machine.voter tid s) 0 vote found).0 (left (names_transaction vote.tid) _ found)
+    by true found rest behind = subst (λ (t : Tid). names_transaction t ≡ true) (found_is (machine.voter tid s) 0 vote found).0 (and_first (names_transaction vote.tid) _ found)
     by false far rest behind = behind rest

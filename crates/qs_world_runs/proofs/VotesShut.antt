@@ -1,28 +1,15 @@
 -- A vote that a server can commit is of files or audit, and none is on what is committed.
-use Rattle.std.proofs.Common.{◌≡◌, ℕ, ◌==◌, ◌&&◌, ◌||◌, ◌++◌, not, Bool, true, false, List, [], ◌∷◌, Option, Some, None, refl, sym, ap, subst, ◌∙◌, if◌then◌else◌}
-use Rattle.std.specs.List.{list_any}
-use Rattle.std.specs.Prelude.{is_some, nat_lt, slice_get}
-use Rattle.qs_base.specs.Order.{same_tid}
-use Rattle.qs_base.proofs.Same.{same_tid-true}
-use Rattle.qs_base.specs.declared.identifiers.Member.{Member}
+use Rattle.qs_world_runs.proofs.Words.{◌≡◌, ℕ, ◌==◌, ◌&&◌, ◌||◌, ◌++◌, not, Bool, true, false, List, [], ◌∷◌, Option, Some, None, refl, sym, ap, subst, ◌∙◌, if◌then◌else◌, list_any, is_some, nat_lt, slice_get, same_tid, same_tid-true, Member, Tid, Act, held, BookValue, find_transaction, has_vote, broken, broken_act, broken_at, effect, TransactionValue, is_commit, is_covering, is_crossed, extra_no, names_no, Cause, Vote, entry_of, LastsWell, EntersVote, some_same}
 use Rattle.qs_base.specs.declared.identifiers.Outcome.TheVariants as outcomes
-use Rattle.qs_base.specs.declared.identifiers.Tid.{Tid}
-use Rattle.qs_book_journal.specs.declared.entry.Act.{Act}
 use Rattle.qs_book_journal.specs.declared.entry.Act.TheVariants as acts
-use Rattle.qs_book_laws.proofs.Steps.{held, passed, past}
-use Rattle.qs_book_machine.specs.Book.{BookValue, find_transaction}
-use Rattle.qs_book_machine.specs.Clauses.{broken_vote, has_vote, is_server_vote, is_vote, is_vote_due}
-use Rattle.qs_book_machine.specs.Lawful.{broken, broken_act, broken_at, effect, is_in_order}
+use Rattle.qs_book_laws.proofs.Steps.{passed, past}
+use Rattle.qs_book_machine.specs.Clauses.{broken_vote, is_server_vote, is_vote, is_vote_due}
+use Rattle.qs_book_machine.specs.Lawful.{is_in_order}
 use Rattle.qs_book_machine.specs.Nodes as machine
-use Rattle.qs_book_machine.specs.Transaction.{TransactionValue, is_commit, is_covering, is_crossed, part_of}
+use Rattle.qs_book_machine.specs.Transaction.{part_of}
 use Rattle.qs_book_machine.specs.declared.transaction.Cell.TheVariants as cells
-use Rattle.qs_ops.specs.Servers.{audit_no, extra_no, files_no, names_no}
-use Rattle.qs_ops.specs.declared.answer.Cause.{Cause}
-use Rattle.qs_ops.specs.declared.vote.Vote.{Vote}
+use Rattle.qs_ops.specs.Servers.{audit_no, files_no}
 use Rattle.qs_ops.specs.declared.vote.Vote.TheVariants as votes
-use Rattle.qs_world.specs.Posting.{entry_of}
-use Rattle.qs_world_lawful.proofs.LastsWell.{LastsWell}
-use Rattle.qs_world_runs.specs.CutVotes.{EntersVote}
 use Rattle.qs_world_runs.specs.Firsts.{is_vote_of}
 use Rattle.qs_world_runs.proofs.DecidedOnce.{Decided, IsShut, Lawfully, decided_at, shut_on, well_on}
 
@@ -92,16 +79,13 @@ module _ (n stamp : ℕ) where
   unvoted [] book well tid s lawful = refl
   unvoted (act ∷ done) book well tid s lawful = rw (head act lawful.0) (unvoted done (effect book (entry_of n stamp act)) (well_on n stamp book act well lawful.0) tid (shut_on n stamp (act ∷ []) book well (lawful.0, tt) tid cells.Commit s) lawful.1)
     where
-      one : {x y : TransactionValue} → Some x ≡ Some y → x ≡ y
-      one e = cc e
-
       head : (a : Act) → broken book (entry_of n stamp a) ≡ None → is_vote_of tid a ≡ false
       head (acts.Vote t member ballot covers) is = by (same_tid t tid) refl
         where
           by : (b : Bool) → same_tid t tid ≡ b → same_tid t tid ≡ false
           by false e = e
           by true e = absurd (let v : IsVoting book t member ballot covers = voting book t member ballot covers is in
-              let same : s.tx ≡ v.tx = one (sym s.found ∙ subst (λ (x : Tid). find_transaction book x ≡ Some v.tx) (same_tid-true t tid e) v.found) in
+              let same : s.tx ≡ v.tx = some_same (sym s.found ∙ subst (λ (x : Tid). find_transaction book x ≡ Some v.tx) (same_tid-true t tid e) v.found) in
               let on : is_commit v.tx.cell ≡ true = ap (λ (tx : TransactionValue). is_commit tx.cell) (sym same) ∙ ap is_commit s.cell_is in
               let off : is_commit v.tx.cell ≡ false = v.uncommitted in cc (on, off))
       head (acts.Decide t outcome cause) is = refl

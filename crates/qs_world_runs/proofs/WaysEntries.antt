@@ -1,48 +1,21 @@
 -- What one entry of a node makes of what is on the way to or from it: it leaves it; an issue puts its request behind all that stand, and a serve
 -- takes the first of its number that stands at its member.
-use Rattle.std.proofs.Common.{◌≡◌, ◌⊎◌, inl, inr, ℕ, ◌==◌, ◌&&◌, Bool, true, false, List, [], ◌∷◌, ◌++◌, map, Option, Some, None, refl, sym, ap, subst, ◌∙◌, arith, if◌then◌else◌, append-nil}
-use Rattle.std.proofs.lemmas.Bool.{eqb-true}
-use Rattle.std.proofs.lemmas.Bool.Decides.{nat_tests}
-use Rattle.std.specs.BTreeMap.{is_at}
-use Rattle.std.specs.List.{filter}
-use Rattle.std.specs.Map.{lookup}
-use Rattle.std.specs.Prelude.{unwrap_or}
-use Rattle.qs_base.proofs.Same.{same_tid-self}
-use Rattle.qs_base.specs.Order.{same_tid, tid_cmp}
-use Rattle.qs_base.specs.declared.identifiers.ClientNo.{ClientNo}
-use Rattle.qs_base.specs.declared.identifiers.Member.{Member}
-use Rattle.qs_base.specs.declared.identifiers.ServerNo.{ServerNo}
-use Rattle.qs_base.specs.declared.identifiers.Tid.{Tid}
-use Rattle.qs_book_journal.specs.declared.entry.Act.{Act}
+use Rattle.qs_world_runs.proofs.Words.{◌≡◌, ◌⊎◌, inl, inr, ℕ, ◌==◌, ◌&&◌, Bool, true, false, List, [], ◌∷◌, ◌++◌, map, Option, Some, None, refl, sym, ap, subst, ◌∙◌, if◌then◌else◌, append-nil, eqb-true, is_at, filter, lookup, unwrap_or, same_tid-self, same_tid, tid_cmp, ClientNo, Member, ServerNo, Tid, Act, changed_apart, changed_none, BookValue, find_transaction, inc_at, with_transaction, link_to, broken, effect, TransactionValue, changed_value, is_standing, issued, request_cmp, requests_at}
+use Rattle.qs_world_runs.proofs.Words.{requests_in, Request, RequestNo, Op, entry_of, at_server, way_between, IsWithin, same_or_apart, Begins, filter_last, filter_more, LastsWell, HoldsOps, eqb-self, some_same}
 use Rattle.qs_book_journal.specs.declared.entry.Act.TheVariants as acts
 use Rattle.qs_book_laws.proofs.Holding.{crossing_transactions, waiting_transactions}
-use Rattle.qs_book_laws.proofs.Maps.{changed_apart, changed_none, lookup_changed, lookup_put, lookup_put_apart}
-use Rattle.qs_book_machine.specs.Book.{BookValue, crosses, find_transaction, inc_at, with_transaction, with_waiting}
-use Rattle.qs_book_machine.specs.Clauses.{link_to}
-use Rattle.qs_book_machine.specs.Lawful.{broken, effect}
-use Rattle.qs_book_machine.specs.Transaction.{TransactionValue, changed_value, is_standing, issued, request_cmp, requests_at, requests_in}
-use Rattle.qs_book_machine.specs.declared.transaction.Request.{Request}
-use Rattle.qs_book_machine.specs.declared.transaction.RequestNo.{RequestNo}
-use Rattle.qs_ops.specs.declared.operation.Op.{Op}
-use Rattle.qs_world.specs.Posting.{entry_of}
-use Rattle.qs_world_lawful.specs.Face.{at_server}
-use Rattle.qs_world_lawful.specs.Parcels.{way_between}
-use Rattle.qs_world_lawful.specs.Waits.{IsWithin, op_in, standing_ops}
-use Rattle.qs_world_lawful.proofs.Apart.{Apart, same_or_apart}
-use Rattle.qs_world_lawful.proofs.EntryTurns.{Begins, begins}
-use Rattle.qs_world_lawful.proofs.Faces.{filter_last, filter_more}
+use Rattle.qs_book_laws.proofs.Maps.{lookup_changed, lookup_put, lookup_put_apart}
+use Rattle.qs_book_machine.specs.Book.{crosses, with_waiting}
+use Rattle.qs_world_lawful.specs.Waits.{op_in, standing_ops}
+use Rattle.qs_world_lawful.proofs.Apart.{Apart}
+use Rattle.qs_world_lawful.proofs.EntryTurns.{begins}
 use Rattle.qs_world_lawful.proofs.Keys.{KeyApart, request_exact, request_itself, same_key_or}
-use Rattle.qs_world_lawful.proofs.LastsWell.{LastsWell}
-use Rattle.qs_world_lawful.proofs.OtherWays.{HoldsOps}
 use Rattle.qs_world_lawful.proofs.Turning.{Turned, stood}
 use Rattle.qs_world_lawful.proofs.Within.{map_last, within_both, within_right}
 use Rattle.qs_world_runs.proofs.RequestsLeft.{LeavesRequests, SameRequests, gone, requests_left}
 
 abbrev pub Ops : Type 0
 Ops = Tid → ServerNo → ℕ → List Op
-
-one_of : {A : Type 0} {x y : A} → Some x ≡ Some y → x ≡ y
-one_of e = cc e
 
 -- what stands at a server of b, of the requests from a under a number
 abbrev pub standing : ℕ → ℕ → TransactionValue → ServerNo → ℕ → List Op
@@ -63,7 +36,7 @@ module _ (tid : Tid) (f : TransactionValue → TransactionValue) (old new : Book
 
   found_own : (o : Option TransactionValue) → find_transaction old tid ≡ o → (later : TransactionValue) → find_transaction new tid ≡ Some later → (tx : TransactionValue) × (find_transaction old tid ≡ Some tx) × (later ≡ f tx)
   found_own None was later is = absurd (cc (sym (found_as tid ∙ changed_none (is_at (tid_cmp tid)) f old.transactions was) ∙ is))
-  found_own (Some tx) was later is = (tx, was, one_of (sym is ∙ (found_as tid ∙ lookup_changed (is_at (tid_cmp tid)) f old.transactions tx was)))
+  found_own (Some tx) was later is = (tx, was, some_same (sym is ∙ (found_as tid ∙ lookup_changed (is_at (tid_cmp tid)) f old.transactions tx was)))
 
   found_apart : (t : Tid) → Apart tid t → find_transaction new t ≡ find_transaction old t
   found_apart t far = found_as t ∙ changed_apart (is_at (tid_cmp tid)) (is_at (tid_cmp t)) far.keys f old.transactions
@@ -166,10 +139,7 @@ module _ (n stamp : ℕ) (book : BookValue) (tid : Tid) (issuer member : Member)
       (λ t server k apart. refl) (λ t server k none is. is) ops
     where
       key_far : (k : ℕ) → (at ≡ way_between a b k) ⊎ KeyApart request_cmp request_exact request_itself at (way_between a b k) → KeyApart request_cmp request_exact request_itself at (way_between a b k)
-      key_far k (inl same) = absurd (cc (sym far ∙ (ap (λ (i : ℕ). i == n) (sym (ap (λ (r : RequestNo). r.link.from.0) same)) ∙ itself n)))
-        where
-          itself : (i : ℕ) → (i == i) ≡ true
-          itself i = grind (arith, nat_tests)
+      key_far k (inl same) = absurd (cc (sym far ∙ (ap (λ (i : ℕ). i == n) (sym (ap (λ (r : RequestNo). r.link.from.0) same)) ∙ eqb-self n)))
       key_far k (inr apart) = apart
 
   module _ (b : ℕ) (tx : TransactionValue) (server : ServerNo) (k : ℕ) where

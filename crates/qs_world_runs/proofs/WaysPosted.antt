@@ -1,21 +1,13 @@
 -- What a step sends stands behind all that is on its way, or goes to an incarnation that is over.
-use Rattle.std.proofs.Common.{◌≡◌, ◌⊎◌, inl, inr, ℕ, ◌+◌, ◌-◌, ◌==◌, ◌&&◌, ◌<◌, ◌≤◌, not, Bool, true, false, List, [], ◌++◌, drop, length, suc, refl, sym, ap, subst, ◌∙◌, arith, if◌then◌else◌, append_assoc, append-nil}
-use Rattle.std.proofs.lemmas.Bool.Decides.{nat_tests}
-use Rattle.qs_session_channels.specs.Channels.{Channels}
-use Rattle.qs_node_step.specs.declared.event.Sending.{Sending}
-use Rattle.qs_world.specs.Posting.{post_all}
-use Rattle.qs_world.specs.World.{Parcel}
+use Rattle.qs_world_runs.proofs.Words.{◌≡◌, ◌⊎◌, inl, inr, ℕ, ◌+◌, ◌-◌, ◌==◌, ◌&&◌, ◌≤◌, not, Bool, true, false, List, [], ◌++◌, drop, length, suc, refl, sym, ap, subst, ◌∙◌, arith, if◌then◌else◌, append_assoc, append-nil, nat_tests, Channels, Sending, post_all, Parcel, inc_all, parcels, peer_all, on_its_way, pending_from, eqb-self}
 use Rattle.qs_world_refine.proofs.Moving.{drop_front}
-use Rattle.qs_world_refine.proofs.Posted.{handed_all, inc_all, parcels, peer_all, posted_all, waits_all}
-use Rattle.qs_world_lawful.specs.Parcels.{on_its_way, pending_from}
+use Rattle.qs_world_refine.proofs.Posted.{handed_all, posted_all, waits_all}
 use Rattle.qs_world_lawful.proofs.WithinParts.{pending_last, pending_same}
+use Rattle.qs_base_lemmas.proofs.Tests.{lt_apart}
 
 -- what is on the way, of these
 abbrev way_as : ℕ → (ℕ → ℕ) → List Parcel → (ℕ → ℕ → List Parcel) → (ℕ → ℕ → List Parcel) → ℕ → ℕ → List Parcel
 way_as peer inc waits posted handed n b = pending_from (λ i. drop (length (handed i (inc b))) (posted i (inc b))) peer ((inc n + 1) - peer) ++ waits
-
-itself : (i : ℕ) → (i == i) ≡ true
-itself i = grind (arith, nat_tests)
 
 module _ (n stamp b : ℕ) (sendings : List Sending) (d : Channels Parcel) (ordered : (i : ℕ) → (rest : List Parcel) × (d.posted n b i (d.inc b) ≡ d.handed n b i (d.inc b) ++ rest)) (known : d.peer b n ≤ d.inc n) (unmet : 1 ≤ d.peer n b → d.waits n b ≡ []) where
   abbrev sent : Channels Parcel
@@ -38,14 +30,14 @@ module _ (n stamp b : ℕ) (sendings : List Sending) (d : Channels Parcel) (orde
       ∙ ap (λ (x : ℕ → ℕ → ℕ → ℕ → List Parcel). way_as (d.peer b n) d.inc (sent.waits n b) (sent.posted n b) (x n b) n b) (handed_all n stamp sendings d))
 
   posted_is : (i : ℕ) → sent.posted n b i (d.inc b) ≡ (if (i == d.inc n) && ((d.inc b == d.peer n b) && not (d.inc b == 0)) then d.posted n b i (d.inc b) ++ more else d.posted n b i (d.inc b))
-  posted_is i = posted_all n stamp sendings d n b i (d.inc b) ∙ own (n == n) (itself n)
+  posted_is i = posted_all n stamp sendings d n b i (d.inc b) ∙ own (n == n) (eqb-self n)
     where
       own : (c : Bool) → c ≡ true → (if c && ((i == d.inc n) && ((d.inc b == d.peer n b) && not (d.inc b == 0))) then d.posted n b i (d.inc b) ++ more else d.posted n b i (d.inc b))
           ≡ (if (i == d.inc n) && ((d.inc b == d.peer n b) && not (d.inc b == 0)) then d.posted n b i (d.inc b) ++ more else d.posted n b i (d.inc b))
       own c is = rw is refl
 
   waits_is : sent.waits n b ≡ (if d.peer n b == 0 then d.waits n b ++ more else d.waits n b)
-  waits_is = waits_all n stamp sendings d n b ∙ own (n == n) (itself n)
+  waits_is = waits_all n stamp sendings d n b ∙ own (n == n) (eqb-self n)
     where
       own : (c : Bool) → c ≡ true → (if c && (d.peer n b == 0) then d.waits n b ++ more else d.waits n b) ≡ (if d.peer n b == 0 then d.waits n b ++ more else d.waits n b)
       own c is = rw is refl
@@ -67,16 +59,13 @@ module _ (n stamp b : ℕ) (sendings : List Sending) (d : Channels Parcel) (orde
   at_last : ((d.inc b == d.peer n b) && not (d.inc b == 0)) ≡ true → pending_from g (d.peer b n) ((d.inc n + 1) - d.peer b n) ≡ pending_from f (d.peer b n) ((d.inc n + 1) - d.peer b n) ++ more
   unfolding f g
   at_last on = subst (λ (l : ℕ). pending_from g (d.peer b n) l ≡ pending_from f (d.peer b n) l ++ more) (sym (count (d.peer b n) (d.inc n) known))
-      (pending_last f g more (d.inc n) own (λ i less. less_same i (before i (d.inc n) less)) (d.peer b n) (d.inc n - d.peer b n) (whole (d.peer b n) (d.inc n) known))
+      (pending_last f g more (d.inc n) own (λ i less. less_same i (lt_apart i (d.inc n) less)) (d.peer b n) (d.inc n - d.peer b n) (whole (d.peer b n) (d.inc n) known))
     where
       count : (p l : ℕ) → p ≤ l → (l + 1) - p ≡ suc (l - p)
       count p l e = grind (arith, e)
 
       whole : (p l : ℕ) → p ≤ l → p + (l - p) ≡ l
       whole p l e = grind (arith, e)
-
-      before : (i l : ℕ) → i < l → (i == l) ≡ false
-      before i l e = grind (arith, nat_tests, e)
 
       with : (i : ℕ) (c e : Bool) → c ≡ true → e ≡ true → (if c && e then d.posted n b i (d.inc b) ++ more else d.posted n b i (d.inc b)) ≡ d.posted n b i (d.inc b) ++ more
       with i c e p q = rw (p, q) refl
@@ -93,7 +82,7 @@ module _ (n stamp b : ℕ) (sendings : List Sending) (d : Channels Parcel) (orde
           ∙ sym (ap (λ (l : List Parcel). drop (length front) l ++ more) is ∙ ap (λ (l : List Parcel). l ++ more) (drop_front front rest))))
 
       own : g (d.inc n) ≡ f (d.inc n) ++ more
-      own = ap (drop (length (d.handed n b (d.inc n) (d.inc b)))) (posted_is (d.inc n) ∙ with (d.inc n) (d.inc n == d.inc n) ((d.inc b == d.peer n b) && not (d.inc b == 0)) (itself (d.inc n)) on)
+      own = ap (drop (length (d.handed n b (d.inc n) (d.inc b)))) (posted_is (d.inc n) ∙ with (d.inc n) (d.inc n == d.inc n) ((d.inc b == d.peer n b) && not (d.inc b == 0)) (eqb-self (d.inc n)) on)
           ∙ behind (d.handed n b (d.inc n) (d.inc b)) (d.posted n b (d.inc n) (d.inc b)) (ordered (d.inc n)).0 (ordered (d.inc n)).1
 
   pub posted_way : (on_its_way sent n b ≡ on_its_way d n b ++ more) ⊎ (on_its_way sent n b ≡ on_its_way d n b)

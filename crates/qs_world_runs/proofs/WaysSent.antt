@@ -1,30 +1,11 @@
 -- What is on the way from a node stands after each thing that a rule of its step does: behind what was on it, what the step sent.
-use Rattle.std.proofs.Common.{◌≡◌, ℕ, ◌==◌, ◌&&◌, Bool, true, false, List, [], ◌∷◌, ◌++◌, map, refl, sym, ap, subst, ◌∙◌, if◌then◌else◌, append_assoc, append-nil}
-use Rattle.std.proofs.lemmas.Grind.{flat_map-append}
+use Rattle.qs_world_runs.proofs.Words.{◌≡◌, ℕ, ◌==◌, ◌&&◌, Bool, true, false, List, [], ◌∷◌, ◌++◌, map, refl, sym, ap, subst, ◌∙◌, if◌then◌else◌, append_assoc, append-nil, flat_map-append, filter, same_tid, Member, NodeNo, ServerNo, Tid, Delivery, Act, BookValue, Op, Message, Event, Sending, Parcel, parcels, at_server, is_asking_for, ops_of, LastsWell, IsKept, Trace}
 use Rattle.std.proofs.lemmas.List.{map-append}
 use Rattle.std.proofs.lemmas.List.Elements.{filter-append}
-use Rattle.std.specs.List.{filter}
-use Rattle.qs_base.specs.Order.{same_tid}
-use Rattle.qs_base.specs.declared.identifiers.Member.{Member}
-use Rattle.qs_base.specs.declared.identifiers.NodeNo.{NodeNo}
-use Rattle.qs_base.specs.declared.identifiers.ServerNo.{ServerNo}
-use Rattle.qs_base.specs.declared.identifiers.Tid.{Tid}
-use Rattle.qs_ipc.specs.declared.delivery.Delivery.{Delivery}
-use Rattle.qs_book_journal.specs.declared.entry.Act.{Act}
 use Rattle.qs_book_journal.specs.declared.entry.Act.TheVariants as acts
-use Rattle.qs_book_machine.specs.Book.{BookValue}
 use Rattle.qs_ops.specs.declared.answer.Answer.TheVariants as answers
-use Rattle.qs_ops.specs.declared.operation.Op.{Op}
-use Rattle.qs_packet.specs.declared.message.Message.{Message}
 use Rattle.qs_packet.specs.declared.message.Message.TheVariants as messages
-use Rattle.qs_node_step.specs.declared.event.Event.{Event}
-use Rattle.qs_node_step.specs.declared.event.Sending.{Sending}
-use Rattle.qs_world.specs.World.{Parcel}
-use Rattle.qs_world_refine.proofs.Posted.{parcels}
-use Rattle.qs_world_lawful.specs.Face.{at_server}
-use Rattle.qs_world_lawful.specs.Parcels.{is_asking_for, ops_of}
-use Rattle.qs_world_lawful.proofs.LastsWell.{LastsWell}
-use Rattle.qs_world_runs.specs.Traces.{AsksNothing, IsKept, TakesIn, Trace}
+use Rattle.qs_world_runs.specs.Traces.{AsksNothing, TakesIn}
 use Rattle.qs_world_runs.proofs.EntriesMore.{issue_known}
 use Rattle.qs_world_runs.proofs.WaysEntries.{Ops, asks_one, ops_asked, ops_issued}
 use Rattle.qs_world_runs.proofs.WaysServing.{ops_served_far}

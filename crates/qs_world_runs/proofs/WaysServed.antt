@@ -1,27 +1,11 @@
 -- What waits at a node, of the requests from another: it goes as the first at a server leaves its queue, which is served or dropped, and comes as a
 -- request waits behind the others.
-use Rattle.std.proofs.Common.{◌≡◌, ℕ, ◌==◌, ◌&&◌, Bool, true, false, List, [], ◌∷◌, ◌++◌, drop, map, Some, None, refl, sym, ap, subst, ◌∙◌, arith, if◌then◌else◌, append-nil}
-use Rattle.std.proofs.lemmas.Bool.{eqb-true}
-use Rattle.std.proofs.lemmas.Bool.Decides.{nat_tests}
-use Rattle.std.proofs.lemmas.Cmp.{nat_cmp_total, tied_itself}
-use Rattle.std.specs.BTreeMap.{is_at}
-use Rattle.std.specs.List.{filter}
-use Rattle.qs_base.specs.Order.{same_tid}
-use Rattle.qs_base.specs.declared.identifiers.NodeNo.{NodeNo}
-use Rattle.qs_base.specs.declared.identifiers.ServerNo.{ServerNo}
-use Rattle.qs_base.specs.declared.identifiers.Tid.{Tid}
+use Rattle.qs_world_runs.proofs.Words.{◌≡◌, ℕ, ◌==◌, ◌&&◌, Bool, true, false, List, [], ◌∷◌, ◌++◌, drop, map, Some, None, refl, sym, ap, subst, ◌∙◌, if◌then◌else◌, append-nil, eqb-true, nat_cmp_total, tied_itself, is_at, filter, same_tid, NodeNo, ServerNo, Tid, IpcValue, queue_at, server_cmp, QueueValue, first_of, Delivery, Op, drop_counts, Event, is_asking_for, way_between, filter_last, filter_more, left_elsewhere, left_here, queued_elsewhere, queued_here, same_server_or, eqb-self}
 use Rattle.qs_ipc.specs.Ipc as ipc
-use Rattle.qs_ipc.specs.Ipc.{IpcValue, queue_at, server_cmp}
-use Rattle.qs_ipc.specs.Queue.{QueueValue, first_of, is_of}
-use Rattle.qs_ipc.specs.declared.delivery.Delivery.{Delivery}
-use Rattle.qs_ops.specs.declared.operation.Op.{Op}
-use Rattle.qs_node_step.specs.Telling.{drop_counts}
-use Rattle.qs_node_step.specs.declared.event.Event.{Event}
+use Rattle.qs_ipc.specs.Queue.{is_of}
 use Rattle.qs_node_step.specs.declared.event.Event.TheVariants as events
 use Rattle.qs_world_lawful.specs.Face.{is_numbered}
-use Rattle.qs_world_lawful.specs.Parcels.{is_asking_for, way_between}
 use Rattle.qs_world_lawful.specs.Waits.{op_of, waiting_ops}
-use Rattle.qs_world_lawful.proofs.Faces.{filter_last, filter_more, left_elsewhere, left_here, queued_elsewhere, queued_here, same_server_or}
 use Rattle.qs_world_lawful.proofs.Forgetting.{dropped_waiting}
 use Rattle.qs_world_lawful.proofs.PeerRestarts.{filter_marked, map_marked, marked_at, marked_number, marked_of}
 use Rattle.qs_world_lawful.proofs.Within.{map_last}
@@ -66,9 +50,6 @@ module _ (a n : ℕ) where
   list_more tid number ds d true of true numbered = ap (waiting_ops (way_between a n number)) (filter_last (is_of tid) ds d of)
       ∙ (ap (map op_of) (filter_last (is_numbered (way_between a n number)) (filter (is_of tid) ds) d numbered) ∙ map_last op_of (filter (is_numbered (way_between a n number)) (filter (is_of tid) ds)) d)
 
-  itself : (i : ℕ) → (i == i) ≡ true
-  itself i = grind (arith, nat_tests)
-
   comes_none : (at : ServerNo) (delivery : Delivery) (tid : Tid) (server : ServerNo) (number : ℕ) → is_at (server_cmp server) at ≡ false → comes_one at delivery tid server number ≡ []
   comes_none at delivery tid server number far = rw (differ (at.0 == server.0) refl) (rw (off false (same_tid tid delivery.tid) refl) refl)
     where
@@ -88,7 +69,7 @@ module _ (a n : ℕ) where
       here : waiting a n (ipc.enqueue at delivery queues) tid at number ≡ waiting a n queues tid at number ++ comes_one at delivery tid at number
       here = ap (λ (q : QueueValue). waiting_ops (way_between a n number) (filter (is_of tid) q.waiting)) (queued_here at delivery queues)
           ∙ (list_more tid number (queue_at queues at).waiting delivery (is_of tid delivery) refl (is_numbered (way_between a n number) delivery) refl
-          ∙ ap (λ (b : Bool). waiting a n queues tid at number ++ (if same_tid tid delivery.tid && b then delivery.op ∷ [] else [])) (sym (with (at.0 == at.0) (itself at.0))))
+          ∙ ap (λ (b : Bool). waiting a n queues tid at number ++ (if same_tid tid delivery.tid && b then delivery.op ∷ [] else [])) (sym (with (at.0 == at.0) (eqb-self at.0))))
         where
           with : (b : Bool) → b ≡ true → (b && ((delivery.from.0 == a) && (delivery.number == number))) ≡ ((delivery.from.0 == a) && (delivery.number == number))
           with b is = rw is refl
@@ -129,7 +110,7 @@ module _ (a n : ℕ) where
         own = ap (λ (ds : List Delivery). waiting_ops (way_between a n number) (filter (is_of tid) ds)) (whole (queue_at queues at).waiting next)
             ∙ (list_less tid number (drop 1 (queue_at queues at).waiting) delivery (is_of tid delivery) refl (is_numbered (way_between a n number) delivery) refl
             ∙ (ap (λ (ds : List Delivery). (if is_of tid delivery && is_numbered (way_between a n number) delivery then delivery.op ∷ [] else []) ++ waiting_ops (way_between a n number) (filter (is_of tid) ds)) (sym (left_here at queues))
-            ∙ ap (λ (b : Bool). (if same_tid tid delivery.tid && b then delivery.op ∷ [] else []) ++ waiting a n left tid at number) (sym (with (at.0 == at.0) (itself at.0)))))
+            ∙ ap (λ (b : Bool). (if same_tid tid delivery.tid && b then delivery.op ∷ [] else []) ++ waiting a n left tid at number) (sym (with (at.0 == at.0) (eqb-self at.0)))))
 
         elsewhere : is_at (server_cmp server) at ≡ false → ((k : ServerNo) → is_at (server_cmp server) k ≡ true → is_at (server_cmp at) k ≡ false) → waiting a n queues tid server number ≡ comes_one at delivery tid server number ++ waiting a n left tid server number
         elsewhere far apart = sym (left_far tid server number apart) ∙ ap (λ (xs : List Op). xs ++ waiting a n left tid server number) (sym (comes_none at delivery tid server number far))

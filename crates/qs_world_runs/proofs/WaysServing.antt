@@ -1,40 +1,17 @@
 -- As the first request that waits at a server is served, the first of its number that stands there is: what waits, and what is on its way, stands on.
-use Rattle.std.proofs.Common.{◌≡◌, ◌≢◌, ◌⊎◌, inl, inr, ℕ, ◌==◌, ◌&&◌, Bool, true, false, List, [], ◌∷◌, ◌++◌, drop, map, Option, Some, None, refl, sym, ap, subst, ◌∙◌, arith, append_assoc}
-use Rattle.std.proofs.lemmas.Bool.{eqb-true}
-use Rattle.std.proofs.lemmas.Bool.Decides.{nat_tests}
-use Rattle.std.specs.List.{filter}
-use Rattle.qs_base.proofs.Same.{same_tid-self}
-use Rattle.qs_base.specs.Order.{same_tid}
-use Rattle.qs_base.specs.declared.identifiers.Member.{Member}
-use Rattle.qs_base.specs.declared.identifiers.NodeNo.{NodeNo}
-use Rattle.qs_base.specs.declared.identifiers.ServerNo.{ServerNo}
-use Rattle.qs_base.specs.declared.identifiers.Tid.{Tid}
+use Rattle.qs_world_runs.proofs.Words.{◌≡◌, ◌≢◌, ◌⊎◌, inl, inr, ℕ, ◌==◌, ◌&&◌, Bool, true, false, List, [], ◌∷◌, ◌++◌, drop, map, Option, Some, None, refl, sym, ap, subst, ◌∙◌, append_assoc, eqb-true, filter, same_tid-self, same_tid, Member, NodeNo, ServerNo, Tid, IpcValue, Delivery, BookValue, inc_at, effect, TransactionValue, is_standing, mark_served, request_cmp, requests_at, Request, RequestNo, Op, Reply, entry_of, at_server, way_between, IsWithin, HoldsOps, and_three, eqb-self}
 use Rattle.qs_ipc.specs.Ipc as ipc
-use Rattle.qs_ipc.specs.Ipc.{IpcValue}
-use Rattle.qs_ipc.specs.declared.delivery.Delivery.{Delivery}
 use Rattle.qs_book_journal.specs.declared.entry.Act.TheVariants as acts
-use Rattle.qs_book_machine.specs.Book.{BookValue, inc_at, is_done}
-use Rattle.qs_book_machine.specs.Lawful.{effect}
-use Rattle.qs_book_machine.specs.Transaction.{TransactionValue, is_standing, mark_served, request_cmp, requests_at, served_in}
-use Rattle.qs_book_machine.specs.declared.transaction.Request.{Request}
-use Rattle.qs_book_machine.specs.declared.transaction.RequestNo.{RequestNo}
-use Rattle.qs_ops.specs.declared.operation.Op.{Op}
-use Rattle.qs_ops.specs.declared.reply.Reply.{Reply}
-use Rattle.qs_world.specs.Posting.{entry_of}
-use Rattle.qs_world_lawful.specs.Face.{at_server}
-use Rattle.qs_world_lawful.specs.Parcels.{way_between}
-use Rattle.qs_world_lawful.specs.Waits.{IsWithin, op_in}
+use Rattle.qs_book_machine.specs.Book.{is_done}
+use Rattle.qs_book_machine.specs.Transaction.{served_in}
+use Rattle.qs_world_lawful.specs.Waits.{op_in}
 use Rattle.qs_world_lawful.proofs.Apart.{Apart}
 use Rattle.qs_world_lawful.proofs.Keys.{KeyApart, request_exact, request_itself, same_key_or}
-use Rattle.qs_world_lawful.proofs.OtherWays.{HoldsOps}
 use Rattle.qs_world_lawful.proofs.ServedTid as serving
 use Rattle.qs_world_lawful.proofs.Within.{mark_apart, mark_first, within_served}
 use Rattle.qs_world_lawful.proofs.WithinParts.{within_behind}
 use Rattle.qs_world_runs.proofs.WaysEntries.{Change, Ops, ops_changed, standing, standing_as}
 use Rattle.qs_world_runs.proofs.WaysServed.{comes_one, left_none, popped, waiting}
-
-itself : (i : ℕ) → (i == i) ≡ true
-itself i = grind (arith, nat_tests)
 
 none_behind : (xs ys zs : List Op) → (xs ++ ys) ++ zs ≡ [] → ys ++ zs ≡ []
 none_behind [] ys zs is = is
@@ -87,7 +64,7 @@ module _ (n stamp : ℕ) (book : BookValue) (tid : Tid) (at : ServerNo) (from : 
       (λ t s k apart. refl) (λ t s k none is. is) ops
     where
       key_far : (k : ℕ) → (key ≡ way_between a b k) ⊎ KeyApart request_cmp request_exact request_itself key (way_between a b k) → KeyApart request_cmp request_exact request_itself key (way_between a b k)
-      key_far k (inl same) = absurd (cc (sym far ∙ (ap (λ (i : ℕ). i == n) (sym (ap (λ (r : RequestNo). r.link.to.0) same)) ∙ itself n)))
+      key_far k (inl same) = absurd (cc (sym far ∙ (ap (λ (i : ℕ). i == n) (sym (ap (λ (r : RequestNo). r.link.to.0) same)) ∙ eqb-self n)))
       key_far k (inr apart) = apart
 
   -- of those from a the first that waits is served, where it is of that number
@@ -105,13 +82,10 @@ module _ (n stamp : ℕ) (book : BookValue) (tid : Tid) (at : ServerNo) (from : 
       where
         server_far : key ≡ way_between a n k → (b : Bool) → (at.0 == s.0) ≡ b → b ≡ false
         server_far same false is = refl
-        server_far same true is = absurd (cc (sym off ∙ all (at.0 == s.0) (from.0 == a) (number == k) is (ap (λ (r : RequestNo). r.link.from.0 == a) same ∙ itself a) (ap (λ (r : RequestNo). r.number == k) same ∙ itself k)))
-          where
-            all : (x y z : Bool) → x ≡ true → y ≡ true → z ≡ true → (x && (y && z)) ≡ true
-            all x y z p q r = rw (p, q, r) refl
+        server_far same true is = absurd (cc (sym off ∙ and_three (at.0 == s.0) (from.0 == a) (number == k) is (ap (λ (r : RequestNo). r.link.from.0 == a) same ∙ eqb-self a) (ap (λ (r : RequestNo). r.number == k) same ∙ eqb-self k)))
 
         differ : (at.0 == s.0) ≡ false → member ≢ it
-        differ far e = cc (sym far ∙ (ap (λ (m : Member). m.server.0 == s.0) e ∙ itself s.0))
+        differ far e = cc (sym far ∙ (ap (λ (m : Member). m.server.0 == s.0) e ∙ eqb-self s.0))
 
         by : (key ≡ way_between a n k) ⊎ KeyApart request_cmp request_exact request_itself key (way_between a n k) → standing a n (made tx) s k ≡ standing a n tx s k
         by (inl same) = ap picked (subst (λ (r : RequestNo). requests_at (made tx) r ≡ mark_served member (requests_at tx r)) same (requests_own tx))

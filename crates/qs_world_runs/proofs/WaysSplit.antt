@@ -1,21 +1,10 @@
 -- What is on the way to a node as it takes in what comes: its first message is handed up, or those of incarnations that are over are passed by.
-use Rattle.std.proofs.Common.{◌≡◌, ℕ, ◌+◌, ◌-◌, ◌==◌, ◌<◌, ◌≤◌, Bool, true, false, List, [], ◌∷◌, ◌++◌, drop, length, zero, suc, Option, Some, refl, sym, ap, subst, ◌∙◌, arith, if◌then◌else◌, append_assoc, append-nil}
-use Rattle.std.proofs.lemmas.Bool.{eqb-true}
-use Rattle.std.proofs.lemmas.Bool.Decides.{nat_tests}
-use Rattle.std.specs.Prelude.{slice_get}
-use Rattle.qs_base.specs.declared.identifiers.ServerNo.{ServerNo}
-use Rattle.qs_base.specs.declared.identifiers.Tid.{Tid}
+use Rattle.qs_world_runs.proofs.Words.{◌≡◌, ℕ, ◌+◌, ◌-◌, ◌==◌, ◌<◌, ◌≤◌, Bool, true, false, List, [], ◌∷◌, ◌++◌, drop, length, zero, suc, Option, Some, refl, sym, ap, subst, ◌∙◌, arith, if◌then◌else◌, append_assoc, append-nil, le_refl, eqb-true, nat_tests, slice_get, ServerNo, Tid, Channels, Op, Event, Clock, Commanded, Handed, Noticed, Queues, Source, event_of, hand_next, taken_by, Parcel, World, IsSteady, FromNotice, from_client, from_node, from_notice, is_asking_for, on_its_way, ops_of}
+use Rattle.qs_world_runs.proofs.Words.{pending, pending_from, eqb-self, apart_turned}
 use Rattle.qs_session_channels.proofs.Lists.{tail_from}
 use Rattle.qs_session_channels.specs.Channels as channel
-use Rattle.qs_session_channels.specs.Channels.{Channels}
-use Rattle.qs_ops.specs.declared.operation.Op.{Op}
-use Rattle.qs_node_step.specs.declared.event.Event.{Event}
 use Rattle.qs_node_step.specs.declared.event.Event.TheVariants as events
-use Rattle.qs_world.specs.Moves.{Clock, Commanded, Handed, Noticed, Queues, Source, event_of, hand_next, taken_by}
-use Rattle.qs_world.specs.World.{Parcel, World}
-use Rattle.qs_world_refine.specs.Steady.{IsSteady}
-use Rattle.qs_world_refine.proofs.EachMay.{FromNode, FromNotice, from_client, from_node, from_notice}
-use Rattle.qs_world_lawful.specs.Parcels.{is_asking_for, on_its_way, ops_of, pending, pending_from}
+use Rattle.qs_world_refine.proofs.EachMay.{FromNode}
 use Rattle.qs_world_lawful.proofs.StepWays.{KeepsPair, way_same}
 use Rattle.qs_world_lawful.proofs.WithinParts.{pending_parts}
 use Rattle.qs_world_runs.proofs.WaysServed.{came_from}
@@ -31,20 +20,14 @@ pub record Split (c d : Channels Parcel) (a n : ℕ) (event : Event) : Type 0 wh
 
 pending_later : (f g : ℕ → List Parcel) (i : ℕ) → ((k : ℕ) → i ≤ k → g k ≡ f k) → (more : ℕ) → pending_from g i more ≡ pending_from f i more
 pending_later f g i same zero = refl
-pending_later f g i same (suc more) = rw (same i (itself i), pending_later f g (suc i) (λ k low. same k (below i k low)) more) refl
+pending_later f g i same (suc more) = rw (same i (le_refl i), pending_later f g (suc i) (λ k low. same k (below i k low)) more) refl
   where
-    itself : (k : ℕ) → k ≤ k
-    itself k = grind (arith)
-
     below : (i k : ℕ) → suc i ≤ k → i ≤ k
     below i k low = grind (arith, low)
 
 module _ (world : World) (n stamp a : ℕ) (far : (a == n) ≡ false) (steady : IsSteady world) (known : world.channels.peer n a ≤ world.channels.inc a) (event : Event) where
   abbrev c : Channels Parcel
   c = world.channels
-
-  itself : (k : ℕ) → (k == k) ≡ true
-  itself k = grind (arith, nat_tests)
 
   -- what comes is no message: nothing is handed up
   still : (d : Channels Parcel) → KeepsPair c d a n → ((tid : Tid) (s : ServerNo) (k : ℕ) → came_from a event tid s k ≡ []) → Split c d a n event
@@ -74,7 +57,7 @@ module _ (world : World) (n stamp a : ℕ) (far : (a == n) ≡ false) (steady : 
         ∙ ap (λ (k : ℕ). parcel ∷ drop k (c.posted a n (c.peer n a) (c.inc n))) (sym (ap length handed_now ∙ longer (c.handed a n (c.peer n a) (c.inc n))))
       where
         handed_now : d.handed a n (c.peer n a) (c.inc n) ≡ c.handed a n (c.peer n a) (c.inc n) ++ parcel ∷ []
-        handed_now = rw (itself a, itself n, itself (c.peer n a), itself (c.inc n)) refl
+        handed_now = rw (eqb-self a, eqb-self n, eqb-self (c.peer n a), eqb-self (c.inc n)) refl
 
     later : (k : ℕ) → suc (c.peer n a) ≤ k → now k ≡ at k
     later k low = ap (λ (hs : List Parcel). drop (length hs) (c.posted a n k (c.inc n))) handed_same
@@ -83,7 +66,7 @@ module _ (world : World) (n stamp a : ℕ) (far : (a == n) ≡ false) (steady : 
         other p k e = grind (arith, nat_tests, e)
 
         handed_same : d.handed a n k (c.inc n) ≡ c.handed a n k (c.inc n)
-        handed_same = rw (itself a, itself n, other (c.peer n a) k low) refl
+        handed_same = rw (eqb-self a, eqb-self n, other (c.peer n a) k low) refl
 
     handed_way : on_its_way c a n ≡ parcel ∷ on_its_way d a n
     handed_way = ap (λ (l : ℕ). pending_from at (c.peer n a) l ++ c.waits a n) (count (c.peer n a) (c.inc a) known)
@@ -107,7 +90,7 @@ module _ (world : World) (n stamp a : ℕ) (far : (a == n) ≡ false) (steady : 
     front = [];
     came = from.parcel ∷ [];
     way = handed_way from.parcel from.found;
-    is = λ tid s k. ap (λ (e : Event). came_from a e tid s k) from.is ∙ (asks (a == a) (itself a) tid s k ∙ sym (append-nil (is_asking_for tid s k from.parcel.message)));
+    is = λ tid s k. ap (λ (e : Event). came_from a e tid s k) from.is ∙ (asks (a == a) (eqb-self a) tid s k ∙ sym (append-nil (is_asking_for tid s k from.parcel.message)));
   })
     where
       from : FromNode world n a event
@@ -116,13 +99,10 @@ module _ (world : World) (n stamp a : ℕ) (far : (a == n) ≡ false) (steady : 
       asks : (b : Bool) → b ≡ true → (tid : Tid) (s : ServerNo) (k : ℕ) → ◌≡◌ {A = List Op} (if b then is_asking_for tid s k from.parcel.message else []) (is_asking_for tid s k from.parcel.message)
       asks b is tid s k = rw is refl
 
-  turned : (i j : ℕ) → (i == j) ≡ false → (j == i) ≡ false
-  turned i j off = grind (arith, nat_tests, off)
-
   handed_other : (m : ℕ) → (a == m) ≡ false → event_of world n stamp (Handed m) ≡ Some event → Split c (taken_by world n (Handed m)) a n event
   handed_other m other comes = subst (λ (x : Channels Parcel). Split c x a n event) (sym (ap (λ (o : Option Parcel). hand_next n m o c) from.found))
       (still (channel.moved (channel.Hand n m from.parcel) c) (record { peer = refl; inc = refl; up = refl; waits = refl; posted = refl; handed = rw other refl })
-      (λ tid s k. ap (λ (e : Event). came_from a e tid s k) from.is ∙ asks (m == a) (turned a m other) tid s k))
+      (λ tid s k. ap (λ (e : Event). came_from a e tid s k) from.is ∙ asks (m == a) (apart_turned a m other) tid s k))
     where
       from : FromNode world n m event
       from = from_node world n stamp m event comes
@@ -140,7 +120,7 @@ module _ (world : World) (n stamp a : ℕ) (far : (a == n) ≡ false) (steady : 
         ∙ (ap (λ (xs : List Parcel). xs ++ c.waits a n) (pending_parts at_old (c.peer n a) (new - c.peer n a) ((c.inc a + 1) - new))
         ∙ (append_assoc (pending_from at_old (c.peer n a) (new - c.peer n a)) (pending_from at_old (c.peer n a + (new - c.peer n a)) ((c.inc a + 1) - new)) (c.waits a n)
         ∙ (ap (λ (i : ℕ). pending_from at_old (c.peer n a) (new - c.peer n a) ++ (pending_from at_old i ((c.inc a + 1) - new) ++ c.waits a n)) (whole (c.peer n a) new from.later)
-        ∙ ap (λ (i : ℕ). pending_from at_old (c.peer n a) (new - c.peer n a) ++ (pending_from at_old i ((c.inc a + 1) - i) ++ c.waits a n)) (sym (peer_now (n == n) (itself n) (a == a) (itself a))))));
+        ∙ ap (λ (i : ℕ). pending_from at_old (c.peer n a) (new - c.peer n a) ++ (pending_from at_old i ((c.inc a + 1) - i) ++ c.waits a n)) (sym (peer_now (n == n) (eqb-self n) (a == a) (eqb-self a))))));
     is = none_by (events.PeerRestarted (record { 0 = a }) (c.peer n a) new) from.is (λ tid s k. refl);
   }
     where
@@ -160,7 +140,7 @@ module _ (world : World) (n stamp a : ℕ) (far : (a == n) ≡ false) (steady : 
       whole p m e = grind (arith, e)
 
   noticed_other : (m new : ℕ) → (a == m) ≡ false → event_of world n stamp (Noticed m new) ≡ Some event → Split c (taken_by world n (Noticed m new)) a n event
-  noticed_other m new other comes = still (channel.moved (channel.Notice n m new) c) (record { peer = rw (itself n, other) refl; inc = refl; up = refl; waits = refl; posted = refl; handed = refl })
+  noticed_other m new other comes = still (channel.moved (channel.Notice n m new) c) (record { peer = rw (eqb-self n, other) refl; inc = refl; up = refl; waits = refl; posted = refl; handed = refl })
       (none_by (events.PeerRestarted (record { 0 = m }) (c.peer n m) new) (from_notice world n stamp m new event comes).is (λ tid s k. refl))
 
   pub way_split : (source : Source) → event_of world n stamp source ≡ Some event → Split c (taken_by world n source) a n event

@@ -1,30 +1,12 @@
 -- What is on the way to a node stands after each thing that a rule of its step does.
-use Rattle.std.proofs.Common.{◌≡◌, ℕ, ◌==◌, ◌&&◌, Bool, true, false, List, [], ◌∷◌, ◌++◌, Some, None, refl, sym, ap, subst, ◌∙◌, arith, if◌then◌else◌, append_assoc, append-nil}
-use Rattle.std.proofs.lemmas.Bool.Decides.{nat_tests}
-use Rattle.qs_base.specs.Order.{same_tid}
-use Rattle.qs_base.specs.declared.identifiers.Member.{Member}
-use Rattle.qs_base.specs.declared.identifiers.NodeNo.{NodeNo}
-use Rattle.qs_base.specs.declared.identifiers.ServerNo.{ServerNo}
-use Rattle.qs_base.specs.declared.identifiers.Tid.{Tid}
+use Rattle.qs_world_runs.proofs.Words.{◌≡◌, ℕ, ◌==◌, ◌&&◌, Bool, true, false, List, [], ◌∷◌, ◌++◌, Some, None, refl, sym, ap, subst, ◌∙◌, arith, if◌then◌else◌, append_assoc, append-nil, nat_tests, same_tid, Member, NodeNo, ServerNo, Tid, IpcValue, Delivery, Act, BookValue, broken, effect, Op, Event, entry_of, at_server, IsWithin, LastsWell, HoldsOps, IsKept, IsOrdinary, Trace}
 use Rattle.qs_ipc.specs.Ipc as ipc
-use Rattle.qs_ipc.specs.Ipc.{IpcValue}
-use Rattle.qs_ipc.specs.declared.delivery.Delivery.{Delivery}
-use Rattle.qs_book_journal.specs.declared.entry.Act.{Act}
 use Rattle.qs_book_journal.specs.declared.entry.Act.TheVariants as acts
-use Rattle.qs_book_machine.specs.Book.{BookValue}
-use Rattle.qs_book_machine.specs.Lawful.{broken, effect}
 use Rattle.qs_ops.specs.declared.answer.Answer.TheVariants as answers
-use Rattle.qs_ops.specs.declared.operation.Op.{Op}
 use Rattle.qs_packet.specs.declared.message.Message.TheVariants as messages
-use Rattle.qs_node_step.specs.declared.event.Event.{Event}
 use Rattle.qs_node_step.specs.declared.event.Event.TheVariants as events
-use Rattle.qs_world.specs.Posting.{entry_of}
-use Rattle.qs_world_lawful.specs.Face.{at_server}
-use Rattle.qs_world_lawful.specs.Waits.{IsWithin}
-use Rattle.qs_world_lawful.proofs.LastsWell.{LastsWell}
-use Rattle.qs_world_lawful.proofs.OtherWays.{HoldsOps}
 use Rattle.qs_world_lawful.proofs.WithinParts.{within_around}
-use Rattle.qs_world_runs.specs.Traces.{IsKept, IsOrdinary, TakesIn, Trace}
+use Rattle.qs_world_runs.specs.Traces.{TakesIn}
 use Rattle.qs_world_runs.proofs.EntriesMore as more
 use Rattle.qs_world_runs.proofs.RequestsLeft.{LeavesRequests}
 use Rattle.qs_world_runs.proofs.WaysEntries.{Ops, ops_begun, ops_issued_far, ops_left, standing}

@@ -1,31 +1,11 @@
 -- What shows a transaction once what came is done leads to what shows it after the step: where something was not found then or later, it is doomed there.
-use Rattle.std.proofs.Common.{◌≡◌, ℕ, true}
-use Rattle.qs_base.specs.declared.identifiers.Tid.{Tid}
-use Rattle.qs_book_machine.specs.Book.{BookValue}
-use Rattle.qs_node_step.specs.Settling.{due_tids, settle}
-use Rattle.qs_node_step.specs.State.{Work}
-use Rattle.qs_node_step.specs.Step.{waiting_clients, with_command}
-use Rattle.qs_node_step.specs.declared.event.Event.{Event}
+use Rattle.qs_world_runs.proofs.Words.{◌≡◌, ℕ, true, Tid, BookValue, due_tids, settle, Work, waiting_clients, with_command, Event, Source, taken_by, Opening, World, Leads, IsDoomed, leads_on, ShowsAll, StepCame, done_work, first_work, MakesStep, ComesFound, Joined, book_in, PlacesAt, field_of, taken, WholeFound, ComesWell}
 use Rattle.qs_node_step.specs.declared.event.Event.TheVariants as events
-use Rattle.qs_world.specs.Moves.{Source, taken_by}
-use Rattle.qs_world.specs.World.{Opening, World}
 use Rattle.qs_world_agree.specs.World as machine
-use Rattle.qs_world_agree.specs.Carry.{Leads}
-use Rattle.qs_world_agree.specs.Doomed.{IsDoomed}
-use Rattle.qs_world_agree.proofs.Carries.{leads_on}
 use Rattle.qs_world_refine.specs.Begun.{has_begun}
-use Rattle.qs_world_refine.specs.EachMove.{ShowsAll}
-use Rattle.qs_world_refine.proofs.EachEvent.{StepCame}
-use Rattle.qs_world_lawful.specs.GivenStep.{done_work, first_work}
-use Rattle.qs_world_runs.specs.Agrees.{MakesStep}
-use Rattle.qs_world_runs.specs.ComesFind.{CommandFinds, ComesFound}
-use Rattle.qs_world_runs.specs.Joined.{Joined, book_in}
-use Rattle.qs_world_runs.specs.JoinedPlaces.{PlacesAt}
-use Rattle.qs_world_runs.specs.Placed.{field_of}
-use Rattle.qs_world_runs.specs.PlacesEnds.{taken}
+use Rattle.qs_world_runs.specs.ComesFind.{CommandFinds}
 use Rattle.qs_world_runs.specs.PlacesFound.{StepFound}
-use Rattle.qs_world_runs.specs.PlacesSteps.{WholeFind, WholeFound}
-use Rattle.qs_world_runs.specs.PlacesWhole.{ComesWell}
+use Rattle.qs_world_runs.specs.PlacesSteps.{WholeFind}
 use Rattle.qs_world_runs.proofs.ComesFind.{comes_find, comes_later}
 use Rattle.qs_world_runs.proofs.FoundSteps.{event_came, step_found}
 use Rattle.qs_world_runs.proofs.FoundWell.{commands_well, passes_well, waits_well}

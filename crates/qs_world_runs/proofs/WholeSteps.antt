@@ -1,6 +1,5 @@
 -- What all places hold gives a whole step what it needs, and goes on through it.
-use Rattle.qs_world_runs.specs.JoinedLaws.{WholeSteps}
-use Rattle.qs_world_runs.specs.JoinedPlaces.{PlacesAt}
+use Rattle.qs_world_runs.proofs.Words.{WholeSteps, PlacesAt}
 use Rattle.qs_world_runs.proofs.CommitsFind.{commits_find}
 use Rattle.qs_world_runs.proofs.PlacesSteps.{steps_keep_places}
 

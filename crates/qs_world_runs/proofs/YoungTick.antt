@@ -1,42 +1,22 @@
 -- In the step of a tick a home aborts all that becomes as old as its limit; so what it has not decided after it is younger.
-use Rattle.std.proofs.Common.{◌≡◌, ◌≢◌, ℕ, ◌+◌, ◌-◌, ◌≤◌, ◌<◌, ◌^◌, ◌&&◌, Bool, true, false, List, [], ◌∷◌, Option, Some, None, fold, is_none, min, nat_le, refl, sym, ap, subst, ◌∙◌, arith, if◌then◌else◌}
-use Rattle.std.proofs.lemmas.Bool.Decides.{nat_tests}
-use Rattle.std.specs.BTreeMap.{is_at}
-use Rattle.std.specs.List.{list_all}
-use Rattle.std.specs.Map.{lookup}
-use Rattle.qs_base.specs.Order.{tid_cmp}
+use Rattle.qs_world_runs.proofs.Words.{◌≡◌, ◌≢◌, ℕ, ◌+◌, ◌-◌, ◌≤◌, ◌<◌, ◌^◌, Bool, true, false, List, [], ◌∷◌, Option, Some, None, fold, is_none, nat_le, refl, sym, ap, subst, ◌∙◌, arith, if◌then◌else◌, nat_tests, is_at, list_all, lookup, tid_cmp, Tid, at_exact, ticked, enter, keep_outcome, Work, change_server, with_manager, abort_old, age_rule, tick, Setting, Manager, Participant, IsStage, IsTidy, Stage, tidy_keeps, tidy_ticks, tidy_reads, Every, each_changed, of_some, Stays, and_three}
+use Rattle.std.proofs.Common.{min}
 use Rattle.qs_base.specs.declared.identifiers.Outcome.TheVariants as outcomes
 use Rattle.qs_base.specs.declared.identifiers.Outcome.{Outcome}
-use Rattle.qs_base.specs.declared.identifiers.Tid.{Tid}
 use Rattle.qs_book_journal.specs.declared.entry.Act.TheVariants as acts
-use Rattle.qs_book_laws.proofs.Alikes.{at_exact}
-use Rattle.qs_ops.specs.Timers.{ticked}
 use Rattle.qs_ops.specs.declared.answer.Cause.TheVariants as causes
 use Rattle.qs_node_servers.specs.Servers.{timers_no}
-use Rattle.qs_node_step.specs.Bringing.{enter}
-use Rattle.qs_node_step.specs.Deciding.{keep_outcome}
-use Rattle.qs_node_step.specs.State.{Work, change_server, with_manager}
-use Rattle.qs_node_step.specs.Step.{abort_old, age_rule, tick}
-use Rattle.qs_node_step.specs.declared.setting.Setting.{Setting}
 use Rattle.qs_tm.specs.Manager as tm
 use Rattle.qs_tm.specs.Manager.{is_one}
 use Rattle.qs_tm.specs.Outcomes as outcome_rules
-use Rattle.qs_tm.specs.declared.manager.Manager.{Manager}
 use Rattle.qs_tm.specs.declared.manager.Which.{Which}
 use Rattle.qs_tm.specs.declared.manager.Which.TheVariants as whiches
-use Rattle.qs_tm.specs.declared.participant.Participant.{Participant}
-use Rattle.qs_world_refine.specs.Tidy.{IsStage, IsTidy, Stage}
 use Rattle.qs_world_refine.specs.Walks.{Keeps, is_homed}
 use Rattle.qs_world_refine.proofs.SoundParts.{and_both}
-use Rattle.qs_world_refine.proofs.TidyKeeps.{tidy_keeps, tidy_ticks}
-use Rattle.qs_world_refine.proofs.TidyReads.{tidy_reads}
 use Rattle.qs_world_refine.proofs.WalkOutcomes.{decided_walk}
-use Rattle.qs_world_lawful.specs.Logs.{Every}
 use Rattle.qs_world_lawful.proofs.AgedTids.{chosen, chosen_are}
-use Rattle.qs_world_lawful.proofs.FactsKept.{each_changed}
 use Rattle.qs_world_lawful.proofs.Marks.{changed_rises}
-use Rattle.qs_world_lawful.proofs.Truths.{of_some}
-use Rattle.qs_world_runs.specs.Stays.{IsYoungAt, Stays}
+use Rattle.qs_world_runs.specs.Stays.{IsYoungAt}
 use Rattle.qs_world_runs.proofs.StaysWalk.{Both, both_keeps, both_reads, stays_still}
 
 -- what is one of these is chosen
@@ -160,11 +140,8 @@ module _ (log : List Tid) (c : Stage) (stage : IsStage c) (time : ℕ) (room : t
 
           off : (x : Bool) → nat_le age (next - b) ≡ x → nat_le age (next - b) ≡ false
           off false is = is
-          off true is = absurd (is_chosen which work.node.manager.known t its.part its.known (all (is_none its.part.outcome) its.part.engage.home (nat_le age ((after work).node.manager.ticks - its.part.begun_at)) (none_is its.part.outcome its.undecided) its.home
+          off true is = absurd (is_chosen which work.node.manager.known t its.part its.known (and_three (is_none its.part.outcome) its.part.engage.home (nat_le age ((after work).node.manager.ticks - its.part.begun_at)) (none_is its.part.outcome its.undecided) its.home
               (ap (λ (n : ℕ). nat_le age (n - its.part.begun_at)) ticks_are ∙ (ap (λ (n : ℕ). nat_le age (next - n)) its.begun ∙ is))) apart)
-            where
-              all : (p q r : Bool) → p ≡ true → q ≡ true → r ≡ true → (p && (q && r)) ≡ true
-              all p q r x y z = rw (x, y, z) refl
 
       by : (o : Option ℕ) → c.setting.age ≡ o → Both (YoungBy next) (Says next) log c stage (age_rule o (after work))
       by None is = (ticking.0, weaker Y0 (YoungBy next) (Says next) log (after work) (λ t b y. record { begun = low b time room y.0.begun; age = λ age some. absurd (cc (sym is ∙ some)) }) ticking.1)

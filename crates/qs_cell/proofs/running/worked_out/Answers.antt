@@ -1,7 +1,7 @@
 use Rattle.std.proofs.Common.{◌∙◌, ap, refl, sym}
 use Rattle.qs_cell.specs.Outcomes.{outcome_of}
 use Rattle.qs_cell.specs.Within.{running_with}
-use Rattle.qs_cell.proofs.Happening.{untouched, unplanned_by, begun_on, worked, stands_as, moments_as}
+use Rattle.qs_cell.proofs.Happening.{header_as, untouched, untouched_header, unplanned_by, begun_on, worked, stands_as, moments_as}
 use Rattle.qs_cell.proofs.running.worked_out.Goals as goal
 use Rattle.qs_cell_chronicle.specs.Carried.{seen}
 use Rattle.qs_cell_chronicle.specs.Occasions.{event_of}
@@ -44,3 +44,19 @@ returns-clause-moments g c = λ told.
     moments_as g.D.Disk.state c.carried_out.new.host.log.disk c.in-Ok.out (effects_at (g.D.Disk.byte_count c.args.host.now.log.disk.disk) c.args.host.now (event_of c.args.occasion))
     c.work_out.new.host.log c.args.host.now.log c.in-Ok.ensures.effects c.work_out.ensures.log
     (c.carried_out.ensures.moments told)
+
+pub returns-in_default-clause-header : goal.returns-in_default-clause-header
+returns-in_default-clause-header g c = λ told.
+    untouched_header c.args.host.now.log g.D.Disk.state c.work_out.new.host.log.disk (ap (λ log. log.disk) c.work_out.ensures.log) (c.requires.stands told)
+
+pub returns-then-any_stops_before-clause-header : goal.returns-then-any_stops_before-clause-header
+returns-then-any_stops_before-clause-header g c = λ told.
+    untouched_header c.args.host.now.log g.D.Disk.state c.work_out.new.host.log.disk (ap (λ log. log.disk) c.work_out.ensures.log) (c.requires.stands told)
+
+pub returns-then-is_err-clause-header : goal.returns-then-is_err-clause-header
+returns-then-is_err-clause-header g c = λ told.
+    untouched_header c.args.host.now.log g.D.Disk.state c.work_out.new.host.log.disk (ap (λ log. log.disk) c.work_out.ensures.log) (c.requires.stands told)
+
+pub returns-clause-header : goal.returns-clause-header
+returns-clause-header g c = λ told.
+    header_as g.D.Disk.state c.carried_out.new.host.log.disk c.work_out.new.host.log c.args.host.now.log c.work_out.ensures.log (c.carried_out.ensures.header told)

@@ -1,6 +1,6 @@
 use Rattle.std.proofs.Common.{ap}
 use Rattle.qs_node_host.specs.Host.{log_after}
-use Rattle.qs_node_host.proofs.Carrying.{unwritten, appended_as, unended_forced, after_is, after_moments, batch_waits}
+use Rattle.qs_node_host.proofs.Carrying.{unwritten, unwritten_header, appended_as, unended_forced, after_is, after_moments, header_moments, batch_waits}
 use Rattle.qs_node_host.proofs.appending.append_and_force.Goals as goal
 
 pub returns-in_err-append_all-clause-moments : goal.returns-in_err-append_all-clause-moments
@@ -40,3 +40,17 @@ returns-in_err-force_if-clause-batch g c = λ _.
     batch_waits c.args.out.now c.args.log.now c.append_all.new.log
     (appended_as c.args.log.now c.append_all.new.log c.as_slice.result.now _ c.as_slice.ensures c.in_ok-append_all.ensures.log)
     c.in_err-force_if.ensures.due c.in_err-force_if.ensures.some
+
+pub returns-in_err-append_all-clause-header : goal.returns-in_err-append_all-clause-header
+returns-in_err-append_all-clause-header g c = λ told.
+    unwritten_header (g.D.Disk.state c.args.log.now.disk) (g.D.Disk.state c.append_all.new.log.disk) (ap g.D.Disk.state c.append_all.ensures.disk) (c.requires.stands told).still
+
+pub returns-in_err-force_if-clause-header : goal.returns-in_err-force_if-clause-header
+returns-in_err-force_if-clause-header g c = λ told.
+    header_moments (g.D.Disk.state c.args.log.now.disk) (g.D.Disk.state c.append_all.new.log.disk) (g.D.Disk.state c.force_if.new.log.disk)
+    (ap g.D.Disk.state c.append_all.ensures.disk) (c.force_if.ensures.header told)
+
+pub returns-clause-header : goal.returns-clause-header
+returns-clause-header g c = λ told.
+    header_moments (g.D.Disk.state c.args.log.now.disk) (g.D.Disk.state c.append_all.new.log.disk) (g.D.Disk.state c.force_if.new.log.disk)
+    (ap g.D.Disk.state c.append_all.ensures.disk) (c.force_if.ensures.header told)

@@ -2,7 +2,7 @@ use Rattle.std.proofs.Common.{rules, ◌∙◌, ◌^◌, sym, subst}
 use Rattle.qs_cell.specs.Logged.{HasLog}
 use Rattle.qs_disk.specs.Disk.{EachImage}
 use Rattle.qs_disk.specs.Moments.{Keeps}
-use Rattle.qs_log_start.specs.Incarnation.{IsTouched}
+use Rattle.qs_log_start.specs.Incarnation.{IsTouched, MayLeaveUnraised}
 use Rattle.qs_log.specs.Image.{IsDamaged}
 use Rattle.qs_top.proofs.Ran.{over_ran}
 use Rattle.qs_top.proofs.Unopened.{over_closed}
@@ -16,7 +16,9 @@ returns-in-Err g c = record {
       (c.nothing_made.ensures.status ∙ c.not_opened.ensures)
       (λ told. subst (λ disk. Keeps (IsTouched (g.D.Disk.state disk)) (g.D.Disk.state disk) (g.D.Disk.state c.into_inner.result)) (search rules) (subst (λ disk. Keeps (IsTouched (g.D.Disk.state c.new.result.disk)) (g.D.Disk.state c.new.result.disk) (g.D.Disk.state disk)) (sym c.into_inner.ensures) (c.in-Err.ensures.moments told)))
       (λ told at is. subst (λ disk. IsDamaged (2 ^ 61) (g.D.Disk.state disk).content at) (search rules) (c.in-Err.ensures.damaged told at is))
-      (λ is. search rules) (search rules);
+      (λ is. search rules)
+      (λ told is. subst (λ disk. MayLeaveUnraised (g.D.Disk.state disk) (g.D.Disk.state c.into_inner.result)) (search rules) (subst (λ disk. MayLeaveUnraised (g.D.Disk.state c.new.result.disk) (g.D.Disk.state disk)) (sym c.into_inner.ensures) (c.in-Err.ensures.kept told is)))
+      (search rules);
 }
 
 -- src/whole.rt:43:1

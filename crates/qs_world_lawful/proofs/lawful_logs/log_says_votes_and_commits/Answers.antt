@@ -1,5 +1,4 @@
-use Rattle.qs_book_machine.specs.Lawful.{book_after}
-use Rattle.qs_book_machine.specs.Opening.{opening}
+use Rattle.qs_world_lawful.proofs.Words.{book_after, opening}
 use Rattle.qs_world_lawful.proofs.LogLaws.{inv_is}
 use Rattle.qs_world_lawful.proofs.SaidEntries.{commit_enters, learning_enters, plain_enters_at, vote_enters_at}
 use Rattle.qs_world_lawful.proofs.SaidHeld.{learners_held, pending_held}

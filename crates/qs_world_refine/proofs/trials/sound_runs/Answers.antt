@@ -1,6 +1,6 @@
+use Rattle.qs_world_refine.proofs.Words.{refl}
 use Rattle.qs_engage.specs.Nodes.{all_nodes}
 use Rattle.qs_tm.specs.Members.{all_servers}
-use Rattle.std.proofs.Common.{refl}
 use Rattle.qs_world_refine.proofs.trials.sound_runs.Goals as goal
 
 pub returns : goal.returns

@@ -7,6 +7,9 @@ use Rattle.qs_world_rounds.proofs.seating.start.Goals as goal
 pub returns-in-Err-clause-damaged : goal.returns-in-Err-clause-damaged
 returns-in-Err-clause-damaged g c = λ told at is. absurd (cc is)
 
+pub returns-in-Err-clause-kept : goal.returns-in-Err-clause-kept
+returns-in-Err-clause-kept g c = λ told is. absurd (cc is)
+
 pub returns-in-Ok-start-clause-moments : goal.returns-in-Ok-start-clause-moments
 returns-in-Ok-start-clause-moments g c = λ told.
     let s = (g.D.Disk.state c.args.disk.disk) in

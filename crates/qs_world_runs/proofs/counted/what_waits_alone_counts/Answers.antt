@@ -1,4 +1,4 @@
-use Rattle.qs_world_runs.specs.AlongRun.{AlongRun}
+use Rattle.qs_world_runs.proofs.Words.{AlongRun}
 use Rattle.qs_world_runs.proofs.TalliedMoves.{counts_alone, moves_counted, opens_counted}
 use Rattle.qs_world_runs.proofs.counted.what_waits_alone_counts.Goals as goal
 

@@ -1,4 +1,4 @@
-use Rattle.qs_world_runs.specs.JoinedPlaces.{PlacesAt}
+use Rattle.qs_world_runs.proofs.Words.{PlacesAt}
 use Rattle.qs_world_runs.proofs.JoinedGiven.{counts_have_room}
 use Rattle.qs_world_runs.proofs.LaterOwned.{asked_of_run, owned_of_run}
 use Rattle.qs_world_runs.proofs.RoomsMoves.{rooms_moved, rooms_start}

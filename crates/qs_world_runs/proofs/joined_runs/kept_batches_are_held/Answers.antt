@@ -1,4 +1,4 @@
-use Rattle.qs_world_runs.specs.AlongRun.{AlongRun}
+use Rattle.qs_world_runs.proofs.Words.{AlongRun}
 use Rattle.qs_world_runs.proofs.CutHeld.{cut_held}
 use Rattle.qs_world_runs.proofs.RunsGoOn.{runs_go}
 use Rattle.qs_world_runs.proofs.joined_runs.kept_batches_are_held.Goals as goal

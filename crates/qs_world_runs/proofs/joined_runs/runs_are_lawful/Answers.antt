@@ -1,4 +1,4 @@
-use Rattle.qs_world_runs.specs.AlongRun.{AlongRun}
+use Rattle.qs_world_runs.proofs.Words.{AlongRun}
 use Rattle.qs_world_runs.proofs.JoinedMoves.{each_move_joined}
 use Rattle.qs_world_runs.proofs.JoinedOver.{each_opens_joined, each_run_joined, each_run_lawful}
 use Rattle.qs_world_runs.proofs.RunsGoOn.{runs_go}

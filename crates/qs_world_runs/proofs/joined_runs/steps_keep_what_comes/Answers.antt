@@ -1,4 +1,4 @@
-use Rattle.qs_world_runs.specs.JoinedPlaces.{PlacesAt}
+use Rattle.qs_world_runs.proofs.Words.{PlacesAt}
 use Rattle.qs_world_runs.proofs.ClientsGo.{steps_aside, steps_clients, steps_owned, steps_scripts}
 use Rattle.qs_world_runs.proofs.JoinedWays.{steps_ways}
 use Rattle.qs_world_runs.proofs.OwingSteps.{steps_owing}

@@ -1,4 +1,4 @@
-use Rattle.qs_world_runs.specs.JoinedPlaces.{PlacesAt}
+use Rattle.qs_world_runs.proofs.Words.{PlacesAt}
 use Rattle.qs_world_runs.proofs.CoversMoves.{moves_keep_covers, opens_covers}
 use Rattle.qs_world_runs.proofs.on_record.last_votes_cover.Goals as goal
 

@@ -1,4 +1,4 @@
-use Rattle.qs_world_runs.specs.JoinedPlaces.{PlacesAt}
+use Rattle.qs_world_runs.proofs.Words.{PlacesAt}
 use Rattle.qs_world_runs.proofs.IssuedSteps.{each_issue_waits}
 use Rattle.qs_world_runs.proofs.placed.issues_wait.Goals as goal
 

@@ -1,7 +1,8 @@
 use Rattle.qs_cell.specs.Restart.{in_round_as}
 use Rattle.qs_world.specs.Histories.{opened_with}
+use Rattle.qs_cell.proofs.Reopening.{round_begins}
 use Rattle.qs_cell.proofs.Standing.{sound_seen}
 use Rattle.qs_cell.proofs.cell.NodeCell.begin_round.Goals as goal
 
 pub invariant_of-self : goal.invariant_of-self
-invariant_of-self g c = sound_seen g.D.Disk.told g.D.Disk.state (opened_with c.self.inside.first c.self.inside.found) in_round_as c.self.inside.state c.begin_round.new.self c.begin_round.ensures c.self.invariant
+invariant_of-self g c = sound_seen g.D.Disk.told g.D.Disk.state (opened_with c.self.inside.first c.self.inside.found) in_round_as c.self.inside.state c.begin_round.new.self round_begins c.begin_round.ensures c.self.invariant

@@ -12,6 +12,12 @@ returns-in-Err-begin-clause-moments g c = λ told.
 pub returns-in-Err-begin-clause-damaged : goal.returns-in-Err-begin-clause-damaged
 returns-in-Err-begin-clause-damaged g c = λ told at is. absurd (cc (sym c.in-Err-begin.ensures.why ∙ is))
 
+pub returns-in-Err-clause-kept : goal.returns-in-Err-clause-kept
+returns-in-Err-clause-kept g c = λ told is. c.in-Err.ensures.kept told
+
+pub returns-in-Err-begin-clause-kept : goal.returns-in-Err-begin-clause-kept
+returns-in-Err-begin-clause-kept g c = λ told is. absurd (cc (sym c.in-Err-begin.ensures.why ∙ is))
+
 pub returns-clause-started : goal.returns-clause-started
 returns-clause-started g c =
     started_of g.D.Disk.told g.D.Disk.state c.args.alloc c.args.disk.disk c.args.setting c.args.ends.items c.args.plan c.in-Ok.log c.in-Ok-begin.started.running
@@ -25,4 +31,4 @@ returns-clause-moments g c = λ told.
 pub invariant_of-result : goal.invariant_of-result
 invariant_of-result g c =
     sound_started g.D.Disk.told g.D.Disk.state c.args.alloc c.args.setting c.args.plan.crashes c.args.plan.points c.in-Ok.log c.in-Ok-begin.started.running
-    c.in-Ok-begin.started.found c.in-Ok-begin.ensures.begins c.in-Ok-begin.ensures.found c.in-Ok.ensures.waiting c.requires.batch c.requires.keep c.in-Ok.ensures.stands
+    c.in-Ok-begin.started.found c.in-Ok-begin.ensures.begins c.in-Ok-begin.ensures.found c.in-Ok.ensures.waiting c.requires.batch c.requires.keep c.in-Ok.ensures.stands c.in-Ok.ensures.below

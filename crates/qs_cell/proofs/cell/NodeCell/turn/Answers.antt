@@ -3,20 +3,21 @@ use Rattle.qs_cell.proofs.Logging.{logged_made, made_on}
 use Rattle.qs_world.specs.Histories.{opened_with}
 use Rattle.qs_cell.specs.Joined.{HaveSameRings}
 use Rattle.qs_cell.proofs.Rings.{rings_as, rings_on, rings_left}
+use Rattle.qs_cell.proofs.Reopening.{rounds_stay, within_made}
 use Rattle.qs_cell.proofs.Standing.{sound_seen, sound_after}
 use Rattle.qs_cell.proofs.Turning.{turn_none, turn_made, turn_broken, on_err_all, on_ok_map}
 use Rattle.qs_cell.proofs.cell.NodeCell.turn.Goals as goal
 
 pub invariant_of-self : goal.invariant_of-self
-invariant_of-self g c = sound_seen g.D.Disk.told g.D.Disk.state (opened_with c.self.inside.first c.self.inside.found) (λ s. s) c.self.inside.state c.make_room.new.self c.make_room.ensures.same c.self.invariant
+invariant_of-self g c = sound_seen g.D.Disk.told g.D.Disk.state (opened_with c.self.inside.first c.self.inside.found) (λ s. s) c.self.inside.state c.make_room.new.self rounds_stay c.make_room.ensures.same c.self.invariant
 
 pub invariant_of-self-in_err-occasion : goal.invariant_of-self-in_err-occasion
 invariant_of-self-in_err-occasion g c =
-    sound_seen g.D.Disk.told g.D.Disk.state (opened_with c.self.inside.first c.self.inside.found) (λ s. s) c.self.inside.state c.make_room.new.self c.make_room.ensures.same c.self.invariant
+    sound_seen g.D.Disk.told g.D.Disk.state (opened_with c.self.inside.first c.self.inside.found) (λ s. s) c.self.inside.state c.make_room.new.self rounds_stay c.make_room.ensures.same c.self.invariant
 
 pub invariant_of-self-in_default : goal.invariant_of-self-in_default
 invariant_of-self-in_default g c =
-    sound_seen g.D.Disk.told g.D.Disk.state (opened_with c.self.inside.first c.self.inside.found) (λ s. s) c.self.inside.state c.make_room.new.self c.make_room.ensures.same c.self.invariant
+    sound_seen g.D.Disk.told g.D.Disk.state (opened_with c.self.inside.first c.self.inside.found) (λ s. s) c.self.inside.state c.make_room.new.self rounds_stay c.make_room.ensures.same c.self.invariant
 
 pub returns-in_default-clause-turns : goal.returns-in_default-clause-turns
 returns-in_default-clause-turns g c =
@@ -25,18 +26,20 @@ returns-in_default-clause-turns g c =
 
 pub event-answers-requires : goal.event-answers-requires
 event-answers-requires g c = record {
-  stands = (sound_seen g.D.Disk.told g.D.Disk.state (opened_with c.self.inside.first c.self.inside.found) (λ s. s) c.self.inside.state c.make_room.new.self c.make_room.ensures.same c.self.invariant).stands;
+  stands = (sound_seen g.D.Disk.told g.D.Disk.state (opened_with c.self.inside.first c.self.inside.found) (λ s. s) c.self.inside.state c.make_room.new.self rounds_stay c.make_room.ensures.same c.self.invariant).stands;
   room = c.in_ok-make_room.ensures.room;
 }
 
 pub invariant_of-self-2 : goal.invariant_of-self-2
 invariant_of-self-2 g c =
-    let ready = sound_seen g.D.Disk.told g.D.Disk.state (opened_with c.self.inside.first c.self.inside.found) (λ s. s) c.self.inside.state c.make_room.new.self c.make_room.ensures.same c.self.invariant in
+    let ready = sound_seen g.D.Disk.told g.D.Disk.state (opened_with c.self.inside.first c.self.inside.found) (λ s. s) c.self.inside.state c.make_room.new.self rounds_stay c.make_room.ensures.same c.self.invariant in
     sound_after g.D.Disk.told g.D.Disk.state (opened_with c.self.inside.first c.self.inside.found) c.make_room.new.self c.event-answers.new.self c.event-answers.ensures.stands
     (made_on g.D.Disk.told g.D.Disk.state g.D.Disk.fault_count g.D.Disk.byte_count (opened_with c.self.inside.first c.self.inside.found) c.in-Some.occasion c.make_room.new.self c.event-answers.new.self
     c.event-answers.result c.event-answers.ensures.makes ready.goes_on)
     (logged_made g.D.Disk.told g.D.Disk.state g.D.Disk.fault_count g.D.Disk.byte_count (opened_with c.self.inside.first c.self.inside.found) c.in-Some.occasion c.make_room.new.self c.event-answers.new.self
     c.event-answers.result c.event-answers.ensures.makes ready.goes_on ready.logged)
+    (within_made g.D.Disk.told g.D.Disk.state g.D.Disk.fault_count g.D.Disk.byte_count c.in-Some.occasion c.make_room.new.self c.event-answers.new.self
+    c.event-answers.result c.event-answers.ensures.makes ready.stands ready.within)
     c.event-answers.ensures.setting ready
 
 pub returns-clause-turns : goal.returns-clause-turns

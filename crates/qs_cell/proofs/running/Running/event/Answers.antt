@@ -3,7 +3,7 @@ use Rattle.qs_book_journal.specs.declared.entry.CrashCause.TheVariants as causes
 use Rattle.qs_cell.specs.Cell.{out_of}
 use Rattle.qs_cell.specs.Outcomes.{outcome_of}
 use Rattle.qs_cell.specs.Within.{running_with}
-use Rattle.qs_cell.proofs.Happening.{untouched}
+use Rattle.qs_cell.proofs.Happening.{untouched, untouched_header}
 use Rattle.qs_cell.proofs.Rooms.{moments_roomy, outcome_roomy, replaced_roomy}
 use Rattle.qs_cell.proofs.running.Running.event.Goals as goal
 
@@ -14,6 +14,12 @@ returns-in-Ok-Some-clause-moments g c = λ told.
 pub returns-in-Err-clause-moments : goal.returns-in-Err-clause-moments
 returns-in-Err-clause-moments g c = λ told.
     untouched (out_of (g.D.Disk.byte_count c.args.self.now.host.log.disk.disk) c.args.occasion c.args.self.now) c.args.self.now.host.log g.D.Disk.state c.args.self.now.host.log.disk refl (c.requires.stands told)
+
+pub returns-in-Ok-Some-clause-header : goal.returns-in-Ok-Some-clause-header
+returns-in-Ok-Some-clause-header g c = λ told. untouched_header c.args.self.now.host.log g.D.Disk.state c.args.self.now.host.log.disk refl (c.requires.stands told)
+
+pub returns-in-Err-clause-header : goal.returns-in-Err-clause-header
+returns-in-Err-clause-header g c = λ told. untouched_header c.args.self.now.host.log g.D.Disk.state c.args.self.now.host.log.disk refl (c.requires.stands told)
 
 -- ---- room
 

@@ -9,7 +9,7 @@ use Rattle.qs_cell.proofs.state.CellState.event.Goals as goal
 pub returns-in-Whole-clause-makes : goal.returns-in-Whole-clause-makes
 returns-in-Whole-clause-makes g c =
     makes_by g.D.Disk.told g.D.Disk.state g.D.Disk.fault_count g.D.Disk.byte_count c.args.occasion c.args.self.now (states.Up c.event-fate.new.self) c.in-Up.running c.event-fate.new.self
-    (fates.Whole c.in-Whole.answers) c.in-Whole.answers c.in-Up.is c.in-Whole.ensures.outcome refl refl c.in-Whole.ensures.stands c.event-fate.ensures.moments c.event-fate.ensures.size
+    (fates.Whole c.in-Whole.answers) c.in-Whole.answers c.in-Up.is c.in-Whole.ensures.outcome refl refl c.in-Whole.ensures.stands c.event-fate.ensures.moments c.event-fate.ensures.header c.event-fate.ensures.size
 
 pub returns-in-Whole-clause-stands : goal.returns-in-Whole-clause-stands
 returns-in-Whole-clause-stands g c = λ told.
@@ -19,21 +19,21 @@ returns-in-Whole-clause-stands g c = λ told.
 pub returns-in-Followed-clause-makes : goal.returns-in-Followed-clause-makes
 returns-in-Followed-clause-makes g c =
     makes_by g.D.Disk.told g.D.Disk.state g.D.Disk.fault_count g.D.Disk.byte_count c.args.occasion c.args.self.now c.stop.new.self c.in-Up.running c.event-fate.new.self
-    (fates.Followed c.in-Followed.answers) c.in-Followed.answers c.in-Up.is c.in-Followed.ensures.outcome c.stop.ensures refl c.in-Followed.ensures.stands c.event-fate.ensures.moments c.event-fate.ensures.size
+    (fates.Followed c.in-Followed.answers) c.in-Followed.answers c.in-Up.is c.in-Followed.ensures.outcome c.stop.ensures refl c.in-Followed.ensures.stands c.event-fate.ensures.moments c.event-fate.ensures.header c.event-fate.ensures.size
 
 pub returns-in-Replaced-clause-makes : goal.returns-in-Replaced-clause-makes
 returns-in-Replaced-clause-makes g c =
     let left = left_down c.event-fate.result c.in-Replaced.cause false c.event-fate.new.self (inl (c.in-Replaced.is, refl)) in
     makes_by g.D.Disk.told g.D.Disk.state g.D.Disk.fault_count g.D.Disk.byte_count c.args.occasion c.args.self.now c.stop-in-Replaced.new.self c.in-Up.running c.event-fate.new.self
     c.event-fate.result c.new-in-Replaced.result c.in-Up.is c.event-fate.ensures.outcome (c.stop-in-Replaced.ensures ∙ sym left.0) (c.new-in-Replaced.ensures ∙ sym left.1)
-    c.event-fate.ensures.stands c.event-fate.ensures.moments c.event-fate.ensures.size
+    c.event-fate.ensures.stands c.event-fate.ensures.moments c.event-fate.ensures.header c.event-fate.ensures.size
 
 pub returns-in-CutOff-clause-makes : goal.returns-in-CutOff-clause-makes
 returns-in-CutOff-clause-makes g c =
     let left = left_down c.event-fate.result c.in-CutOff.cause c.in-CutOff.is_full c.event-fate.new.self (inr c.in-CutOff.is) in
     makes_by g.D.Disk.told g.D.Disk.state g.D.Disk.fault_count g.D.Disk.byte_count c.args.occasion c.args.self.now c.stop-in-CutOff.new.self c.in-Up.running c.event-fate.new.self
     c.event-fate.result c.new-in-CutOff.result c.in-Up.is c.event-fate.ensures.outcome (c.stop-in-CutOff.ensures ∙ sym left.0) (c.new-in-CutOff.ensures ∙ sym left.1)
-    c.event-fate.ensures.stands c.event-fate.ensures.moments c.event-fate.ensures.size
+    c.event-fate.ensures.stands c.event-fate.ensures.moments c.event-fate.ensures.header c.event-fate.ensures.size
 
 -- ---- room
 

@@ -9,7 +9,7 @@ returns-clause-starts g c =
     subst (λ node. StartsAgain g.D.Disk.told g.D.Disk.state g.D.Disk.fault_count g.D.Disk.byte_count c.args.alloc node c.after_restart.result.0 c.after_restart.result.1) (sym c.in-Down.is)
     (restarts_of g.D.Disk.told g.D.Disk.state g.D.Disk.fault_count g.D.Disk.byte_count c.args.alloc c.in-Down.stopped c.restart.result c.after_restart.result.0 c.after_restart.result.1
     c.restart.ensures.restarted c.after_restart.ensures.state c.after_restart.ensures.answer c.restart.ensures.reopened c.restart.ensures.found
-    c.restart.ensures.moments c.restart.ensures.stands c.restart.ensures.touched c.restart.ensures.goes c.restart.ensures.size)
+    c.restart.ensures.moments c.restart.ensures.stands c.restart.ensures.touched c.restart.ensures.damaged c.restart.ensures.goes c.restart.ensures.size)
 
 pub returns-clause-stands : goal.returns-clause-stands
 returns-clause-stands g c = λ told.

@@ -7,7 +7,8 @@ use Rattle.qs_log_start.specs.Incarnation.{IsLeftOrRaised, IsReopened, HasOneOf}
 use Rattle.qs_node_host.specs.Roomy.{HasRoomyLog}
 use Rattle.qs_log.specs.Log.{Stands, records_of}
 use Rattle.qs_cell.proofs.Rooms.{begun_roomy, touched_roomy}
-use Rattle.qs_cell.specs.Restart.{restarted_disk}
+use Rattle.qs_cell.proofs.Reopening.{begun_sound}
+use Rattle.qs_cell.specs.Restart.{IfDamaged, restarted_disk}
 use Rattle.qs_cell.specs.Roomy.{RisesRoomy}
 use Rattle.qs_cell.specs.declared.stopped.Restarted.{Restarted}
 use Rattle.qs_cell.proofs.Standing.{if_up, found_all}
@@ -60,3 +61,11 @@ returns-in-Err-clause-left g c = λ told keep here.
 pub returns-in-Err-clause-rooms : goal.returns-in-Err-clause-rooms
 returns-in-Err-clause-rooms g c = λ told keep set here.
     subst (λ (r : Restarted _ g.row.F.Denot g.row.X.Denot). RisesRoomy keep (g.D.Disk.byte_count c.args.self.disk.disk) r) (sym c.refused.ensures) tt
+
+pub returns-in-Ok-clause-damaged : goal.returns-in-Ok-clause-damaged
+returns-in-Ok-clause-damaged g c = λ told.
+    begun_sound g.D.Disk.fault_count c.args.alloc c.in-Ok.log _ _ c.begin_incarnation.result (g.D.Disk.state c.args.self.disk.disk) c.begin_incarnation.ensures.begins
+
+pub returns-in-Err-clause-damaged : goal.returns-in-Err-clause-damaged
+returns-in-Err-clause-damaged g c = λ told.
+    subst (λ (r : Restarted _ g.row.F.Denot g.row.X.Denot). IfDamaged r (g.D.Disk.state c.args.self.disk.disk)) (sym c.refused.ensures) (c.in-Err.ensures.damaged told)

@@ -1,6 +1,6 @@
 use Rattle.std.proofs.Common.{length, ap, arith}
 use Rattle.qs_disk.specs.Cells.{CellsValue}
-use Rattle.qs_disk.proofs.Images.{within_written, torn_from}
+use Rattle.qs_disk.proofs.Images.{within_written, torn_from, matches_still}
 use Rattle.qs_disk.proofs.cells.Cells.write.Goals as goal
 
 pub invariant_of-self : goal.invariant_of-self
@@ -11,3 +11,7 @@ invariant_of-self c =
 pub returns-clause-images : goal.returns-clause-images
 returns-clause-images c = λ image m.
     rw (← c.self.view_is) (torn_from c.args.at (length c.args.bytes.now) c.self.inside.stable.items c.self.inside.loose.items image (omega (arith, c.self.invariant.flags, c.self.invariant.bytes)) (omega (arith, c.self.invariant.bytes, ap (λ (v : CellsValue). length v.content) c.self.view_is)) (rw c.mark.ensures at m))
+
+pub returns-clause-keeps : goal.returns-clause-keeps
+returns-clause-keeps c = λ image m.
+    rw c.mark.ensures (matches_still c.args.at (length c.args.bytes.now) c.self.inside.stable.items c.self.inside.loose.items image (omega (arith, c.self.invariant.flags, c.self.invariant.bytes)) (omega (arith, c.self.invariant.bytes, ap (λ (v : CellsValue). length v.content) c.self.view_is)) (rw (← c.self.view_is) at m))

@@ -5,6 +5,9 @@ use Rattle.qs_slot.specs.declared.value.SlotValue.{SlotValue}
 use Rattle.qs_log.specs.Image.{area_start}
 use Rattle.qs_log.specs.Log.{LogValue, Stands, IsOldOrWhole}
 use Rattle.qs_log.proofs.Holding.{view_of, seen_view, some_waits, waiting_short, gate_within, ready_kept, kept_same, kept_forced, old_stays, none_forced, forced_seen, forced_stands, all_same, some_wait}
+use Rattle.qs_log.proofs.Areas.{area_within}
+use Rattle.qs_log.proofs.Forcing.{header_stays}
+use Rattle.qs_slot.specs.Slot.{SayTheSame}
 use Rattle.qs_log.proofs.log.Log.force.Goals as goal
 
 pub returns-then-is_empty-clause-moments : goal.returns-then-is_empty-clause-moments
@@ -117,3 +120,22 @@ returns-clause-idle g c = λ none.
     let seen = seen_view c.args.self.now c.self.inside.disk c.self.inside.slots c.self.inside.records c.self.inside.forced c.self.inside.used c.self.view_is in
     let some = some_waits c.self.inside.batch c.is_empty.result c.is_empty.ensures c.if-is_empty.false in
     absurd (some_wait c.self.inside.batch c.args.self.now.waiting some (c.self.invariant.gathered ∙ sym seen.waiting_are) none)
+
+pub returns-then-is_empty-clause-header : goal.returns-then-is_empty-clause-header
+returns-then-is_empty-clause-header g c = λ told. header_stays (g.D.Disk.state c.args.self.now.disk) (c.requires told).still
+
+pub returns-in_err-write_batch-clause-header : goal.returns-in_err-write_batch-clause-header
+returns-in_err-write_batch-clause-header g c = λ told.
+    let begins = c.area_start.ensures ∙ ap (λ (n : ℕ). area_start n c.value.result.generation) c.size-size.ensures.value
+    ∙ ap (λ (v : SlotValue). area_start (g.D.Disk.byte_count c.self.inside.disk) v.generation) c.value.ensures in
+    let within = area_within (g.D.Disk.byte_count c.self.inside.disk) c.self.inside.slots.present.value.generation (omega (arith, c.self.invariant.allowed.least)) in
+    subst (λ (v : LogValue g.row.D.Denot). Keeps (SayTheSame (g.D.Disk.state v.disk).content) (g.D.Disk.state v.disk) (g.D.Disk.state c.write_batch.new.disk)) c.self.view_is
+    (c.write_batch.ensures.header told (omega (arith, begins, within.least)))
+
+pub returns-clause-header : goal.returns-clause-header
+returns-clause-header g c = λ told.
+    let begins = c.area_start.ensures ∙ ap (λ (n : ℕ). area_start n c.value.result.generation) c.size-size.ensures.value
+    ∙ ap (λ (v : SlotValue). area_start (g.D.Disk.byte_count c.self.inside.disk) v.generation) c.value.ensures in
+    let within = area_within (g.D.Disk.byte_count c.self.inside.disk) c.self.inside.slots.present.value.generation (omega (arith, c.self.invariant.allowed.least)) in
+    subst (λ (v : LogValue g.row.D.Denot). Keeps (SayTheSame (g.D.Disk.state v.disk).content) (g.D.Disk.state v.disk) (g.D.Disk.state c.write_batch.new.disk)) c.self.view_is
+    (c.write_batch.ensures.header told (omega (arith, begins, within.least)))

@@ -1,10 +1,11 @@
-use Rattle.std.proofs.Common.{◌≡◌, ◌<◌, ◌+◌, ◌-◌, ◌^◌, refl, sym, ◌∙◌, ap, subst, arith}
+use Rattle.std.proofs.Common.{◌≡◌, ◌<◌, ◌+◌, ◌-◌, ◌^◌, refl, sym, ◌∙◌, ap, subst, arith, ℕ, Ok}
+use Rattle.qs_disk.specs.Disk.{MayLeave}
 use Rattle.qs_disk.specs.Moments.{Keeps}
-use Rattle.qs_slot.specs.Slot.{is_format}
-use Rattle.qs_slot.specs.Turning.{turned}
+use Rattle.qs_slot.specs.Slot.{is_format, StandBelow, slots_in}
+use Rattle.qs_slot.specs.Turning.{SaysAsBefore, turned}
 use Rattle.qs_slot.specs.declared.value.SlotValue.{SlotValue}
 use Rattle.qs_log.specs.Log.{LogValue, Stands, IsOldOrRaised, raised_of, top_of}
-use Rattle.qs_log.proofs.Raising.{raising, raised_stands, enough}
+use Rattle.qs_log.proofs.Raising.{raising, raised_stands, enough, left_if, raising_below}
 use Rattle.qs_log.proofs.Holding.{view_of, kept_slots, kept_raised}
 use Rattle.qs_log.proofs.log.Log.raise.Goals as goal
 
@@ -49,6 +50,11 @@ returns-in_err-write_next-clause-moments g c = λ told.
     subst (λ (v : LogValue g.row.D.Denot). Keeps (IsOldOrRaised v) (g.D.Disk.state v.disk) (g.D.Disk.state c.write_next.new.disk)) c.self.view_is
     (raising (view_of c.self.inside.disk c.self.inside.slots c.self.inside.records c.self.inside.forced c.self.inside.used) (record c.value-value.result { inc = c.value-value.result.inc + 1 }) (g.D.Disk.state c.self.inside.disk) (g.D.Disk.state c.write_next.new.disk) here (enough (g.D.Disk.state c.self.inside.disk) (g.D.Disk.byte_count c.self.inside.disk) (g.met.D.Disk.sized c.self.inside.disk told) c.self.invariant.allowed) (ap (λ (v : SlotValue). record v { inc = v.inc + 1 }) c.value-value.ensures) (c.write_next.ensures.moments told))
 
+pub returns-in_err-write_next-clause-kept : goal.returns-in_err-write_next-clause-kept
+returns-in_err-write_next-clause-kept g c = λ told.
+    let left = subst (λ (v : LogValue g.row.D.Denot). MayLeave (SaysAsBefore (g.D.Disk.state v.disk).content) (g.D.Disk.state c.write_next.new.disk).now) c.self.view_is (c.in_err-write_next.ensures.kept told) in
+    left_if (MayLeave (SaysAsBefore (g.D.Disk.state c.args.self.now.disk).content) (g.D.Disk.state c.write_next.new.disk).now) _ left
+
 pub invariant_of-self-2 : goal.invariant_of-self-2
 invariant_of-self-2 g c =
     let turns : c.write_next.new.self.present ≡ raised_of c.self.inside.slots.present = c.in_ok-write_next.ensures.turned ∙ ap (λ (v : SlotValue). turned c.self.inside.slots.present (record v { inc = v.inc + 1 })) c.value-value.ensures in
@@ -76,3 +82,17 @@ returns-clause-stands g c = λ told.
     raised_stands (view_of c.self.inside.disk c.self.inside.slots c.self.inside.records c.self.inside.forced c.self.inside.used) (view_of c.write_next.new.disk c.write_next.new.self c.self.inside.records c.self.inside.forced c.self.inside.used)
     (g.D.Disk.state c.self.inside.disk) (g.D.Disk.state c.write_next.new.disk) here (enough (g.D.Disk.state c.self.inside.disk) (g.D.Disk.byte_count c.self.inside.disk) (g.met.D.Disk.sized c.self.inside.disk told) c.self.invariant.allowed) turns refl refl
     (c.in_ok-write_next.ensures.still told) (c.in_ok-write_next.ensures.holds told) (c.in_ok-write_next.ensures.behind told)
+
+pub returns-in_err-write_next-clause-below : goal.returns-in_err-write_next-clause-below
+returns-in_err-write_next-clause-below g c = λ told.
+    subst (λ (v : LogValue g.row.D.Denot). (limit : ℕ) → slots_in limit (g.D.Disk.state v.disk).content ≡ Ok v.slots.present → top_of v.slots.present + 1 < limit
+    → Keeps (StandBelow limit) (g.D.Disk.state v.disk) (g.D.Disk.state c.write_next.new.disk)) c.self.view_is
+    (λ limit said fits. raising_below (view_of c.self.inside.disk c.self.inside.slots c.self.inside.records c.self.inside.forced c.self.inside.used) (record c.value-value.result { inc = c.value-value.result.inc + 1 })
+    (g.D.Disk.state c.self.inside.disk) (g.D.Disk.state c.write_next.new.disk) limit said fits (ap (λ (v : SlotValue). record v { inc = v.inc + 1 }) c.value-value.ensures) (c.write_next.ensures.moments told))
+
+pub returns-clause-below : goal.returns-clause-below
+returns-clause-below g c = λ told.
+    subst (λ (v : LogValue g.row.D.Denot). (limit : ℕ) → slots_in limit (g.D.Disk.state v.disk).content ≡ Ok v.slots.present → top_of v.slots.present + 1 < limit
+    → Keeps (StandBelow limit) (g.D.Disk.state v.disk) (g.D.Disk.state c.write_next.new.disk)) c.self.view_is
+    (λ limit said fits. raising_below (view_of c.self.inside.disk c.self.inside.slots c.self.inside.records c.self.inside.forced c.self.inside.used) (record c.value-value.result { inc = c.value-value.result.inc + 1 })
+    (g.D.Disk.state c.self.inside.disk) (g.D.Disk.state c.write_next.new.disk) limit said fits (ap (λ (v : SlotValue). record v { inc = v.inc + 1 }) c.value-value.ensures) (c.write_next.ensures.moments told))

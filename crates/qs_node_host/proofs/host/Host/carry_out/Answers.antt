@@ -1,5 +1,5 @@
 use Rattle.std.proofs.Common.{◌∙◌, Err, ap, sym}
-use Rattle.qs_node_host.proofs.Carrying.{host_moments, host_with}
+use Rattle.qs_node_host.proofs.Carrying.{host_header, host_moments, host_with}
 use Rattle.qs_node_host.proofs.Rooms.{err_gives, host_finds, host_lacks, host_left, host_stays}
 use Rattle.qs_node_host.proofs.host.Host.carry_out.Goals as goal
 
@@ -40,3 +40,13 @@ returns-clause-roomy g c = λ keep worked.
     host_stays keep g.D.Disk.byte_count c.args.out.now c.args.self.now c.self.inside.node c.deref_mut.result.now.log
     (ap (λ logged. host_with c.self.inside.node logged.log) c.deref_mut.ensures.value ∙ c.self.view_is) c.accept.new.self c.log_out.new.logged.log c.accept.ensures
     c.in_ok-log_out.ensures.log worked
+
+pub returns-in_err-log_out-clause-header : goal.returns-in_err-log_out-clause-header
+returns-in_err-log_out-clause-header g c = λ told.
+    host_header c.args.self.now c.self.inside.node c.deref_mut.result.now.log g.D.Disk.state (g.D.Disk.state c.log_out.new.logged.log.disk)
+    (ap (λ logged. host_with c.self.inside.node logged.log) c.deref_mut.ensures.value ∙ c.self.view_is) (c.log_out.ensures.header told)
+
+pub returns-clause-header : goal.returns-clause-header
+returns-clause-header g c = λ told.
+    host_header c.args.self.now c.self.inside.node c.deref_mut.result.now.log g.D.Disk.state (g.D.Disk.state c.log_out.new.logged.log.disk)
+    (ap (λ logged. host_with c.self.inside.node logged.log) c.deref_mut.ensures.value ∙ c.self.view_is) (c.log_out.ensures.header told)
