@@ -1,5 +1,5 @@
 -- What a restart makes of what the log of its node holds: pending again, or committed once.
-use Rattle.qs_book_laws.proofs.Words.{◌≡◌, ◌⊎◌, ℕ, Bool, true, false, List, [], ◌∷◌, ◌++◌, ◌==◌, ◌||◌, Option, Some, None, inl, inr, refl, sym, ap, subst, ◌∙◌, fold, flat_map, length, nat_le, list_any, list_all, fold-append, lookup, is_at, same_tid, Tid, same_tid-true, same_tid-self, Op, Found, TableValue, share_of, kept, Share, Kept, TransactionValue, BookValue, find_transaction, crossed_in, cell_of_transaction, NodeValue, record_of, voter, voter_cmp, without_record, changes_at, keep_found}
+use Rattle.qs_book_laws.proofs.Words.{◌≡◌, ◌⊎◌, ℕ, Bool, true, false, List, [], ◌∷◌, ◌++◌, ◌==◌, ◌||◌, Option, Some, None, inl, inr, refl, sym, ap, subst, ◌∙◌, fold, flat_map, length, nat_le, list_any, list_all, fold-append, lookup, is_at, same_tid, Tid, same_tid-true, same_tid-self, Op, Found, TableValue, share_of, kept, Share, KeptChanges, TransactionValue, BookValue, find_transaction, crossed_in, cell_of_transaction, NodeValue, record_of, voter, voter_cmp, without_record, changes_at, keep_found}
 use Rattle.qs_book_laws.proofs.Words.{is_kept_at, is_found_as, is_kept, is_among, without_records, member_at, OnRecord, Voter}
 use Rattle.qs_book_machine.specs.declared.transaction.Cell.TheVariants as cells
 use Rattle.qs_book_machine.specs.Restart.{may_be_lost}
@@ -83,7 +83,7 @@ module _ (here : ℕ) (mid : BookValue) (s : ℕ) (done : List Tid) (tid : Tid) 
       → (share_of (fold kept t (keep_found here mid s done f)) tid).changes ≡ logged
   keep_more f true is t had = rw is (by (same_tid f.tid tid) refl had)
     where
-      one : Kept
+      one : KeptChanges
       one = record { tid = f.tid; changes = changes_at here mid s f.tid }
 
       share : Share

@@ -1,6 +1,6 @@
 -- What a restart makes of the changes of a committed transaction at files and audit of its node: kept, or committed once and
 -- gone; and what was gone stays so.
-use Rattle.qs_book_laws.proofs.Words.{◌≡◌, ◌⊎◌, inl, inr, ℕ, Bool, true, false, not, List, [], ◌∷◌, ◌==◌, ◌&&◌, ◌||◌, Option, Some, None, refl, sym, ap, subst, ◌∙◌, fold, nat_lt, if◌then◌else◌, slice_get, flat_map, is_some, length, fold-append, lookup, is_at, member_cmp, same_tid, Member, Tid, same_tid-true, Op, Act, Entry, Found, TableValue, share_of, kept, applied, Share, Kept, TransactionValue, is_empty, is_covering, part_of, BookValue, find_transaction, cell_of_transaction, crossed_in, broken}
+use Rattle.qs_book_laws.proofs.Words.{◌≡◌, ◌⊎◌, inl, inr, ℕ, Bool, true, false, not, List, [], ◌∷◌, ◌==◌, ◌&&◌, ◌||◌, Option, Some, None, refl, sym, ap, subst, ◌∙◌, fold, nat_lt, if◌then◌else◌, slice_get, flat_map, is_some, length, fold-append, lookup, is_at, member_cmp, same_tid, Member, Tid, same_tid-true, Op, Act, Entry, Found, TableValue, share_of, kept, applied, Share, KeptChanges, TransactionValue, is_empty, is_covering, part_of, BookValue, find_transaction, cell_of_transaction, crossed_in, broken}
 use Rattle.qs_book_laws.proofs.Words.{effect_act, effect, NodeValue, pending_at, record_of, changes_of, voter, voter_cmp, without_record, restart, reopened, restarted_node, put_new_votes, new_vote, is_new_vote, new_votes, new_votes_at, with_votes, record_at, changes_at, is_among, member_at, without_records, keep_found, is_kept_at, broken_restart, vote_as_stopped, OnRecord, Voter, IsKept, Applies, IsCommitted, crossed_at, keeps_contents, has_vote}
 use Rattle.qs_book_journal.specs.declared.entry.Act.TheVariants as acts
 use Rattle.qs_book_machine.specs.Transaction.{was_crossed, is_before, was_in_commit}
@@ -112,7 +112,7 @@ module _ (here : ℕ) (mid : BookValue) (s : ℕ) (done : List Tid) (tid : Tid)
   keeps_none : (found : Found) (t : TableValue) → (share_of t tid).changes ≡ [] → (share_of (fold kept t (keep_found here mid s done found)) tid).changes ≡ []
   keeps_none found t nothing = by (is_kept_at here mid s done found) refl
     where
-      one : Kept
+      one : KeptChanges
       one = record { tid = found.tid; changes = changes_at here mid s found.tid }
 
       share : Share

@@ -1,5 +1,5 @@
 -- What a server holds after a restart, and after a tick, is what the machine has there.
-use Rattle.qs_book_laws.proofs.Words.{◌≡◌, ℕ, Bool, true, false, List, [], ◌∷◌, Some, None, refl, sym, ap, subst, ◌∙◌, fold, if◌then◌else◌, slice_get, Tid, TableValue, kept, restarted, Kept, Entry, Found, BookValue, tick_node, broken, effect, NodeValue, restarted_node, reopened, without_records, put_new_votes, with_votes, new_votes, broken_restart, Reopened}
+use Rattle.qs_book_laws.proofs.Words.{◌≡◌, ℕ, Bool, true, false, List, [], ◌∷◌, Some, None, refl, sym, ap, subst, ◌∙◌, fold, if◌then◌else◌, slice_get, Tid, TableValue, kept, restarted, KeptChanges, Entry, Found, BookValue, tick_node, broken, effect, NodeValue, restarted_node, reopened, without_records, put_new_votes, with_votes, new_votes, broken_restart, Reopened}
 use Rattle.qs_ops.specs.Server.{ServerValue, is_logged, cleared}
 use Rattle.qs_ops.specs.Timers.{TimersValue, ticked}
 use Rattle.qs_ops.specs.declared.server.ServerKind.{ServerKind}
@@ -34,7 +34,7 @@ clearing_stands left pend done node server h = cleared_as server.kind left pend 
 
 -- ---- what it keeps
 
-keeps_each : (keeps : List Kept) (server : ServerValue) → is_logged server.kind ≡ true → (keep_each server keeps).table ≡ fold kept server.table keeps
+keeps_each : (keeps : List KeptChanges) (server : ServerValue) → is_logged server.kind ≡ true → (keep_each server keeps).table ≡ fold kept server.table keeps
 keeps_each [] server h = refl
 keeps_each (k ∷ keeps) server h = ap (λ (s : ServerValue). (keep_each s keeps).table) one ∙ keeps_each keeps next h
   where

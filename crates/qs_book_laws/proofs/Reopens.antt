@@ -1,5 +1,5 @@
 -- What a restart does to the committed files and notes of its node.
-use Rattle.qs_book_laws.proofs.Words.{◌≡◌, ◌⊎◌, ℕ, [], ◌∷◌, ◌++◌, true, false, Bool, ◌&&◌, not, if◌then◌else◌, List, Option, Some, None, fold, inl, inr, refl, sym, ap, subst, ◌∙◌, slice_get, is_some, flat_map, nat_lt, All, AllByRecursion, list_all, option_map, is_at, Outcome, Cause, Tid, Op, Found, TableValue, apply_change, apply_note, restarted, kept, applied, Kept as KeptShare, TransactionValue, decided_at, with_learnt, found_at, BookValue, find_transaction, with_node, with_transaction, decide}
+use Rattle.qs_book_laws.proofs.Words.{◌≡◌, ◌⊎◌, ℕ, [], ◌∷◌, ◌++◌, true, false, Bool, ◌&&◌, not, if◌then◌else◌, List, Option, Some, None, fold, inl, inr, refl, sym, ap, subst, ◌∙◌, slice_get, is_some, flat_map, nat_lt, All, AllByRecursion, list_all, option_map, is_at, Outcome, Cause, Tid, Op, Found, TableValue, apply_change, apply_note, restarted, kept, applied, KeptChanges as KeptShare, TransactionValue, decided_at, with_learnt, found_at, BookValue, find_transaction, with_node, with_transaction, decide}
 use Rattle.qs_book_laws.proofs.Words.{inc_at, NodeValue, without_record, record_of, pending_at, changes_of, voter, voter_cmp, is_among, member_at, record_at, changes_at, is_kept, is_found_commit, broken_restart, commit_found, vote_found, abort_begun, up_to, begun_at, restarted_node, reopened, restart, with_votes, new_votes, new_votes_at, is_open_here, learn_found, decide_found, begun_tid, without_records, count_of as pending_of, OnRecord, Reopened, Voter, IsCommitted, TakesCommitted}
 use Rattle.qs_book_laws.proofs.Words.{LeavesCommitted}
 use Rattle.std.proofs.lemmas.List.Elements.{All-cons, All-nil}

@@ -1,6 +1,6 @@
 -- What the tables of files and audit hold, and what a log holds, has one entry for each key at every time.
 use Rattle.qs_book_laws.proofs.Words.{◌≡◌, ◌⊎◌, ℕ, Bool, true, false, List, [], ◌∷◌, ◌==◌, ◌&&◌, Option, Some, None, inl, inr, refl, sym, ap, subst, ◌∙◌, fold, map, if◌then◌else◌, slice_get-map, slice_get, slice_set, flat_map, option_map, is_at, tid_cmp, Member, Outcome, Tid, Op, Reply, Vote, tid_total, Act, Begin, Issue, Serve, Ask, Counted, Decide, Ending, Learn, Loan, Yield, Tick, Crash, Restart, Entry, Found, TableValue, served, released, committed, restarted, applied, kept, share_of}
-use Rattle.qs_book_laws.proofs.Words.{no_table, timer_served, timers_ended, Kept, TransactionValue, is_crossed, standing_request, requests_at, issued, Request, RequestNo, BookValue, find_transaction, changed_at, with_owner, with_transaction, with_waiting, with_crossing, crosses, serve_node, server_serve, crossed_serve, is_done, vote_node, crossed_in, learn_node, doubts_after, hear, answer, waiting_of, inc_at, end_node, tick_node, crash_node, loan_to, give_back_from, pending_in, link_to}
+use Rattle.qs_book_laws.proofs.Words.{no_table, timer_served, timers_ended, KeptChanges, TransactionValue, is_crossed, standing_request, requests_at, issued, Request, RequestNo, BookValue, find_transaction, changed_at, with_owner, with_transaction, with_waiting, with_crossing, crosses, serve_node, server_serve, crossed_serve, is_done, vote_node, crossed_in, learn_node, doubts_after, hear, answer, waiting_of, inc_at, end_node, tick_node, crash_node, loan_to, give_back_from, pending_in, link_to}
 use Rattle.qs_book_laws.proofs.Words.{borrower_at, effect_act, effect, NodeValue, with_table, crossed_node, crossed_server, crossed_names, without_record, pending_at, voter, voter_cmp, opened_node, put_record, put_of, note_of, keep_pending, opening, is_found, restarted_node, reopened, without_records, with_votes, new_votes, put_new_votes, Opened, Pending, OnRecord, Owner, Reopened, Voter, IsCoherent}
 use Rattle.qs_base.specs.declared.identifiers.Outcome.TheVariants as outcomes
 use Rattle.qs_ops.specs.declared.vote.Vote.TheVariants as votes
@@ -42,11 +42,11 @@ served_tidy tid op reply table t = put_rises tid_cmp tid_total tid (after_serve 
 vote_tidy : (tid : Tid) (voted : Bool) → KeepsTidy (λ table. with_vote table tid voted)
 vote_tidy tid voted table t = put_rises tid_cmp tid_total tid (record (share_of table tid) { voted = voted }) table.shares t
 
-all_kept : (keeps : List Kept) (table : TableValue) → IsTidyTable table → IsTidyTable (fold kept table keeps)
+all_kept : (keeps : List KeptChanges) (table : TableValue) → IsTidyTable table → IsTidyTable (fold kept table keeps)
 all_kept [] table t = t
 all_kept (k ∷ keeps) table t = all_kept keeps (kept table k) (put_rises tid_cmp tid_total k.tid _ table.shares t)
 
-restarted_tidy : (table : TableValue) (changes : List Op) (keeps : List Kept) → IsTidyTable (restarted table changes keeps)
+restarted_tidy : (table : TableValue) (changes : List Op) (keeps : List KeptChanges) → IsTidyTable (restarted table changes keeps)
 restarted_tidy table changes keeps = all_kept keeps (record (applied table changes) { shares = [] }) tt
 
 with_table_tidy : (s : ℕ) (f : TableValue → TableValue) → KeepsTidy f → (v : NodeValue) → IsTidy v → IsTidy (with_table s f v)

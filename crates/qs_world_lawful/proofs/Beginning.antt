@@ -1,5 +1,5 @@
 -- The rule by which a client begins a transaction, but for its answer.
-use Rattle.qs_world_lawful.proofs.Words.{◌≡◌, ◌⊎◌, inl, inr, ℕ, ◌+◌, ◌≤◌, ◌<◌, true, List, [], Option, Some, None, refl, sym, ap, subst, ◌∙◌, arith, le_refl, true≢false, slice_get, is_some, find, is_at, tid_cmp, ClientNo, NodeNo, Tid, tid_exact, tid_itself, lookup_put, lookup_put_apart, changed_at_here, TransactionValue, begun, BookValue, find_transaction, ticks_at, is_fresh, begun_participant, Participant, Begun, Decided, enter, put_label, label_at, has_label, Work, with_manager, face_of, IsEmpty}
+use Rattle.qs_world_lawful.proofs.Words.{◌≡◌, ◌⊎◌, inl, inr, ℕ, ◌+◌, ◌≤◌, ◌<◌, true, List, [], Option, Some, None, refl, sym, ap, subst, ◌∙◌, arith, le_refl, true≢false, slice_get, is_some, find, is_at, tid_cmp, ClientNo, NodeNo, Tid, tid_exact, tid_itself, lookup_put, lookup_put_apart, changed_at_here, TransactionValue, begun, BookValue, find_transaction, ticks_at, is_fresh, begun_participant, Participant, KeptLabel, Decided, enter, put_label, label_at, has_label, Work, with_manager, face_of, IsEmpty}
 use Rattle.qs_world_lawful.proofs.Words.{Holds, HoldsTid, HoldsAt, HoldsClients, IsOwner, IsAsking, HasEnded, HoldsWork, book_at, HoldsServers, Delivery, share_of, is_seen, seen_in, HoldsWaits, HoldsWaitsAt, IsWithin, waiting_ops, is_idle, some_same, false≢true}
 use Rattle.qs_book_journal.specs.declared.entry.Act.TheVariants as acts
 use Rattle.qs_book_machine.specs.Nodes as machine
@@ -21,7 +21,7 @@ module _ (stamp : ℕ) (before : BookValue) (work : Work) (label : List ℕ) (cl
   abbrev tid : Tid
   tid = tm.next_tid work.node.manager
 
-  abbrev entry_label : Begun
+  abbrev entry_label : KeptLabel
   entry_label = record { label = label; tid = Some tid; owner = Some client }
 
   -- the work with the transaction begun
@@ -107,13 +107,13 @@ module _ (stamp : ℕ) (before : BookValue) (work : Work) (label : List ℕ) (cl
   owner_on : (t : Tid) (c : ClientNo) → IsOwner book t c → IsOwner new_book t c
   owner_on t c o = record { tx = o.tx; found = found_on t o.tx o.found; owns = o.owns }
 
-  labels_on : (l : List ℕ) (b : Begun) (t : Tid) (c : ClientNo) → label_at l new ≡ Some b → b.tid ≡ Some t → b.owner ≡ Some c → IsOwner new_book t c
+  labels_on : (l : List ℕ) (b : KeptLabel) (t : Tid) (c : ClientNo) → label_at l new ≡ Some b → b.tid ≡ Some t → b.owner ≡ Some c → IsOwner new_book t c
   labels_on l b t c is of owned = by (label_more l entry_label node.kept.now.labels b is)
     where
       mine : entry_label ≡ b → IsOwner new_book t c
       mine same =
-          subst (λ (u : Tid). IsOwner new_book u c) (some_same (ap (λ (x : Begun). x.tid) same ∙ of))
-          (record { tx = tx; found = found_here; owns = ap (λ (x : Begun). x.owner) same ∙ owned })
+          subst (λ (u : Tid). IsOwner new_book u c) (some_same (ap (λ (x : KeptLabel). x.tid) same ∙ of))
+          (record { tx = tx; found = found_here; owns = ap (λ (x : KeptLabel). x.owner) same ∙ owned })
 
       by : (find (has_label l) node.kept.now.labels ≡ Some b) ⊎ (entry_label ≡ b) → IsOwner new_book t c
       by (inl was) = owner_on t c (h.holds.clients.labels l b t c was of owned)

@@ -1,5 +1,5 @@
 -- A transaction begins: the rule as a whole, but for its answer.
-use Rattle.qs_world_lawful.proofs.Words.{◌≡◌, ◌⊎◌, inl, inr, ℕ, Bool, true, false, List, [], ◌∷◌, ◌++◌, Some, None, zero, suc, refl, sym, ap, subst, arith, length, replicate, slice_index_or, if◌then◌else◌, find, filter, Class, ClientNo, Member, NodeNo, ServerNo, Tid, class_of, begun, no_peer, peer_of, new_engage, new_participant, begun_participant, member_of, MemberPart, Participant, Begun, has_label, is_loan_here, is_given_back, IsEmpty, HoldsMember, HoldsTid, some_same, zero_le}
+use Rattle.qs_world_lawful.proofs.Words.{◌≡◌, ◌⊎◌, inl, inr, ℕ, Bool, true, false, List, [], ◌∷◌, ◌++◌, Some, None, zero, suc, refl, sym, ap, subst, arith, length, replicate, slice_index_or, if◌then◌else◌, find, filter, Class, ClientNo, Member, NodeNo, ServerNo, Tid, class_of, begun, no_peer, peer_of, new_engage, new_participant, begun_participant, member_of, MemberPart, Participant, KeptLabel, has_label, is_loan_here, is_given_back, IsEmpty, HoldsMember, HoldsTid, some_same, zero_le}
 use Rattle.qs_base.specs.declared.identifiers.Class.TheVariants as classes
 use Rattle.qs_tm.specs.Members as rules
 use Rattle.qs_world_lawful.specs.Face.{Face}
@@ -58,7 +58,7 @@ begun_tid here inc tid label client ticks own_ticks face none = record {
 -- ---- labels
 
 -- a label that is found is found with one more
-pub label_stays : (label : List ℕ) (b : Begun) (labels : List Begun) (was : Begun) → find (has_label label) labels ≡ Some was → find (has_label label) (labels ++ b ∷ []) ≡ Some was
+pub label_stays : (label : List ℕ) (b : KeptLabel) (labels : List KeptLabel) (was : KeptLabel) → find (has_label label) labels ≡ Some was → find (has_label label) (labels ++ b ∷ []) ≡ Some was
 label_stays label b [] was is = absurd (cc is)
 label_stays label b (x ∷ labels) was is = by (has_label label x) refl (label_stays label b labels was)
   where
@@ -67,7 +67,7 @@ label_stays label b (x ∷ labels) was is = by (has_label label x) refl (label_s
     by false so more = rw so (more (rw so at is))
 
 -- and what is found with one more was there, or is that one
-pub label_more : (label : List ℕ) (b : Begun) (labels : List Begun) (now : Begun) → find (has_label label) (labels ++ b ∷ []) ≡ Some now → (find (has_label label) labels ≡ Some now) ⊎ (b ≡ now)
+pub label_more : (label : List ℕ) (b : KeptLabel) (labels : List KeptLabel) (now : KeptLabel) → find (has_label label) (labels ++ b ∷ []) ≡ Some now → (find (has_label label) labels ≡ Some now) ⊎ (b ≡ now)
 label_more label b [] now is = by (has_label label b) is
   where
     by : (t : Bool) → (if t then Some b else None) ≡ Some now → (None ≡ Some now) ⊎ (b ≡ now)

@@ -1,5 +1,5 @@
 -- What clients command, as it comes and while it waits: what stands before stands after.
-use Rattle.qs_world_lawful.proofs.Words.{◌≡◌, ℕ, ◌==◌, ◌+◌, true, Option, Some, None, refl, sym, ap, ◌∙◌, arith, if◌then◌else◌, nat_tests, is_at, lookup, is_some, slice_get, ClientNo, Member, Tid, uncovered, listed, Command, ScriptLine, first_untaken, last_taken, take_first, Begun, Lent, BookValue, find_transaction, with_transaction, TransactionValue, asked_at, changed_none, lookup_changed, tid_cmp, Op, client_server, kept_outcome, become_asked, borrower_command, is_aborted, is_void, lent_command}
+use Rattle.qs_world_lawful.proofs.Words.{◌≡◌, ℕ, ◌==◌, ◌+◌, true, Option, Some, None, refl, sym, ap, ◌∙◌, arith, if◌then◌else◌, nat_tests, is_at, lookup, is_some, slice_get, ClientNo, Member, Tid, uncovered, listed, Command, ScriptLine, first_untaken, last_taken, take_first, KeptLabel, Lent, BookValue, find_transaction, with_transaction, TransactionValue, asked_at, changed_none, lookup_changed, tid_cmp, Op, client_server, kept_outcome, become_asked, borrower_command, is_aborted, is_void, lent_command}
 use Rattle.qs_world_lawful.proofs.Words.{loan_command, take, take_command, yield, enter, ask, begin_or_refuse, decided_answer, enter_ask, open_command, owner_command, refuse_begin, request_as, request_command, with_issued, next_number, label_at, put_label, Work, client_cmp, with_doings, with_kept, with_manager, borrower_waits, command_came, is_owner, labelled, obey, owner_waits, wait_command, wait_on, waits_at, with_command, Issued, OpenCommand, BeginFault, Participant, InRun, book_at}
 use Rattle.qs_base.specs.declared.identifiers.Outcome.TheVariants as outcomes
 use Rattle.qs_book_journal.specs.declared.entry.Act.TheVariants as acts
@@ -124,7 +124,7 @@ module _ (stamp : ℕ) (before : BookValue) (run : InRun before) where
   goes_owner client (Some tid) command work = goes_elim stamp before run (kept_outcome tid work.node) work (open_command client tid command work) (λ decided. answer client (decided_answer decided command) work) (λ none. goes_open client tid command work)
       (λ decided is. goes_answer stamp before run client (decided_answer decided command) work)
 
-  goes_labelled : (client : ClientNo) (begun : Begun) (command : Command) (work : Work) → On work (labelled client begun command work)
+  goes_labelled : (client : ClientNo) (begun : KeptLabel) (command : Command) (work : Work) → On work (labelled client begun command work)
   goes_labelled client begun command work = goes_if stamp before run (is_owner client begun.owner) work (owner_command client begun.tid command work) (elim begun.tid [ None ↦ work | Some tid ↦ borrower_command client tid command work ])
       (λ is. goes_owner client begun.tid command work) (λ is. goes_elim stamp before run begun.tid work work (λ tid. borrower_command client tid command work) (λ none. goes_self stamp before run work) (λ tid at. goes_borrower client tid command work))
 
@@ -171,7 +171,7 @@ module _ (stamp : ℕ) (before : BookValue) (run : InRun before) where
   goes_borrower_waits client None None command work = goes_self stamp before run work
   goes_borrower_waits client None (Some tid) command work = goes_borrower client tid command work
 
-  goes_waits_at : (client : ClientNo) (command : OpenCommand) (begun : Begun) (work : Work) → On work (waits_at client command begun work)
+  goes_waits_at : (client : ClientNo) (command : OpenCommand) (begun : KeptLabel) (work : Work) → On work (waits_at client command begun work)
   goes_waits_at client command begun work = goes_if stamp before run (is_owner client begun.owner) work (owner_waits client begun.tid command.line.command work) (borrower_waits client command.issued begun.tid command.line.command work)
       (λ is. goes_owner_waits client begun.tid command.line.command work) (λ is. goes_borrower_waits client command.issued begun.tid command.line.command work)
 

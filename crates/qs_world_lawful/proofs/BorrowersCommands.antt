@@ -1,5 +1,5 @@
 -- A command of a client that does not own the transaction comes and is obeyed: as a whole.
-use Rattle.qs_world_lawful.proofs.Words.{◌≡◌, ℕ, ◌==◌, Bool, true, false, List, [], ◌∷◌, Option, Some, None, refl, sym, ap, subst, ◌∙◌, nat_lt, true≢false, tied_itself, nat_cmp_total, not, ◌&&◌, is_some, if◌then◌else◌, filter, list_any, lookup, is_at, same_tid, ClientNo, Member, Tid, same_tid-self, Op, Command, ScriptLine, lookup_put, TransactionValue, is_commit, BookValue, find_transaction, Participant, last_taken, Begun, Lent, borrower_command, is_void, is_aborted, request_command, label_at}
+use Rattle.qs_world_lawful.proofs.Words.{◌≡◌, ℕ, ◌==◌, Bool, true, false, List, [], ◌∷◌, Option, Some, None, refl, sym, ap, subst, ◌∙◌, nat_lt, true≢false, tied_itself, nat_cmp_total, not, ◌&&◌, is_some, if◌then◌else◌, filter, list_any, lookup, is_at, same_tid, ClientNo, Member, Tid, same_tid-self, Op, Command, ScriptLine, lookup_put, TransactionValue, is_commit, BookValue, find_transaction, Participant, last_taken, KeptLabel, Lent, borrower_command, is_void, is_aborted, request_command, label_at}
 use Rattle.qs_world_lawful.proofs.Words.{Work, client_cmp, is_owner, labelled, obey, with_command, command_came, OpenCommand, is_loan_in, is_loan_here, IsBehind, HoldsWork, book_at, not-true, and_parts, or_last, eqb-self, some_same}
 use Rattle.qs_ipc.specs.Queue as queues
 use Rattle.qs_book_journal.specs.declared.script_line.Command.TheVariants as commands
@@ -41,7 +41,7 @@ module _ (client : ClientNo) (tid : Tid) (inc : ℕ) where
       by false this more = past (is_loan_in tid loan) refl (stands loan) refl (more (later_is client tid loan last loans this is) free in_inc)
 
 module _ (stamp : ℕ) (before : BookValue) (work : Work) (h : HoldsWork stamp before work) (line : ScriptLine) (free : lookup (is_at (client_cmp line.client)) work.node.commands ≡ None) (behind : IsBehind (book_at stamp before work) line.client line.line)
-    (begun : Begun) (known : label_at line.label work.node ≡ Some begun) (tid : Tid) (of : begun.tid ≡ Some tid) (other : is_owner line.client begun.owner ≡ false) (small : nat_lt line.client.0 224 ≡ true) where
+    (begun : KeptLabel) (known : label_at line.label work.node ≡ Some begun) (tid : Tid) (of : begun.tid ≡ Some tid) (other : is_owner line.client begun.owner ≡ false) (small : nat_lt line.client.0 224 ≡ true) where
   abbrev open_work : Work
   open_work = with_command line work
 
@@ -58,13 +58,13 @@ module _ (stamp : ℕ) (before : BookValue) (work : Work) (h : HoldsWork stamp b
   its : (c : OpenCommand) → lookup (is_at (client_cmp line.client)) open_work.node.commands ≡ Some c → c ≡ command
   its c is = some_same (sym is ∙ waits)
 
-  its_begun : (c : OpenCommand) (b : Begun) → lookup (is_at (client_cmp line.client)) open_work.node.commands ≡ Some c → label_at c.line.label open_work.node ≡ Some b → b ≡ begun
+  its_begun : (c : OpenCommand) (b : KeptLabel) → lookup (is_at (client_cmp line.client)) open_work.node.commands ≡ Some c → label_at c.line.label open_work.node ≡ Some b → b ≡ begun
   its_begun c b is labels = some_same (sym (subst (λ (x : OpenCommand). label_at x.line.label open_work.node ≡ Some b) (its c is) labels) ∙ known)
 
   -- by its label it is not the owner's command
   by_label_at : (c : Command) → HoldsWork stamp before (borrower_command line.client tid c open_work)
       → HoldsWork stamp before (elim (label_at line.label work.node) [ None ↦ open_work | Some b ↦ labelled line.client b c open_work ])
-  by_label_at c held = subst (λ (o : Option Begun). HoldsWork stamp before (elim o [ None ↦ open_work | Some b ↦ labelled line.client b c open_work ])) (sym known)
+  by_label_at c held = subst (λ (o : Option KeptLabel). HoldsWork stamp before (elim o [ None ↦ open_work | Some b ↦ labelled line.client b c open_work ])) (sym known)
       (as_other (is_owner line.client begun.owner) other _ (subst (λ (o : Option Tid). HoldsWork stamp before (elim o [ None ↦ open_work | Some t ↦ borrower_command line.client t c open_work ])) (sym of) held))
     where
       as_other : (b : Bool) → b ≡ false → (owners : Work) → HoldsWork stamp before (elim begun.tid [ None ↦ open_work | Some t ↦ borrower_command line.client t c open_work ])
@@ -77,8 +77,8 @@ module _ (stamp : ℕ) (before : BookValue) (work : Work) (h : HoldsWork stamp b
       → HoldsWork stamp before (request_command line.client tid member op (with_command line work))) where
     by_its : (c : Command) → line.command ≡ c → HoldsWork stamp before (borrower_command line.client tid c open_work)
     by_its c is = by_borrower_command stamp before open_work came line.client small
-        (λ o b t is_open labels of_b owned. absurd (true≢false (sym (ap (is_owner line.client) (sym (ap (λ (x : Begun). x.owner) (its_begun o b is_open labels)) ∙ owned) ∙ eqb-self line.client.0) ∙ other)))
-        (λ o b t member op last is_open labels of_b unissued requested taken stood valid. at_tid t (some_same (sym of ∙ (sym (ap (λ (x : Begun). x.tid) (its_begun o b is_open labels)) ∙ of_b))) member op last (sym (ap (λ (x : OpenCommand). x.line.command) (its o is_open)) ∙ requested) taken stood valid)
+        (λ o b t is_open labels of_b owned. absurd (true≢false (sym (ap (is_owner line.client) (sym (ap (λ (x : KeptLabel). x.owner) (its_begun o b is_open labels)) ∙ owned) ∙ eqb-self line.client.0) ∙ other)))
+        (λ o b t member op last is_open labels of_b unissued requested taken stood valid. at_tid t (some_same (sym of ∙ (sym (ap (λ (x : KeptLabel). x.tid) (its_begun o b is_open labels)) ∙ of_b))) member op last (sym (ap (λ (x : OpenCommand). x.line.command) (its o is_open)) ∙ requested) taken stood valid)
         command waits begun known other refl tid of c is
       where
         at_tid : (t : Tid) → tid ≡ t → (member : Member) (op : Op) (last : Lent) → line.command ≡ commands.Request member op → last_taken line.client t work.node.kept.now.loans ≡ Some last → last.yielded ≡ false → is_void t last work.node ≡ false

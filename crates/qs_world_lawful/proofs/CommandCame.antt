@@ -1,5 +1,5 @@
 -- A command comes, whatever it is; and one that stayed open is looked at again. The rules as wholes.
-use Rattle.qs_world_lawful.proofs.Words.{◌≡◌, ℕ, Bool, true, false, Option, Some, None, refl, sym, ap, ◌∙◌, ClientNo, Member, Tid, Command, ScriptLine, Begun, BookValue, Op, label_at, Work, answer_waiting, command_came, is_owner, wait_on, waiting_clients, with_command, HoldsWork, AtEach, MayRequest, MayWait, eqb-true}
+use Rattle.qs_world_lawful.proofs.Words.{◌≡◌, ℕ, Bool, true, false, Option, Some, None, refl, sym, ap, ◌∙◌, ClientNo, Member, Tid, Command, ScriptLine, KeptLabel, BookValue, Op, label_at, Work, answer_waiting, command_came, is_owner, wait_on, waiting_clients, with_command, HoldsWork, AtEach, MayRequest, MayWait, eqb-true}
 use Rattle.qs_book_journal.specs.declared.script_line.Command.TheVariants as commands
 use Rattle.qs_world_lawful.specs.GivenStep.{MayCommand}
 use Rattle.qs_world_lawful.proofs.BorrowersCommands.{by_borrower_came}
@@ -21,7 +21,7 @@ module _ (stamp : ℕ) (before : BookValue) (work : Work) (h : HoldsWork stamp b
   request_then : (tid : Tid) (member : Member) (op : Op) → MayRequest work tid member op → MayRequest (with_command line work) tid member op
   request_then tid member op k = record { fits = k.fits; in_run = k.in_run; slot = k.slot }
 
-  owned_came : (begun : Begun) → label_at line.label work.node ≡ Some begun → (tid : Tid) → begun.tid ≡ Some tid → begun.owner ≡ Some line.client → (c : Command) → line.command ≡ c → (line.command ≡ commands.Begin → ⊥) → HoldsWork stamp before (command_came line work)
+  owned_came : (begun : KeptLabel) → label_at line.label work.node ≡ Some begun → (tid : Tid) → begun.tid ≡ Some tid → begun.owner ≡ Some line.client → (c : Command) → line.command ≡ c → (line.command ≡ commands.Begin → ⊥) → HoldsWork stamp before (command_came line work)
   owned_came begun known tid of owned commands.Begin is other = absurd (other is)
   owned_came begun known tid of owned commands.Commit is other = by_commit_came stamp before work h line may.free may.behind begun known tid of owned (may.of_now begun tid known of owned) (may.undecided begun tid known of owned) is
   owned_came begun known tid of owned commands.Abort is other = by_abort_came stamp before work h line may.free may.behind begun known tid of owned (may.of_now begun tid known of owned) (may.undecided begun tid known of owned) is (files_held stamp before work h)
@@ -34,7 +34,7 @@ module _ (stamp : ℕ) (before : BookValue) (work : Work) (h : HoldsWork stamp b
       by_owners_any stamp before (with_command line work) (came stamp before work h line may.free may.behind) line.client (record { line = line; issued = None }) (waits stamp before work h line may.free may.behind) (λ e. no_commit member op (sym is ∙ e))
       tid member op (request_then tid member op (may.requests begun tid member op known of is)) its.0 its.1 begun known of owned now.0 now.1 its.2)
 
-  lent_came : (begun : Begun) → label_at line.label work.node ≡ Some begun → (tid : Tid) → begun.tid ≡ Some tid → is_owner line.client begun.owner ≡ false → (line.command ≡ commands.Begin → ⊥) → HoldsWork stamp before (command_came line work)
+  lent_came : (begun : KeptLabel) → label_at line.label work.node ≡ Some begun → (tid : Tid) → begun.tid ≡ Some tid → is_owner line.client begun.owner ≡ false → (line.command ≡ commands.Begin → ⊥) → HoldsWork stamp before (command_came line work)
   lent_came begun known tid of other no_begin =
       by_borrower_came stamp before work h line may.free may.behind begun known tid of other may.small
       (λ member op last is taken stood valid. let lent = may.lent begun tid member op known of other is (record { loan = last; taken = taken; stands = stood; valid = valid }) in
@@ -42,7 +42,7 @@ module _ (stamp : ℕ) (before : BookValue) (work : Work) (h : HoldsWork stamp b
       tid member op (request_then tid member op (may.requests begun tid member op known of is)) lent.part lent.known may.small lent.open_still last taken stood valid)
       no_begin
 
-  labelled_came : (line.command ≡ commands.Begin → ⊥) → (o : Option Begun) → label_at line.label work.node ≡ o → HoldsWork stamp before (command_came line work)
+  labelled_came : (line.command ≡ commands.Begin → ⊥) → (o : Option KeptLabel) → label_at line.label work.node ≡ o → HoldsWork stamp before (command_came line work)
   labelled_came no_begin None known = by_unmet_came stamp before work h line may.free may.behind no_begin known
   labelled_came no_begin (Some begun) known = by begun.tid refl
     where

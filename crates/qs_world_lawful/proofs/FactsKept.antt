@@ -1,5 +1,5 @@
 -- What holds of a node by itself through each thing that a rule does to it.
-use Rattle.qs_world_lawful.proofs.Words.{◌≡◌, ◌⊎◌, inl, inr, ℕ, Bool, true, false, List, [], ◌∷◌, length, Option, Some, None, refl, sym, ap, subst, ◌∙◌, is_at, find, lookup, remove_entry, is_some, if◌then◌else◌, tid_total, tid_cmp, ClientNo, NodeNo, Outcome, Tid, same_node, Engage, has_label, is_outcome_of, Begun, at_exact, put_rises, remove_rises, removed, Setting, OpenCommand, new_participant, Manager, Participant, AreNumbered, HasFacts, IsPart, IsRunning}
+use Rattle.qs_world_lawful.proofs.Words.{◌≡◌, ◌⊎◌, inl, inr, ℕ, Bool, true, false, List, [], ◌∷◌, length, Option, Some, None, refl, sym, ap, subst, ◌∙◌, is_at, find, lookup, remove_entry, is_some, if◌then◌else◌, tid_total, tid_cmp, ClientNo, NodeNo, Outcome, Tid, same_node, Engage, has_label, is_outcome_of, KeptLabel, at_exact, put_rises, remove_rises, removed, Setting, OpenCommand, new_participant, Manager, Participant, AreNumbered, HasFacts, IsPart, IsRunning}
 use Rattle.qs_node_kept.specs.declared.kept.Kept.{Kept}
 use Rattle.qs_tm.specs.Manager as tm
 use Rattle.qs_tm.specs.Outcomes as outcome_rules
@@ -143,7 +143,7 @@ module _ (s : Setting) (k : Kept) (c : Commands) (local : Tid → ℕ) where
 
   -- ---- one is forgotten, that no client here owns undecided
 
-  pub forget_facts : (tid : Tid) (m : Manager) → ((label : List ℕ) (begun : Begun) (client : ClientNo) → find (has_label label) k.labels ≡ Some begun → begun.tid ≡ Some tid → begun.owner ≡ Some client → find (is_outcome_of tid) k.outcomes ≡ None → ⊥)
+  pub forget_facts : (tid : Tid) (m : Manager) → ((label : List ℕ) (begun : KeptLabel) (client : ClientNo) → find (has_label label) k.labels ≡ Some begun → begun.tid ≡ Some tid → begun.owner ≡ Some client → find (is_outcome_of tid) k.outcomes ≡ None → ⊥)
       → HasFacts s m k c local → HasFacts s (tm.forget tid m) k c local
   forget_facts tid m unowned h = record {
     setting = h.setting;

@@ -1,5 +1,5 @@
 -- What holds of a node by itself as a transaction is labelled, begins and is decided, and as commands come and are answered.
-use Rattle.qs_world_lawful.proofs.Words.{◌≡◌, ◌⊎◌, inl, inr, ℕ, ◌+◌, Bool, true, false, List, [], ◌∷◌, ◌++◌, length, Option, Some, None, Less, Equal, Greater, refl, sym, ap, subst, ◌∙◌, exact_unsigned, insert_entry, is_at, find, lookup, remove_entry, set_value, if◌then◌else◌, Ordering, same_tid-self, tid_total, same_tid, tid_cmp, ClientNo, NodeNo, Tid, same_node, has_label, is_outcome_of, Begun, Decided, put_rises, client_cmp, Setting, OpenCommand, begun_participant, Manager, Participant, Every}
+use Rattle.qs_world_lawful.proofs.Words.{◌≡◌, ◌⊎◌, inl, inr, ℕ, ◌+◌, Bool, true, false, List, [], ◌∷◌, ◌++◌, length, Option, Some, None, Less, Equal, Greater, refl, sym, ap, subst, ◌∙◌, exact_unsigned, insert_entry, is_at, find, lookup, remove_entry, set_value, if◌then◌else◌, Ordering, same_tid-self, tid_total, same_tid, tid_cmp, ClientNo, NodeNo, Tid, same_node, has_label, is_outcome_of, KeptLabel, Decided, put_rises, client_cmp, Setting, OpenCommand, begun_participant, Manager, Participant, Every}
 use Rattle.qs_world_lawful.proofs.Words.{AreNumbered, HasFacts, IsCommand, IsPart, IsRunning}
 use Rattle.std.specs.Ordering.{nat_cmp}
 use Rattle.qs_node_kept.specs.declared.kept.Kept.{Kept}
@@ -38,7 +38,7 @@ none_more test (z ∷ zs) x none = by (test z) none (none_more test zs x)
 
 module _ (s : Setting) (c : Commands) (local : Tid → ℕ) where
   -- a label of what no client here owns, or of what was not begun
-  pub label_facts : (begun : Begun) → ((tid : Tid) (client : ClientNo) → begun.tid ≡ Some tid → begun.owner ≡ Some client → ⊥) → (m : Manager) (k : Kept) → HasFacts s m k c local → HasFacts s m (record k { labels = k.labels ++ begun ∷ [] }) c local
+  pub label_facts : (begun : KeptLabel) → ((tid : Tid) (client : ClientNo) → begun.tid ≡ Some tid → begun.owner ≡ Some client → ⊥) → (m : Manager) (k : Kept) → HasFacts s m k c local → HasFacts s m (record k { labels = k.labels ++ begun ∷ [] }) c local
   label_facts begun unowned m k h = record {
     setting = h.setting;
     room = h.room;
@@ -51,13 +51,13 @@ module _ (s : Setting) (c : Commands) (local : Tid → ℕ) where
     };
   }
     where
-      homed_of : (label : List ℕ) (other : Begun) (tid : Tid) (client : ClientNo) → other.tid ≡ Some tid → other.owner ≡ Some client → (find (has_label label) k.labels ≡ Some other) ⊎ (begun ≡ other) → tid.home ≡ s.node
+      homed_of : (label : List ℕ) (other : KeptLabel) (tid : Tid) (client : ClientNo) → other.tid ≡ Some tid → other.owner ≡ Some client → (find (has_label label) k.labels ≡ Some other) ⊎ (begun ≡ other) → tid.home ≡ s.node
       homed_of label other tid client of owned (inl found) = h.labels.homed label other tid client found of owned
-      homed_of label other tid client of owned (inr e) = absurd (unowned tid client (ap (λ (b : Begun). b.tid) e ∙ of) (ap (λ (b : Begun). b.owner) e ∙ owned))
+      homed_of label other tid client of owned (inr e) = absurd (unowned tid client (ap (λ (b : KeptLabel). b.tid) e ∙ of) (ap (λ (b : KeptLabel). b.owner) e ∙ owned))
 
-      runs_of : (label : List ℕ) (other : Begun) (tid : Tid) (client : ClientNo) → other.tid ≡ Some tid → other.owner ≡ Some client → find (is_outcome_of tid) k.outcomes ≡ None → (find (has_label label) k.labels ≡ Some other) ⊎ (begun ≡ other) → IsRunning m tid
+      runs_of : (label : List ℕ) (other : KeptLabel) (tid : Tid) (client : ClientNo) → other.tid ≡ Some tid → other.owner ≡ Some client → find (is_outcome_of tid) k.outcomes ≡ None → (find (has_label label) k.labels ≡ Some other) ⊎ (begun ≡ other) → IsRunning m tid
       runs_of label other tid client of owned kept (inl found) = h.labels.runs label other tid client found of owned kept
-      runs_of label other tid client of owned kept (inr e) = absurd (unowned tid client (ap (λ (b : Begun). b.tid) e ∙ of) (ap (λ (b : Begun). b.owner) e ∙ owned))
+      runs_of label other tid client of owned kept (inr e) = absurd (unowned tid client (ap (λ (b : KeptLabel). b.tid) e ∙ of) (ap (λ (b : KeptLabel). b.owner) e ∙ owned))
 
   -- a transaction begins here, under a label that a client here owns
   module _ (client : ClientNo) (label : List ℕ) (m : Manager) (k : Kept) (h : HasFacts s m k c local) where
@@ -67,7 +67,7 @@ module _ (s : Setting) (c : Commands) (local : Tid → ℕ) where
     abbrev part : Participant
     part = begun_participant client m.ticks
 
-    abbrev begun : Begun
+    abbrev begun : KeptLabel
     begun = record { label = label; tid = Some next; owner = Some client }
 
     new_part : IsPart s (local next) next part
@@ -83,10 +83,10 @@ module _ (s : Setting) (c : Commands) (local : Tid → ℕ) where
     parts_of t p known (inl e) = subst (λ (x : Tid). IsPart s (local x) x p) e (subst (IsPart s (local next) next) (of_some (sym there ∙ subst (λ (x : Tid). tm.part_of x (tm.begin client m) ≡ Some p) (sym e) known)) new_part)
     parts_of t p known (inr far) = h.parts t p (sym (elsewhere t far) ∙ known)
 
-    its_tid : (other : Begun) (tid : Tid) → begun ≡ other → other.tid ≡ Some tid → next ≡ tid
-    its_tid other tid e of = of_some (ap (λ (b : Begun). b.tid) e ∙ of)
+    its_tid : (other : KeptLabel) (tid : Tid) → begun ≡ other → other.tid ≡ Some tid → next ≡ tid
+    its_tid other tid e of = of_some (ap (λ (b : KeptLabel). b.tid) e ∙ of)
 
-    homed_of : (l : List ℕ) (other : Begun) (tid : Tid) (who : ClientNo) → other.tid ≡ Some tid → other.owner ≡ Some who → (find (has_label l) k.labels ≡ Some other) ⊎ (begun ≡ other) → tid.home ≡ s.node
+    homed_of : (l : List ℕ) (other : KeptLabel) (tid : Tid) (who : ClientNo) → other.tid ≡ Some tid → other.owner ≡ Some who → (find (has_label l) k.labels ≡ Some other) ⊎ (begun ≡ other) → tid.home ≡ s.node
     homed_of l other tid who of owned (inl found) = h.labels.homed l other tid who found of owned
     homed_of l other tid who of owned (inr e) = ap (λ (t : Tid). t.home) (sym (its_tid other tid e of)) ∙ h.room.at
 
@@ -94,7 +94,7 @@ module _ (s : Setting) (c : Commands) (local : Tid → ℕ) where
     still t r (inl e) = record { part = part; known = subst (λ (x : Tid). tm.part_of x (tm.begin client m) ≡ Some part) e there; undecided = refl }
     still t r (inr far) = record { part = r.part; known = elsewhere t far ∙ r.known; undecided = r.undecided }
 
-    runs_of : (l : List ℕ) (other : Begun) (tid : Tid) (who : ClientNo) → other.tid ≡ Some tid → other.owner ≡ Some who → find (is_outcome_of tid) k.outcomes ≡ None → (find (has_label l) k.labels ≡ Some other) ⊎ (begun ≡ other) → IsRunning (tm.begin client m) tid
+    runs_of : (l : List ℕ) (other : KeptLabel) (tid : Tid) (who : ClientNo) → other.tid ≡ Some tid → other.owner ≡ Some who → find (is_outcome_of tid) k.outcomes ≡ None → (find (has_label l) k.labels ≡ Some other) ⊎ (begun ≡ other) → IsRunning (tm.begin client m) tid
     runs_of l other tid who of owned kept (inl found) = still tid (h.labels.runs l other tid who found of owned kept) (same_or_apart next tid)
     runs_of l other tid who of owned kept (inr e) = record { part = part; known = subst (λ (x : Tid). tm.part_of x (tm.begin client m) ≡ Some part) (its_tid other tid e of) there; undecided = refl }
 

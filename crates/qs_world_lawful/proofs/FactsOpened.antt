@@ -1,5 +1,5 @@
 -- What holds of a node by itself as an incarnation of it begins: with what its log says, and with what was kept for its clients.
-use Rattle.qs_world_lawful.proofs.Words.{◌≡◌, ◌⊎◌, inl, inr, ℕ, ◌==◌, Bool, true, false, List, [], ◌∷◌, ◌++◌, length, fold, Option, Some, None, refl, sym, ap, subst, ◌∙◌, find, list_any, ◌&&◌, is_none, is_some, if◌then◌else◌, Global, same_tid-self, tid_total, same_tid, tid_cmp, NodeNo, ServerNo, Tid, same_node, has_label, is_outcome_of, Begun, Decided, IsRising, put_rises, Record, close_outcome, close_tid, is_left_open, new_manager, outcome_in_log, take_up, Setting, committed_before, voted_before}
+use Rattle.qs_world_lawful.proofs.Words.{◌≡◌, ◌⊎◌, inl, inr, ℕ, ◌==◌, Bool, true, false, List, [], ◌∷◌, ◌++◌, length, fold, Option, Some, None, refl, sym, ap, subst, ◌∙◌, find, list_any, ◌&&◌, is_none, is_some, if◌then◌else◌, Global, same_tid-self, tid_total, same_tid, tid_cmp, NodeNo, ServerNo, Tid, same_node, has_label, is_outcome_of, KeptLabel, Decided, IsRising, put_rises, Record, close_outcome, close_tid, is_left_open, new_manager, outcome_in_log, take_up, Setting, committed_before, voted_before}
 use Rattle.qs_world_lawful.proofs.Words.{new_participant, Manager, Participant, AreNumbered, HasNodeFacts, IsPart}
 use Rattle.qs_base.specs.declared.identifiers.Outcome.TheVariants as outcomes
 use Rattle.qs_ops.specs.declared.answer.Cause.TheVariants as causes
@@ -130,7 +130,7 @@ module _ (node : NodeNo) (committed : List Tid) where
       by true = end_more tid outcomes (outcome_in_log committed t) is
       by false = is
 
-  closed_all : (tid : Tid) (labels : List Begun) (outcomes : List Decided) → is_some (find (is_outcome_of tid) outcomes) ≡ true → is_some (find (is_outcome_of tid) (fold (close_outcome node committed) outcomes labels)) ≡ true
+  closed_all : (tid : Tid) (labels : List KeptLabel) (outcomes : List Decided) → is_some (find (is_outcome_of tid) outcomes) ≡ true → is_some (find (is_outcome_of tid) (fold (close_outcome node committed) outcomes labels)) ≡ true
   closed_all tid [] outcomes is = is
   closed_all tid (begun ∷ labels) outcomes is = closed_all tid labels (close_outcome node committed outcomes begun) (closed_still tid outcomes begun.tid is)
 
@@ -142,14 +142,14 @@ module _ (node : NodeNo) (committed : List Tid) where
       by (Some decided) is = rw (home, is) (ap (λ (d : Option Decided). is_some d) is)
 
   -- each label's transaction that is of this node has an end
-  closed_label : (test : Begun → Bool) (labels : List Begun) (outcomes : List Decided) (begun : Begun) (tid : Tid) → find test labels ≡ Some begun → begun.tid ≡ Some tid → same_node tid.home node ≡ true
+  closed_label : (test : KeptLabel → Bool) (labels : List KeptLabel) (outcomes : List Decided) (begun : KeptLabel) (tid : Tid) → find test labels ≡ Some begun → begun.tid ≡ Some tid → same_node tid.home node ≡ true
       → is_some (find (is_outcome_of tid) (fold (close_outcome node committed) outcomes labels)) ≡ true
   closed_label test [] outcomes begun tid found of home = absurd (cc found)
   closed_label test (x ∷ xs) outcomes begun tid found of home = by (test x) found (λ f. closed_label test xs (close_outcome node committed outcomes x) begun tid f of home)
     where
       by : (b : Bool) → (if b then Some x else find test xs) ≡ Some begun → (find test xs ≡ Some begun → is_some (find (is_outcome_of tid) (fold (close_outcome node committed) (close_outcome node committed outcomes x) xs)) ≡ true)
           → is_some (find (is_outcome_of tid) (fold (close_outcome node committed) (close_outcome node committed outcomes x) xs)) ≡ true
-      by true found rest = closed_all tid xs (close_outcome node committed outcomes x) (subst (λ (o : Option Tid). is_some (find (is_outcome_of tid) (close_tid node committed outcomes o)) ≡ true) (sym (ap (λ (b : Begun). b.tid) (of_some found) ∙ of)) (closed_one tid outcomes home))
+      by true found rest = closed_all tid xs (close_outcome node committed outcomes x) (subst (λ (o : Option Tid). is_some (find (is_outcome_of tid) (close_tid node committed outcomes o)) ≡ true) (sym (ap (λ (b : KeptLabel). b.tid) (of_some found) ∙ of)) (closed_one tid outcomes home))
       by false found rest = rest found
 
 -- ---- an incarnation begins

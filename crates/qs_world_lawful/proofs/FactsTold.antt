@@ -1,5 +1,5 @@
 -- What holds of a node by itself as an outcome is told and taken in, and as nodes restart.
-use Rattle.qs_world_lawful.proofs.Words.{◌≡◌, ℕ, Bool, true, false, List, fold, Option, Some, None, refl, sym, subst, ◌∙◌, find, list_any, not, ◌&&◌, if◌then◌else◌, ClientNo, NodeNo, Outcome, Tid, listed, same_node, has_label, is_outcome_of, Begun, answer_known, answer_unknown, inquiry_at_home, inquiry_came, block, log, send, give_notices, begin_incarnation, find_gone, inquire, is_orphaned_by, known_tids, name_again, notice_decided, notice_part, notice_tid, peer_restarted, resume_home, resume_part}
+use Rattle.qs_world_lawful.proofs.Words.{◌≡◌, ℕ, Bool, true, false, List, fold, Option, Some, None, refl, sym, subst, ◌∙◌, find, list_any, not, ◌&&◌, if◌then◌else◌, ClientNo, NodeNo, Outcome, Tid, listed, same_node, has_label, is_outcome_of, KeptLabel, answer_known, answer_unknown, inquiry_at_home, inquiry_came, block, log, send, give_notices, begin_incarnation, find_gone, inquire, is_orphaned_by, known_tids, name_again, notice_decided, notice_part, notice_tid, peer_restarted, resume_home, resume_part}
 use Rattle.qs_world_lawful.proofs.Words.{resume_tid, tell_again, Work, here, with_manager, with_queues, end_told, is_other_node, keep_abort_told, learn_unknown, names_at, record_learnt, take_names, take_outcome, tell_came, told_at_home, told_came, told_known, told_unknown, is_told_again, named_by, told_with_own, is_forgotten, is_owed_by, is_undecided, Participant, HasNodeFacts, locals_of}
 use Rattle.qs_base.specs.declared.identifiers.Outcome.TheVariants as outcomes
 use Rattle.qs_ipc.specs.Ipc as ipc
@@ -46,7 +46,7 @@ keep_abort_keeps tid peer work h = quiet_facts work.node.setting work.node.kept.
 
 -- no client here waits for what is decided and not kept
 decided_unowned : (tid : Tid) (part : Participant) (work : Work) → HasNodeFacts work.node → part_of tid work ≡ Some part → (part.outcome ≡ None → ⊥)
-    → (label : List ℕ) (begun : Begun) (client : ClientNo) → find (has_label label) work.node.kept.now.labels ≡ Some begun → begun.tid ≡ Some tid → begun.owner ≡ Some client → find (is_outcome_of tid) work.node.kept.now.outcomes ≡ None → ⊥
+    → (label : List ℕ) (begun : KeptLabel) (client : ClientNo) → find (has_label label) work.node.kept.now.labels ≡ Some begun → begun.tid ≡ Some tid → begun.owner ≡ Some client → find (is_outcome_of tid) work.node.kept.now.outcomes ≡ None → ⊥
 decided_unowned tid part work h known decided label begun client found of owned kept =
     let r = h.labels.runs label begun tid client found of owned kept in decided (subst (λ (p : Participant). p.outcome ≡ None) (of_some (sym r.known ∙ known)) r.undecided)
 

@@ -1,5 +1,5 @@
 -- What is held of each transaction is held on where the machine and the node change what they have of one alone.
-use Rattle.qs_world_lawful.proofs.Words.{◌≡◌, ◌⊎◌, inl, inr, ℕ, Bool, true, List, [], Option, Some, None, refl, sym, ap, subst, ◌∙◌, nat_lt, length, is_some, slice_get, option_map, find, lookup, is_at, ClientNo, NodeNo, Outcome, ServerNo, Tid, Answer, Delivery, TransactionValue, is_outcome, Cell, BookValue, find_transaction, is_known, Owner, Participant, Begun, Decided, Lent, OpenCommand, is_outcome_of, outcome_answer, label_at, has_label, client_cmp, IsRising, face_of, HoldsServers, is_seen}
+use Rattle.qs_world_lawful.proofs.Words.{◌≡◌, ◌⊎◌, inl, inr, ℕ, Bool, true, List, [], Option, Some, None, refl, sym, ap, subst, ◌∙◌, nat_lt, length, is_some, slice_get, option_map, find, lookup, is_at, ClientNo, NodeNo, Outcome, ServerNo, Tid, Answer, Delivery, TransactionValue, is_outcome, Cell, BookValue, find_transaction, is_known, Owner, Participant, KeptLabel, Decided, Lent, OpenCommand, is_outcome_of, outcome_answer, label_at, has_label, client_cmp, IsRising, face_of, HoldsServers, is_seen}
 use Rattle.qs_world_lawful.proofs.Words.{HoldsWaitsAt, Holds, HoldsTid, HoldsAt, HoldsClients, IsBehind, IsOwner, MayBeTold, HasEnded, IsAsking, is_next, same_Some}
 use Rattle.qs_ops.specs.declared.answer.Answer.TheVariants as answers
 use Rattle.qs_book_machine.specs.Nodes as machine
@@ -183,7 +183,7 @@ asking_on node new kept t client h = record {
 
 module _ (book new_book : BookValue) (node new : NodeValue) (seen_on : KeepsSeen book new_book) (owners : KeepsOwners book new_book) (same : SameNode node new) (kept : SameClients node new)
     (h : HoldsClients book node) where
-  label_back : (label : List ℕ) (begun : Begun) → label_at label new ≡ Some begun → label_at label node ≡ Some begun
+  label_back : (label : List ℕ) (begun : KeptLabel) → label_at label new ≡ Some begun → label_at label node ≡ Some begun
   label_back label begun is = ap (find (has_label label)) (sym kept.labels) ∙ is
 
   -- where it is shown who waits for a commit

@@ -1,6 +1,6 @@
 -- What a client's command is given, as it comes and while it waits: what a client here owns runs here, what is lent here is known and not
 -- committed, and a request fits the run.
-use Rattle.qs_world_lawful.proofs.Words.{◌≡◌, ℕ, ◌==◌, Bool, true, false, List, [], ◌∷◌, Option, Some, None, refl, sym, ap, subst, ◌∙◌, arith, nat_lt, nat_tests, is_at, list_any, lookup, not, ◌||◌, is_some, if◌then◌else◌, same_tid-true, same_tid-self, same_tid, ClientNo, Member, NodeNo, Tid, same_node, ScriptLine, last_taken, Begun, Lent, BookValue, Op, kept_outcome, is_aborted, label_at, is_lent, Work, client_cmp, OpenCommand, Participant, ComesLine, book_at, MayRequest, MayWait, IsCommand}
+use Rattle.qs_world_lawful.proofs.Words.{◌≡◌, ℕ, ◌==◌, Bool, true, false, List, [], ◌∷◌, Option, Some, None, refl, sym, ap, subst, ◌∙◌, arith, nat_lt, nat_tests, is_at, list_any, lookup, not, ◌||◌, is_some, if◌then◌else◌, same_tid-true, same_tid-self, same_tid, ClientNo, Member, NodeNo, Tid, same_node, ScriptLine, last_taken, KeptLabel, Lent, BookValue, Op, kept_outcome, is_aborted, label_at, is_lent, Work, client_cmp, OpenCommand, Participant, ComesLine, book_at, MayRequest, MayWait, IsCommand}
 use Rattle.qs_world_lawful.proofs.Words.{IsRunning, StandsBy, eqb-self}
 use Rattle.qs_ipc.specs.Queue.{is_for}
 use Rattle.qs_node_kept.specs.Loans.{is_loan_of, is_standing_loan, is_taken}
@@ -35,7 +35,7 @@ taken_in client tid test loan (x ∷ xs) found is = by (last_taken client tid xs
 module _ (stamp : ℕ) (before : BookValue) (size : ℕ) (nodes : ℕ → NodeValue) (n : ℕ) (work : Work) (s : StandsBy stamp before size nodes n work) where
   -- ---- what is owned here
 
-  owned_now : (label : List ℕ) (begun : Begun) (tid : Tid) (client : ClientNo) → label_at label work.node ≡ Some begun → begun.tid ≡ Some tid → begun.owner ≡ Some client → IsUndecidedOfNow work tid
+  owned_now : (label : List ℕ) (begun : KeptLabel) (tid : Tid) (client : ClientNo) → label_at label work.node ≡ Some begun → begun.tid ≡ Some tid → begun.owner ≡ Some client → IsUndecidedOfNow work tid
   owned_now label begun tid client known of owned part there undecided = (s.facts.parts tid part there).began at_home undecided
     where
       at_home : part.engage.home ≡ true
@@ -99,5 +99,5 @@ module _ (stamp : ℕ) (before : BookValue) (size : ℕ) (nodes : ℕ → NodeVa
     lent = λ begun tid member op known of other is lent. lent_here line.client tid undone lent;
   }
     where
-      running_now : (begun : Begun) (tid : Tid) → label_at line.label work.node ≡ Some begun → begun.tid ≡ Some tid → begun.owner ≡ Some line.client → kept_outcome tid work.node ≡ None → tid.inc ≡ work.node.setting.inc
+      running_now : (begun : KeptLabel) (tid : Tid) → label_at line.label work.node ≡ Some begun → begun.tid ≡ Some tid → begun.owner ≡ Some line.client → kept_outcome tid work.node ≡ None → tid.inc ≡ work.node.setting.inc
       running_now begun tid known of owned kept = let r : IsRunning work.node.manager tid = s.facts.labels.runs line.label begun tid line.client known of owned kept in owned_now line.label begun tid line.client known of owned r.part r.known r.undecided

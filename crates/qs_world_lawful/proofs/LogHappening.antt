@@ -1,5 +1,5 @@
 -- What comes in a step keeps what is held of the log: commands, messages, restarts of other nodes and time.
-use Rattle.qs_world_lawful.proofs.Words.{◌≡◌, ℕ, Bool, true, false, List, [], Option, Some, None, refl, sym, ap, ◌∙◌, if◌then◌else◌, not, ◌&&◌, ClientNo, NodeNo, Outcome, Tid, listed, same_node, Command, ScriptLine, Begun, Decided, Inv, BookValue, ticked, Message, Record, is_told_again, named_by, is_undecided, is_owed_by, BeginFault, Participant, kept_outcome, borrower_command, enter, send, log, begin_or_refuse, ask, open_command, owner_command, decided_answer, find_gone, is_orphaned_by, inquire}
+use Rattle.qs_world_lawful.proofs.Words.{◌≡◌, ℕ, Bool, true, false, List, [], Option, Some, None, refl, sym, ap, ◌∙◌, if◌then◌else◌, not, ◌&&◌, ClientNo, NodeNo, Outcome, Tid, listed, same_node, Command, ScriptLine, KeptLabel, Decided, Inv, BookValue, ticked, Message, Record, is_told_again, named_by, is_undecided, is_owed_by, BeginFault, Participant, kept_outcome, borrower_command, enter, send, log, begin_or_refuse, ask, open_command, owner_command, decided_answer, find_gone, is_orphaned_by, inquire}
 use Rattle.qs_world_lawful.proofs.Words.{notice_decided, notice_part, notice_tid, peer_restarted, label_at, Work, here, with_manager, with_queues, change_server, is_owner, labelled, obey, with_command, command_came, message_came, abort_old, age_rule, tick, happen, forget, end_told, take_told, take_names, told_unknown, told_known, told_at_home, told_came, take_outcome, learn_unknown, names_at, tell_came, Event, HasOutcome, IsTrueEvent, KeepsLogs, none_is, and_first, some_same, false≢true}
 use Rattle.qs_base.specs.declared.identifiers.Outcome.TheVariants as outcomes
 use Rattle.qs_ipc.specs.Ipc as ipc
@@ -90,7 +90,7 @@ module _ (stamp : ℕ) (before : BookValue) (i : Inv before) (disk waiting : Lis
       by None = by_open client tid command work
       by (Some decided) = by_quiet stamp before i disk waiting work (answer client (decided_answer decided command) work) (quiet_answer client (decided_answer decided command) work)
 
-  by_labelled : (client : ClientNo) (begun : Begun) (command : Command) (work : Work) → Keeps work (labelled client begun command work)
+  by_labelled : (client : ClientNo) (begun : KeptLabel) (command : Command) (work : Work) → Keeps work (labelled client begun command work)
   by_labelled client begun command work = keeps_if stamp before i disk waiting (is_owner client begun.owner) work _ _ (by_owner client begun.tid command work) (by begun.tid)
     where
       by : (o : Option Tid) → Keeps work (elim o [ None ↦ work | Some tid ↦ borrower_command client tid command work ])
@@ -100,7 +100,7 @@ module _ (stamp : ℕ) (before : BookValue) (i : Inv before) (disk waiting : Lis
   by_met : (line : ScriptLine) (command : Command) (work : Work) → Keeps work (elim (label_at line.label work.node) [ None ↦ work | Some begun ↦ labelled line.client begun command work ])
   by_met line command work = by (label_at line.label work.node)
     where
-      by : (o : Option Begun) → Keeps work (elim o [ None ↦ work | Some begun ↦ labelled line.client begun command work ])
+      by : (o : Option KeptLabel) → Keeps work (elim o [ None ↦ work | Some begun ↦ labelled line.client begun command work ])
       by None = keeps_self stamp before i disk waiting work
       by (Some begun) = by_labelled line.client begun command work
 

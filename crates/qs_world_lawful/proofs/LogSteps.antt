@@ -1,5 +1,5 @@
 -- A whole step keeps what is held of the log, on the disk and with what waits for the next force.
-use Rattle.qs_world_lawful.proofs.Words.{◌≡◌, ℕ, Bool, true, false, List, [], ◌++◌, Option, Some, None, refl, sym, ap, subst, ◌∙◌, fold, if◌then◌else◌, append-nil, lookup, is_at, ClientNo, Outcome, Tid, listed, Command, Begun, Decided, Inv, BookValue, IsLawful, book_after, Record, recovery, Manager, Participant, kept_outcome, is_aborted, send, send_each, decided_answer, resume_home, resume_part, resume_tid, known_tids, begin_incarnation, label_at, settle, Work, here, work_on, client_cmp, is_owner}
+use Rattle.qs_world_lawful.proofs.Words.{◌≡◌, ℕ, Bool, true, false, List, [], ◌++◌, Option, Some, None, refl, sym, ap, subst, ◌∙◌, fold, if◌then◌else◌, append-nil, lookup, is_at, ClientNo, Outcome, Tid, listed, Command, KeptLabel, Decided, Inv, BookValue, IsLawful, book_after, Record, recovery, Manager, Participant, kept_outcome, is_aborted, send, send_each, decided_answer, resume_home, resume_part, resume_tid, known_tids, begin_incarnation, label_at, settle, Work, here, work_on, client_cmp, is_owner}
 use Rattle.qs_world_lawful.proofs.Words.{happen, owner_waits, borrower_waits, waits_at, wait_command, wait_on, waiting_clients, answer_waiting, step_work, Event, Issued, OpenCommand, entries_of, entries_so_far, book_at, IsTrueEvent, HoldsLogged, KnowsLog, HoldsHost, HoldsLogs, KeepsLogs}
 use Rattle.qs_base.specs.declared.identifiers.Outcome.TheVariants as outcomes
 use Rattle.qs_ops.specs.declared.answer.Answer.TheVariants as answers
@@ -34,14 +34,14 @@ quiet_lent client (Some issued) t command work = quiet_issued client issued work
 quiet_lent client None None command work = quiet_self work
 quiet_lent client None (Some tid) command work = quiet_borrower client tid command work
 
-quiet_waits : (client : ClientNo) (command : OpenCommand) (begun : Begun) (work : Work) → Quiet work (waits_at client command begun work)
+quiet_waits : (client : ClientNo) (command : OpenCommand) (begun : KeptLabel) (work : Work) → Quiet work (waits_at client command begun work)
 quiet_waits client command begun work = quiet_if (is_owner client begun.owner) work (owner_waits client begun.tid command.line.command work) (borrower_waits client command.issued begun.tid command.line.command work)
     (quiet_owner client begun.tid command.line.command work) (quiet_lent client command.issued begun.tid command.line.command work)
 
 quiet_command : (client : ClientNo) (command : OpenCommand) (work : Work) → Quiet work (wait_command client command work)
 quiet_command client command work = by (label_at command.line.label work.node)
   where
-    by : (o : Option Begun) → Quiet work (elim o [ None ↦ work | Some begun ↦ waits_at client command begun work ])
+    by : (o : Option KeptLabel) → Quiet work (elim o [ None ↦ work | Some begun ↦ waits_at client command begun work ])
     by None = quiet_self work
     by (Some begun) = quiet_waits client command begun work
 

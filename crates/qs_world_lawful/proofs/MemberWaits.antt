@@ -1,6 +1,6 @@
 -- What waits of a transaction stands as its servers vote, learn and are told that it ends, and files that hold something are due.
 use Rattle.qs_world_lawful.proofs.Words.{◌≡◌, ℕ, ◌==◌, Bool, true, false, List, [], ◌∷◌, Option, Some, None, refl, sym, ap, subst, ◌∙◌, true≢false, not, unwrap_or, lookup, is_at, tid_cmp, Member, NodeNo, Outcome, ServerNo, Tid, Delivery, tid_itself, lookup_put, BookValue, find_transaction, crossed_in, TransactionValue, is_crossed, is_empty, life, life_cmp, changed_value, no_part, voted, voted_part, learnt, learnt_part, ended_part, Part, ServerValue, after_vote, voted_by, voted_in, after_notice}
-use Rattle.qs_world_lawful.proofs.Words.{noted_by, noted_in, TableValue, share_of, nothing_held, applied, Kind, Share, Vote, ServersValue, with_server, notice_of, at_server, HoldsServers, is_seen, seen_in, HoldsWaits, is_idle, eqb-false}
+use Rattle.qs_world_lawful.proofs.Words.{noted_by, noted_in, TableValue, share_of, nothing_held, applied, ServerKind, Share, Vote, ServersValue, with_server, notice_of, at_server, HoldsServers, is_seen, seen_in, HoldsWaits, is_idle, eqb-false}
 use Rattle.qs_base.specs.declared.identifiers.Outcome.TheVariants as outcomes
 use Rattle.qs_book_machine.specs.Nodes as machine
 use Rattle.qs_book_machine.specs.Transaction.{ended}
@@ -59,7 +59,7 @@ module _ (here : NodeNo) (inc : ℕ) (tid : Tid) (tx : TransactionValue) (waitin
     where
       by : (b : Bool) → (server.0 == numbers.files_no) ≡ b → is_idle (share_of servers.files.table tid) ≡ false
       by true is = idle_voted_in ballot (subst (λ (v : ServerValue). is_idle (share_of v.table tid) ≡ false)
-          (files_here server (λ value. after_vote value tid ballot) servers is ∙ ap (λ (kind : Kind). voted_by kind tid ballot servers.files) s.kinds.files) busy)
+          (files_here server (λ value. after_vote value tid ballot) servers is ∙ ap (λ (kind : ServerKind). voted_by kind tid ballot servers.files) s.kinds.files) busy)
       by false is = idle_elsewhere (λ value. after_vote value tid ballot) is busy
 
   pub voted_waits : (ballot : Vote) → HoldsWaits here inc tid (voted (at_server here server) inc ballot tx) waiting (with_server server (λ value. after_vote value tid ballot) servers)
@@ -71,7 +71,7 @@ module _ (here : NodeNo) (inc : ℕ) (tid : Tid) (tx : TransactionValue) (waitin
   -- nothing is held at files once they learnt
   gone_noted : (outcome : Outcome) → (server.0 == numbers.files_no) ≡ true → share_of (with_server server (λ value. after_notice value tid (notice_of outcome)) servers).files.table tid ≡ nothing_held
   gone_noted outcome is =
-      ap (λ (v : ServerValue). share_of v.table tid) (files_here server (λ value. after_notice value tid (notice_of outcome)) servers is ∙ ap (λ (kind : Kind). noted_by kind (notice_of outcome) tid servers.files) s.kinds.files)
+      ap (λ (v : ServerValue). share_of v.table tid) (files_here server (λ value. after_notice value tid (notice_of outcome)) servers is ∙ ap (λ (kind : ServerKind). noted_by kind (notice_of outcome) tid servers.files) s.kinds.files)
       ∙ none outcome
     where
       none : (o : Outcome) → share_of (noted_in (notice_of o) tid servers.files.table) tid ≡ nothing_held

@@ -1,6 +1,6 @@
 -- Whatever names vote is the vote by the rules: a name that is taken is taken in the machine too, or a hidden transaction may have it.
 use Rattle.qs_world_lawful.proofs.Words.{◌≡◌, ◌⊎◌, inl, inr, ℕ, Bool, true, false, List, [], ◌∷◌, Option, Some, None, Less, Equal, refl, sym, ap, subst, ◌∙◌, not, ◌&&◌, ◌||◌, is_none, is_some, if◌then◌else◌, unwrap_or, filter, list_all, list_any, lookup, is_at, same_tid, tid_cmp, Tid, same_bytes-self, same_bytes-true, same_tid-true, same_tid-self, at_exact, tid_itself, IsBelow, IsRising, BookValue, find_transaction, bound_names, TransactionValue, changes_vote, vote_of, names_no, TableValue}
-use Rattle.qs_world_lawful.proofs.Words.{has_changes, is_change_of, nothing_held, share_of, File, Op, Put, Append, Del, Get, Listing, Note, Notes, Bind, Find, Timer, Left, Window, Title, Keep, Fetch, Lend, Extra, Kind, Share, Vote, HoldsDoubts, doubted, has_name, is_bind, Holds, HoldsTable, is_seen, of_seen, or-true, and_from, false≢true}
+use Rattle.qs_world_lawful.proofs.Words.{has_changes, is_change_of, nothing_held, share_of, File, Op, Put, Append, Del, Get, Listing, Note, Notes, Bind, Find, Timer, Left, Window, Title, Keep, Fetch, Lend, Extra, ServerKind, Share, Vote, HoldsDoubts, doubted, has_name, is_bind, Holds, HoldsTable, is_seen, of_seen, or-true, and_from, false≢true}
 use Rattle.std.specs.List.{AllByRecursion}
 use Rattle.qs_base.specs.Order.{same_bytes}
 use Rattle.qs_book_machine.specs.Clauses.{is_name}
@@ -203,4 +203,4 @@ module _ (stamp : ℕ) (book : BookValue) (node : NodeValue) (h : Holds stamp bo
 
       by : (b : Bool) → has_changes held tid ≡ b → IsNamesRight (if b then changes_vote node.servers.names.kind held tid free (frame stamp book node h tid tx found) else votes.ReadOnly)
       by false is = right stamp book node h tid tx found names_no votes.ReadOnly refl (λ mine. ap not (same_changes stamp book node h tid tx found names_no kept held h.servers.names mine ∙ is))
-      by true is = subst (λ (k : Kind). IsNamesRight (changes_vote k held tid free (frame stamp book node h tid tx found))) (sym h.servers.kinds.names) (of is (least_taken held tid) refl)
+      by true is = subst (λ (k : ServerKind). IsNamesRight (changes_vote k held tid free (frame stamp book node h tid tx found))) (sym h.servers.kinds.names) (of is (least_taken held tid) refl)

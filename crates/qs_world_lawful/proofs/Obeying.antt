@@ -1,5 +1,5 @@
 -- A command comes and is obeyed: of the client that begins a transaction, and of its owner; each as a whole.
-use Rattle.qs_world_lawful.proofs.Words.{◌≡◌, ℕ, Bool, true, false, Option, Some, None, refl, sym, ap, subst, ◌∙◌, tied_itself, nat_cmp_total, if◌then◌else◌, lookup, is_at, Member, Tid, Op, Command, ScriptLine, lookup_put, BookValue, is_fresh, Participant, Begun, kept_outcome, borrower_command, owner_command, request_command, label_at, Work, client_cmp, is_owner, labelled, obey, with_command, command_came, OpenCommand, HoldsFiles, IsBehind, IsAsking, HoldsWork, book_at, eqb-self, some_same}
+use Rattle.qs_world_lawful.proofs.Words.{◌≡◌, ℕ, Bool, true, false, Option, Some, None, refl, sym, ap, subst, ◌∙◌, tied_itself, nat_cmp_total, if◌then◌else◌, lookup, is_at, Member, Tid, Op, Command, ScriptLine, lookup_put, BookValue, is_fresh, Participant, KeptLabel, kept_outcome, borrower_command, owner_command, request_command, label_at, Work, client_cmp, is_owner, labelled, obey, with_command, command_came, OpenCommand, HoldsFiles, IsBehind, IsAsking, HoldsWork, book_at, eqb-self, some_same}
 use Rattle.qs_world_lawful.proofs.Words.{none-some}
 use Rattle.qs_ipc.specs.Queue as queues
 use Rattle.qs_ops.specs.declared.answer.Answer.TheVariants as answers
@@ -46,11 +46,11 @@ module _ (stamp : ℕ) (before : BookValue) (work : Work) (h : HoldsWork stamp b
 
   -- a label that the node has not met: the command waits
   pub by_unmet_came : (line.command ≡ commands.Begin → ⊥) → label_at line.label work.node ≡ None → HoldsWork stamp before (command_came line work)
-  by_unmet_came no_begin unmet = by_label no_begin (λ c is. subst (λ (o : Option Begun). HoldsWork stamp before (elim o [ None ↦ open_work | Some b ↦ labelled line.client b c open_work ])) (sym unmet) came)
+  by_unmet_came no_begin unmet = by_label no_begin (λ c is. subst (λ (o : Option KeptLabel). HoldsWork stamp before (elim o [ None ↦ open_work | Some b ↦ labelled line.client b c open_work ])) (sym unmet) came)
 
   -- one whose begin was refused: its client is told so, another's command waits
-  pub by_refused_came : (line.command ≡ commands.Begin → ⊥) → (begun : Begun) → label_at line.label work.node ≡ Some begun → begun.tid ≡ None → HoldsWork stamp before (command_came line work)
-  by_refused_came no_begin begun known refused = by_label no_begin (λ c is. subst (λ (o : Option Begun). HoldsWork stamp before (elim o [ None ↦ open_work | Some b ↦ labelled line.client b c open_work ])) (sym known)
+  pub by_refused_came : (line.command ≡ commands.Begin → ⊥) → (begun : KeptLabel) → label_at line.label work.node ≡ Some begun → begun.tid ≡ None → HoldsWork stamp before (command_came line work)
+  by_refused_came no_begin begun known refused = by_label no_begin (λ c is. subst (λ (o : Option KeptLabel). HoldsWork stamp before (elim o [ None ↦ open_work | Some b ↦ labelled line.client b c open_work ])) (sym known)
       (subst (λ (o : Option Tid). HoldsWork stamp before (if is_owner line.client begun.owner then owner_command line.client o c open_work else elim o [ None ↦ open_work | Some t ↦ borrower_command line.client t c open_work ])) (sym refused) (by (is_owner line.client begun.owner))))
     where
       idle : (t : Tid) → IsAsking open_work.node t line.client → ⊥
@@ -58,7 +58,7 @@ module _ (stamp : ℕ) (before : BookValue) (work : Work) (h : HoldsWork stamp b
           let same : command ≡ a.command = some_same (sym waits ∙ a.waits) in
           let label : label_at line.label open_work.node ≡ Some a.begun = subst (λ (x : OpenCommand). label_at x.line.label open_work.node ≡ Some a.begun) (sym same) a.labelled in
           let begun_same : begun ≡ a.begun = some_same (sym known ∙ label) in
-          none-some t (sym refused ∙ (ap (λ (b : Begun). b.tid) begun_same ∙ a.of))
+          none-some t (sym refused ∙ (ap (λ (b : KeptLabel). b.tid) begun_same ∙ a.of))
 
       by : (b : Bool) → HoldsWork stamp before (if b then answer line.client answers.NotBegun open_work else open_work)
       by true = by_answer stamp before open_work line.client answers.NotBegun came (λ owner there. refl) idle
@@ -66,7 +66,7 @@ module _ (stamp : ℕ) (before : BookValue) (work : Work) (h : HoldsWork stamp b
 
   -- ---- the owner: what runs still began here since the node started
 
-  module _ (begun : Begun) (known : label_at line.label work.node ≡ Some begun) (tid : Tid) (of : begun.tid ≡ Some tid) (owned : begun.owner ≡ Some line.client)
+  module _ (begun : KeptLabel) (known : label_at line.label work.node ≡ Some begun) (tid : Tid) (of : begun.tid ≡ Some tid) (owned : begun.owner ≡ Some line.client)
       (now : kept_outcome tid work.node ≡ None → (tid.home ≡ work.node.setting.node) × (tid.inc ≡ work.node.setting.inc)) (inc : (part : Participant) → tm.part_of tid work.node.manager ≡ Some part → part.outcome ≡ None → tid.inc ≡ work.node.setting.inc) where
     owns : is_owner line.client begun.owner ≡ true
     owns = ap (is_owner line.client) owned ∙ eqb-self line.client.0
@@ -74,7 +74,7 @@ module _ (stamp : ℕ) (before : BookValue) (work : Work) (h : HoldsWork stamp b
     -- by its label it is the owner's command
     by_label_at : (c : Command) → HoldsWork stamp before (owner_command line.client (Some tid) c open_work)
         → HoldsWork stamp before (elim (label_at line.label work.node) [ None ↦ open_work | Some b ↦ labelled line.client b c open_work ])
-    by_label_at c held = subst (λ (o : Option Begun). HoldsWork stamp before (elim o [ None ↦ open_work | Some b ↦ labelled line.client b c open_work ])) (sym known)
+    by_label_at c held = subst (λ (o : Option KeptLabel). HoldsWork stamp before (elim o [ None ↦ open_work | Some b ↦ labelled line.client b c open_work ])) (sym known)
         (as_owner (is_owner line.client begun.owner) owns _ (subst (λ (o : Option Tid). HoldsWork stamp before (owner_command line.client o c open_work)) (sym of) held))
       where
         as_owner : (b : Bool) → b ≡ true → (other : Work) → HoldsWork stamp before (owner_command line.client begun.tid c open_work) → HoldsWork stamp before (if b then owner_command line.client begun.tid c open_work else other)

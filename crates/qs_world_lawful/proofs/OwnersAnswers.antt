@@ -1,5 +1,5 @@
 -- The owner of a transaction that is decided is told so: its command, and one that waited, each as a whole.
-use Rattle.qs_world_lawful.proofs.Words.{◌≡◌, ℕ, true, Option, Some, None, refl, sym, ap, subst, ◌∙◌, slice_get, lookup, is_at, ClientNo, Tid, Command, TransactionValue, BookValue, is_known, Owner, Participant, Begun, Decided, kept_outcome, owner_command, open_command, decided_answer, outcome_answer, label_at, Work, client_cmp, owner_waits, OpenCommand, HasEnded, IsOwner, IsAsking, HoldsWork, book_at, some_same}
+use Rattle.qs_world_lawful.proofs.Words.{◌≡◌, ℕ, true, Option, Some, None, refl, sym, ap, subst, ◌∙◌, slice_get, lookup, is_at, ClientNo, Tid, Command, TransactionValue, BookValue, is_known, Owner, Participant, KeptLabel, Decided, kept_outcome, owner_command, open_command, decided_answer, outcome_answer, label_at, Work, client_cmp, owner_waits, OpenCommand, HasEnded, IsOwner, IsAsking, HoldsWork, book_at, some_same}
 use Rattle.qs_book_journal.specs.declared.script_line.Command.TheVariants as commands
 use Rattle.qs_tm.specs.Manager as tm
 use Rattle.qs_node_step.specs.Bringing.{answer}
@@ -8,14 +8,14 @@ use Rattle.qs_world_lawful.proofs.Clauses.{of_tid}
 use Rattle.qs_world_lawful.proofs.Taking.{none_open}
 
 module _ (stamp : ℕ) (before : BookValue) (work : Work) (h : HoldsWork stamp before work) (client : ClientNo) (command : OpenCommand) (waits : lookup (is_at (client_cmp client)) work.node.commands ≡ Some command)
-    (begun : Begun) (labelled : label_at command.line.label work.node ≡ Some begun) (tid : Tid) (of : begun.tid ≡ Some tid) (owned : begun.owner ≡ Some client) (inc : (part : Participant) → tm.part_of tid work.node.manager ≡ Some part → part.outcome ≡ None → tid.inc ≡ work.node.setting.inc) where
+    (begun : KeptLabel) (labelled : label_at command.line.label work.node ≡ Some begun) (tid : Tid) (of : begun.tid ≡ Some tid) (owned : begun.owner ≡ Some client) (inc : (part : Participant) → tm.part_of tid work.node.manager ≡ Some part → part.outcome ≡ None → tid.inc ≡ work.node.setting.inc) where
   -- what the client waits for is its own
   asks_for : (t : Tid) → IsAsking work.node t client → tid ≡ t
   asks_for t a =
       let same : command ≡ a.command = some_same (sym waits ∙ a.waits) in
       let label : label_at command.line.label work.node ≡ Some a.begun = subst (λ (c : OpenCommand). label_at c.line.label work.node ≡ Some a.begun) (sym same) a.labelled in
       let begun_same : begun ≡ a.begun = some_same (sym labelled ∙ label) in
-      some_same (sym of ∙ (ap (λ (b : Begun). b.tid) begun_same ∙ a.of))
+      some_same (sym of ∙ (ap (λ (b : KeptLabel). b.tid) begun_same ∙ a.of))
 
   -- the owner is told that it is decided
   pub by_decided_answer : (decided : Decided) → kept_outcome tid work.node ≡ Some decided → (said : Command) → HoldsWork stamp before (answer client (decided_answer decided said) work)

@@ -1,5 +1,5 @@
 -- The owner of a transaction commands commit or abort: each as a whole, from what the node itself holds.
-use Rattle.qs_world_lawful.proofs.Words.{◌≡◌, ℕ, Bool, true, false, Option, Some, None, refl, sym, ap, subst, ◌∙◌, is_some, slice_get, if◌then◌else◌, is_at, lookup, ClientNo, Outcome, Tid, BookValue, is_undecided, Participant, Begun, where_undecided, become_asked, open_command, ask, enter_ask, label_at, Work, client_cmp, OpenCommand, HoldsWork, book_at, HoldsFiles, IsAsking, IsOwner, none_is, some_same}
+use Rattle.qs_world_lawful.proofs.Words.{◌≡◌, ℕ, Bool, true, false, Option, Some, None, refl, sym, ap, subst, ◌∙◌, is_some, slice_get, if◌then◌else◌, is_at, lookup, ClientNo, Outcome, Tid, BookValue, is_undecided, Participant, KeptLabel, where_undecided, become_asked, open_command, ask, enter_ask, label_at, Work, client_cmp, OpenCommand, HoldsWork, book_at, HoldsFiles, IsAsking, IsOwner, none_is, some_same}
 use Rattle.qs_base.specs.declared.identifiers.Outcome.TheVariants as outcomes
 use Rattle.qs_ops.specs.declared.answer.Cause.TheVariants as causes
 use Rattle.qs_book_journal.specs.declared.script_line.Command.TheVariants as commands
@@ -9,7 +9,7 @@ use Rattle.qs_world_lawful.proofs.Asking.{by_ask}
 use Rattle.qs_world_lawful.proofs.DecidingByRules.{by_asked_abort}
 
 module _ (stamp : ℕ) (before : BookValue) (work : Work) (h : HoldsWork stamp before work) (client : ClientNo) (command : OpenCommand) (waits : lookup (is_at (client_cmp client)) work.node.commands ≡ Some command)
-    (begun : Begun) (labelled : label_at command.line.label work.node ≡ Some begun) (tid : Tid) (of : begun.tid ≡ Some tid) (owned : begun.owner ≡ Some client) (home : tid.home ≡ work.node.setting.node) (inc : tid.inc ≡ work.node.setting.inc) where
+    (begun : KeptLabel) (labelled : label_at command.line.label work.node ≡ Some begun) (tid : Tid) (of : begun.tid ≡ Some tid) (owned : begun.owner ≡ Some client) (home : tid.home ≡ work.node.setting.node) (inc : tid.inc ≡ work.node.setting.inc) where
   its : IsOwner (book_at stamp before work) tid client
   its = h.holds.clients.labels command.line.label begun tid client labelled of owned
 

@@ -1,5 +1,5 @@
 -- How many changes files have pending after a vote or a notice is what the machine counts then.
-use Rattle.qs_world_lawful.proofs.Words.{◌≡◌, ℕ, ◌==◌, Bool, true, false, Option, refl, sym, ap, subst, ◌∙◌, length, unwrap_or, if◌then◌else◌, is_at, tid_cmp, Outcome, ServerNo, Tid, tid_total, at_exact, IsRising, put_rises, remove_rises, removed, ServerValue, changes_in, after_vote, voted_by, voted_in, after_notice, noted_by, noted_in, TableValue, share_of, nothing_held, released, applied, Kind, Files, Share, Notice, Vote, ServersValue, with_server, notice_of, HoldsFiles}
+use Rattle.qs_world_lawful.proofs.Words.{◌≡◌, ℕ, ◌==◌, Bool, true, false, Option, refl, sym, ap, subst, ◌∙◌, length, unwrap_or, if◌then◌else◌, is_at, tid_cmp, Outcome, ServerNo, Tid, tid_total, at_exact, IsRising, put_rises, remove_rises, removed, ServerValue, changes_in, after_vote, voted_by, voted_in, after_notice, noted_by, noted_in, TableValue, share_of, nothing_held, released, applied, ServerKind, Files, Share, Notice, Vote, ServersValue, with_server, notice_of, HoldsFiles}
 use Rattle.qs_base.specs.declared.identifiers.Outcome.TheVariants as outcomes
 use Rattle.qs_ops.specs.Servers as numbers
 use Rattle.qs_ops.specs.declared.vote.Notice.TheVariants as notices
@@ -36,7 +36,7 @@ noted_rises notices.Abort tid table rising = remove_rises tid_cmp (is_at (tid_cm
 noted_rises notices.Ending tid table rising = rising
 
 notice_files : (notice : Notice) (tid : Tid) (server : ServerValue) (quota : ℕ) → server.kind ≡ Files quota → after_notice server tid notice ≡ record server { table = noted_in notice tid server.table }
-notice_files notice tid server quota is = ap (λ (k : Kind). noted_by k notice tid server) is
+notice_files notice tid server quota is = ap (λ (k : ServerKind). noted_by k notice tid server) is
 
 module _ (servers : ServersValue) (f : HoldsFiles servers) (server : ServerNo) (tid : Tid) where
   -- files are files still
@@ -68,7 +68,7 @@ module _ (servers : ServersValue) (f : HoldsFiles servers) (server : ServerNo) (
   -- ---- a vote
 
   pub vote_files : (ballot : Vote) → after_vote servers.files tid ballot ≡ record servers.files { table = voted_in servers.files.table tid ballot }
-  vote_files ballot = ap (λ (k : Kind). voted_by k tid ballot servers.files) f.kind
+  vote_files ballot = ap (λ (k : ServerKind). voted_by k tid ballot servers.files) f.kind
 
   voted_rises : (ballot : Vote) → IsRising tid_cmp (voted_in servers.files.table tid ballot).shares
   voted_rises votes.ReadOnly = remove_rises tid_cmp (is_at (tid_cmp tid)) servers.files.table.shares f.rising

@@ -1,5 +1,5 @@
 -- Requests that are issued, come, wait and are served, and replies: none of these rules makes a record.
-use Rattle.qs_world_lawful.proofs.Words.{◌≡◌, ℕ, ◌==◌, Bool, true, false, List, [], ◌∷◌, ◌++◌, Option, Some, None, refl, sym, ap, subst, ◌+◌, if◌then◌else◌, ◌||◌, is_none, lookup, is_at, ClientNo, Member, NodeNo, ServerNo, Tid, same_node, Engaged, is_client, Delivery, Op, Reply, Begun, is_told_class, class_here, member_of, Outstanding, Participant, last_number, enter, send, member_here, enqueue, enter_issue, with_local, issue_here, ask_on, issue_away, issue_as, next_number, is_asked, label_of}
+use Rattle.qs_world_lawful.proofs.Words.{◌≡◌, ℕ, ◌==◌, Bool, true, false, List, [], ◌∷◌, ◌++◌, Option, Some, None, refl, sym, ap, subst, ◌+◌, if◌then◌else◌, ◌||◌, is_none, lookup, is_at, ClientNo, Member, NodeNo, ServerNo, Tid, same_node, Engaged, is_client, Delivery, Op, Reply, KeptLabel, is_told_class, class_here, member_of, Outstanding, Participant, last_number, enter, send, member_here, enqueue, enter_issue, with_local, issue_here, ask_on, issue_away, issue_as, next_number, is_asked, label_of}
 use Rattle.qs_world_lawful.proofs.Words.{answer_issuer, waits_as, take_reply, reply_came, label_at, put_label, learn_label, met, cover_from, engage, take_in, is_dropped, request_came, reply_here, enter_serve, lent_to, make_loan, give_reply, may_serve, serve_or_drop, serve_next, serve_all, Work, with_manager, with_queues, with_kept, with_doings, here, client_cmp, or_left}
 use Rattle.qs_engage.specs.declared.engage.Engaged.TheVariants as engagements
 use Rattle.qs_ipc.specs.Ipc as ipc
@@ -76,7 +76,7 @@ quiet_reply tid member number reply work =
 
 -- ---- a request comes
 
-pub quiet_label : (b : Begun) (work : Work) → Quiet work (put_label b work)
+pub quiet_label : (b : KeptLabel) (work : Work) → Quiet work (put_label b work)
 quiet_label b work = quiet_node work (put_label b work) refl refl refl
 
 quiet_learn_label : (label : List ℕ) (tid : Tid) (work : Work) → Quiet work (learn_label label tid work)

@@ -1,5 +1,5 @@
 -- A client commands a request to a server of its own node: the rule as a whole, of the owner and of a borrower.
-use Rattle.qs_world_lawful.proofs.Words.{◌≡◌, ◌≢◌, ◌⊎◌, inl, inr, ℕ, ◌+◌, ◌==◌, Bool, true, false, List, [], ◌∷◌, Option, Some, None, zero, suc, refl, sym, ap, subst, ◌∙◌, arith, length, nat_lt, nat_tests, not, ◌&&◌, slice_get, cond, if◌then◌else◌, list_any, lookup, set_value, is_at, Ordering, ClientNo, Member, NodeNo, Tid, last_number, same_node, Op, lookup_changed, changed_apart, IsBelow, IsRising, TransactionValue, is_commit, BookValue, find_transaction, Outstanding, Participant, Begun, Lent}
+use Rattle.qs_world_lawful.proofs.Words.{◌≡◌, ◌≢◌, ◌⊎◌, inl, inr, ℕ, ◌+◌, ◌==◌, Bool, true, false, List, [], ◌∷◌, Option, Some, None, zero, suc, refl, sym, ap, subst, ◌∙◌, arith, length, nat_lt, nat_tests, not, ◌&&◌, slice_get, cond, if◌then◌else◌, list_any, lookup, set_value, is_at, Ordering, ClientNo, Member, NodeNo, Tid, last_number, same_node, Op, lookup_changed, changed_apart, IsBelow, IsRising, TransactionValue, is_commit, BookValue, find_transaction, Outstanding, Participant, KeptLabel, Lent}
 use Rattle.qs_world_lawful.proofs.Words.{client_server, with_issued, request_as, request_command, issue_here, local_count, next_local, next_number, label_at, Work, client_cmp, Issued, OpenCommand, face_of, is_loan_here, HoldsClients, IsBehind, IsOwner, IsAsking, HoldsWork, book_at, eq-eqb, some_same}
 use Rattle.qs_base.specs.declared.identifiers.Outcome.TheVariants as outcomes
 use Rattle.qs_ipc.specs.Queue as queues
@@ -139,7 +139,7 @@ module _ (stamp : ℕ) (before : BookValue) (work : Work) (h : HoldsWork stamp b
 
     -- ---- of the owner, at the home, where no outcome is known
 
-    module _ (part : Participant) (known : tm.part_of tid node.manager ≡ Some part) (begun : Begun) (labelled : label_at command.line.label node ≡ Some begun) (of : begun.tid ≡ Some tid) (owned : begun.owner ≡ Some client) where
+    module _ (part : Participant) (known : tm.part_of tid node.manager ≡ Some part) (begun : KeptLabel) (labelled : label_at command.line.label node ≡ Some begun) (of : begun.tid ≡ Some tid) (owned : begun.owner ≡ Some client) where
       pub by_owners_request : tid.home ≡ node.setting.node → tid.inc ≡ node.setting.inc → part.outcome ≡ None → HoldsWork stamp before (request_command client tid member op work)
       by_owners_request home inc unknown = command_by (λ number next. by_owner stamp before (as_issued number) tid (request number) op part its.tx (by_issued (record { tid = tid; member = member; number = number })) known its.found client refl near next fits runs its.owns home inc (unasked part.asked refl) unknown)
         where

@@ -1,5 +1,5 @@
 -- A client commands a request to any server of the run: of the node itself, or of another node.
-use Rattle.qs_world_lawful.proofs.Words.{◌≡◌, ◌≢◌, ℕ, ◌==◌, ◌+◌, Bool, true, false, Option, Some, None, refl, sym, ap, subst, ◌∙◌, nat_lt, not, ◌&&◌, ◌||◌, if◌then◌else◌, list_any, lookup, is_at, ClientNo, Member, NodeNo, Tid, last_number, peer_of, same_node, last_taken, Begun, Lent, BookValue, find_transaction, broken, TransactionValue, is_commit, Op, client_server, is_aborted, is_void, request_command, with_issued, issue_away, issue_here, next_local, label_at, Work, client_cmp, OpenCommand}
+use Rattle.qs_world_lawful.proofs.Words.{◌≡◌, ◌≢◌, ℕ, ◌==◌, ◌+◌, Bool, true, false, Option, Some, None, refl, sym, ap, subst, ◌∙◌, nat_lt, not, ◌&&◌, ◌||◌, if◌then◌else◌, list_any, lookup, is_at, ClientNo, Member, NodeNo, Tid, last_number, peer_of, same_node, last_taken, KeptLabel, Lent, BookValue, find_transaction, broken, TransactionValue, is_commit, Op, client_server, is_aborted, is_void, request_command, with_issued, issue_away, issue_here, next_local, label_at, Work, client_cmp, OpenCommand}
 use Rattle.qs_world_lawful.proofs.Words.{Outstanding, Participant, entry_of, HoldsWork, book_at, at_server, face_of, is_loan_here, part_or_new, MayRequest, IsOwner, eqb-true, eqb-false}
 use Rattle.qs_base.specs.declared.identifiers.Outcome.TheVariants as outcomes
 use Rattle.qs_book_journal.specs.declared.entry.Act.TheVariants as acts
@@ -53,7 +53,7 @@ module _ (stamp : ℕ) (before : BookValue) (work : Work) (h : HoldsWork stamp b
 
   -- ---- of the owner
 
-  module _ (begun : Begun) (labelled : label_at command.line.label work.node ≡ Some begun) (of : begun.tid ≡ Some tid) (owned : begun.owner ≡ Some client) (home : tid.home ≡ work.node.setting.node) (inc : tid.inc ≡ work.node.setting.inc) (unknown : part.outcome ≡ None) where
+  module _ (begun : KeptLabel) (labelled : label_at command.line.label work.node ≡ Some begun) (of : begun.tid ≡ Some tid) (owned : begun.owner ≡ Some client) (home : tid.home ≡ work.node.setting.node) (inc : tid.inc ≡ work.node.setting.inc) (unknown : part.outcome ≡ None) where
     its : IsOwner (book_at stamp before work) tid client
     its = h.holds.clients.labels command.line.label begun tid client labelled of owned
 

@@ -1,5 +1,5 @@
 -- After a restart what is kept for clients is as the machine has it: what was left open is decided, and its owner may be told.
-use Rattle.qs_world_lawful.proofs.Words.{◌≡◌, ◌⊎◌, inl, inr, ℕ, ◌++◌, Bool, true, false, List, [], ◌∷◌, Option, Some, None, fold, refl, sym, ap, subst, ◌∙◌, if◌then◌else◌, is_some, slice_get, find, same_tid-true, ClientNo, NodeNo, Outcome, Tid, same_node, Found, is_outcome_of, Begun, Decided, BookValue, cell_of_transaction, find_transaction, with_transaction, abort_begun, begun_tid, commit_found, count_of, is_among, is_open_here, learn_found, member_at, record_at, up_to, vote_found}
+use Rattle.qs_world_lawful.proofs.Words.{◌≡◌, ◌⊎◌, inl, inr, ℕ, ◌++◌, Bool, true, false, List, [], ◌∷◌, Option, Some, None, fold, refl, sym, ap, subst, ◌∙◌, if◌then◌else◌, is_some, slice_get, find, same_tid-true, ClientNo, NodeNo, Outcome, Tid, same_node, Found, is_outcome_of, KeptLabel, Decided, BookValue, cell_of_transaction, find_transaction, with_transaction, abort_begun, begun_tid, commit_found, count_of, is_among, is_open_here, learn_found, member_at, record_at, up_to, vote_found}
 use Rattle.qs_world_lawful.proofs.Words.{TransactionValue, found_at, is_open, is_outcome, with_learnt, Owner, Cell, Recovery, close_outcome, close_tid, is_left_open, outcome_in_log, HasEnded, IsOwner, MayBeTold, IsOfNow, Every, found_votes, HoldsKept, IsLeftOpen, IsOpenStill, and_parts, eqb-true, none_is}
 use Rattle.qs_base.specs.declared.identifiers.Outcome.TheVariants as outcomes
 use Rattle.qs_node_kept.specs.declared.kept.Kept.{Kept}
@@ -217,7 +217,7 @@ module _ (book : BookValue) (here : NodeNo) (stamp inc : ℕ) (log : Recovery) (
         by true e none rest = absurd (cc none)
         by false e none rest = rw e (rest none)
 
-    close_one : (begun : Begun) (os : List Decided) → IsLeftOpen here book kept.outcomes begun → Closes os → Closes (close_outcome here log.committed os begun)
+    close_one : (begun : KeptLabel) (os : List Decided) → IsLeftOpen here book kept.outcomes begun → Closes os → Closes (close_outcome here log.committed os begun)
     close_one begun os left c = by begun.tid refl
       where
         by : (o : Option Tid) → begun.tid ≡ o → Closes (close_tid here log.committed os o)
@@ -248,7 +248,7 @@ module _ (book : BookValue) (here : NodeNo) (stamp inc : ℕ) (log : Recovery) (
                     way (inl was) = c.ends t d was
                     way (inr is_new) = subst (HasEnded now t) is_new.1 (subst (λ (u : Tid). HasEnded now u (outcome_in_log log.committed tid)) (sym (same_tid-true t (outcome_in_log log.committed tid).tid is_new.0 ∙ tid_of)) (outcome_is tid home still_open))
 
-    close_all : (begun : List Begun) (os : List Decided) → Every (IsLeftOpen here book kept.outcomes) begun → Closes os → Closes (fold (close_outcome here log.committed) os begun)
+    close_all : (begun : List KeptLabel) (os : List Decided) → Every (IsLeftOpen here book kept.outcomes) begun → Closes os → Closes (fold (close_outcome here log.committed) os begun)
     close_all [] os all c = c
     close_all (b ∷ begun) os all c = close_all begun (close_outcome here log.committed os b) all.1 (close_one b os all.0 c)
 

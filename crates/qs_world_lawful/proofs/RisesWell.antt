@@ -1,5 +1,5 @@
 -- A node that is down restarts: its entry is lawful, and the machine holds the node that begins, its log, and what is kept for clients.
-use Rattle.qs_world_lawful.proofs.Words.{◌≡◌, ℕ, ◌<◌, ◌==◌, ◌&&◌, ◌++◌, not, Bool, true, false, List, [], ◌∷◌, Option, Some, None, fold, refl, sym, ap, subst, ◌∙◌, if◌then◌else◌, is_some, nat_lt, append-nil, slice_get, find, list_any, same_tid, same_tid-self, NodeNo, Tid, same_node, Entry, is_outcome_of, Begun, Decided, Lent, BookValue, find_transaction, broken, effect, votes_once, TransactionValue, Record, Recovery, recovery, entry_of, close_outcome, close_tid, is_left_open, outcome_in_log}
+use Rattle.qs_world_lawful.proofs.Words.{◌≡◌, ℕ, ◌<◌, ◌==◌, ◌&&◌, ◌++◌, not, Bool, true, false, List, [], ◌∷◌, Option, Some, None, fold, refl, sym, ap, subst, ◌∙◌, if◌then◌else◌, is_some, nat_lt, append-nil, slice_get, find, list_any, same_tid, same_tid-self, NodeNo, Tid, same_node, Entry, is_outcome_of, KeptLabel, Decided, Lent, BookValue, find_transaction, broken, effect, votes_once, TransactionValue, Record, Recovery, recovery, entry_of, close_outcome, close_tid, is_left_open, outcome_in_log}
 use Rattle.qs_world_lawful.proofs.Words.{recovered_of, Setting, Rise, may_move, moved, risen_host, Host, World, inc_of, Lasts, HoldsHost, Every, HoldsStopped, found_votes, HoldsLeft, HoldsSaid, rise_entry, HoldsDown, HoldsKept, HoldsNodeAt, HoldsNodeOf, HoldsUp, HoldsWorld, IsLeftOpen, IsLoanOf, eqb-self, not-true, ltb-true, and_parts}
 use Rattle.qs_base.specs.declared.identifiers.Outcome.TheVariants as outcomes
 use Rattle.qs_book_journal.specs.declared.entry.Act.TheVariants as acts
@@ -41,7 +41,7 @@ module _ (here : NodeNo) (done : List Tid) (tid : Tid) (home : tid.home ≡ here
       by true e rest = rw e refl
       by false e rest = rw e rest
 
-  close_more : (begun : Begun) (os : List Decided) → HasOutcome os → HasOutcome (close_outcome here done os begun)
+  close_more : (begun : KeptLabel) (os : List Decided) → HasOutcome os → HasOutcome (close_outcome here done os begun)
   close_more begun os h = by begun.tid
     where
       if_more : (b : Bool) (d : Decided) → HasOutcome (if b then os ++ d ∷ [] else os)
@@ -52,7 +52,7 @@ module _ (here : NodeNo) (done : List Tid) (tid : Tid) (home : tid.home ≡ here
       by None = h
       by (Some t) = if_more (is_left_open here os t) (outcome_in_log done t)
 
-  close_own : (begun : Begun) (os : List Decided) → begun.tid ≡ Some tid → HasOutcome (close_outcome here done os begun)
+  close_own : (begun : KeptLabel) (os : List Decided) → begun.tid ≡ Some tid → HasOutcome (close_outcome here done os begun)
   close_own begun os is = subst (λ (o : Option Tid). HasOutcome (close_tid here done os o)) (sym is) (by (find (is_outcome_of tid) os) refl)
     where
       near : same_node tid.home here ≡ true
@@ -75,14 +75,14 @@ module _ (here : NodeNo) (done : List Tid) (tid : Tid) (home : tid.home ≡ here
           both : is_left_open here os tid ≡ false
           both = rw (near, e) refl
 
-  fold_more : (labels : List Begun) (os : List Decided) → HasOutcome os → HasOutcome (fold (close_outcome here done) os labels)
+  fold_more : (labels : List KeptLabel) (os : List Decided) → HasOutcome os → HasOutcome (fold (close_outcome here done) os labels)
   fold_more [] os h = h
   fold_more (b ∷ labels) os h = fold_more labels (close_outcome here done os b) (close_more b os h)
 
-  pub fold_own : (begun : Begun) → begun.tid ≡ Some tid → (labels : List Begun) (os : List Decided) → HasOutcome (fold (close_outcome here done) (close_outcome here done os begun) labels)
+  pub fold_own : (begun : KeptLabel) → begun.tid ≡ Some tid → (labels : List KeptLabel) (os : List Decided) → HasOutcome (fold (close_outcome here done) (close_outcome here done os begun) labels)
   fold_own begun is labels os = fold_more labels (close_outcome here done os begun) (close_own begun os is)
 
-all_closed : (here : NodeNo) (done : List Tid) (book : BookValue) (labels : List Begun) (os : List Decided) → Every (λ (b : Begun). (tid : Tid) → b.tid ≡ Some tid → tid.home ≡ here → is_some (find (is_outcome_of tid) (fold (close_outcome here done) os labels)) ≡ true) labels
+all_closed : (here : NodeNo) (done : List Tid) (book : BookValue) (labels : List KeptLabel) (os : List Decided) → Every (λ (b : KeptLabel). (tid : Tid) → b.tid ≡ Some tid → tid.home ≡ here → is_some (find (is_outcome_of tid) (fold (close_outcome here done) os labels)) ≡ true) labels
 all_closed here done book [] os = tt
 all_closed here done book (b ∷ labels) os = ((λ tid is home. fold_own here done tid home b is labels os), all_closed here done book labels (close_outcome here done os b))
 

@@ -1,6 +1,6 @@
 -- What comes in a step writes at most the end of a transaction's records, but where a commit is told: commands, messages, restarts of other nodes
 -- and time. So do refusal, forgetting, and commands that stayed open.
-use Rattle.qs_world_lawful.proofs.Words.{ℕ, Bool, true, false, List, [], ◌∷◌, Option, Some, None, refl, if◌then◌else◌, ⊤, ClientNo, NodeNo, Outcome, Tid, same_node, Command, ScriptLine, Begun, Decided, ticked, Cause, Message, kept_outcome, borrower_command, enter, log, send, ask, begin_as, begin_or_refuse, decided_answer, open_command, owner_command, label_at, put_label, forget_rule, refusal_goes_to, refuse_elsewhere, refuse_home, refuse_rule, send_refusal, Work, change_server, here, with_manager}
+use Rattle.qs_world_lawful.proofs.Words.{ℕ, Bool, true, false, List, [], ◌∷◌, Option, Some, None, refl, if◌then◌else◌, ⊤, ClientNo, NodeNo, Outcome, Tid, same_node, Command, ScriptLine, KeptLabel, Decided, ticked, Cause, Message, kept_outcome, borrower_command, enter, log, send, ask, begin_as, begin_or_refuse, decided_answer, open_command, owner_command, label_at, put_label, forget_rule, refusal_goes_to, refuse_elsewhere, refuse_home, refuse_rule, send_refusal, Work, change_server, here, with_manager}
 use Rattle.qs_world_lawful.proofs.Words.{abort_old, age_rule, command_came, happen, is_owner, labelled, message_came, obey, tick, with_command, end_told, forget, learn_unknown, names_at, take_names, take_outcome, take_told, tell_came, told_at_home, told_came, told_known, told_unknown, Event, is_forgotten, is_undecided, BeginFault, Participant}
 use Rattle.qs_base.specs.declared.identifiers.Outcome.TheVariants as outcomes
 use Rattle.qs_book_journal.specs.declared.entry.Act.TheVariants as acts
@@ -55,7 +55,7 @@ ends_owner client (Some tid) command work = by (kept_outcome tid work.node)
     by None = ends_open client tid command work
     by (Some decided) = ends_quiet work (answer client (decided_answer decided command) work) (quiet_answer client (decided_answer decided command) work)
 
-ends_labelled : (client : ClientNo) (begun : Begun) (command : Command) (work : Work) → EndsOnly work (labelled client begun command work)
+ends_labelled : (client : ClientNo) (begun : KeptLabel) (command : Command) (work : Work) → EndsOnly work (labelled client begun command work)
 ends_labelled client begun command work = ends_if (is_owner client begun.owner) work _ _ (ends_owner client begun.tid command work) (by begun.tid)
   where
     by : (o : Option Tid) → EndsOnly work (elim o [ None ↦ work | Some tid ↦ borrower_command client tid command work ])
@@ -65,7 +65,7 @@ ends_labelled client begun command work = ends_if (is_owner client begun.owner) 
 ends_met : (line : ScriptLine) (command : Command) (work : Work) → EndsOnly work (elim (label_at line.label work.node) [ None ↦ work | Some begun ↦ labelled line.client begun command work ])
 ends_met line command work = by (label_at line.label work.node)
   where
-    by : (o : Option Begun) → EndsOnly work (elim o [ None ↦ work | Some begun ↦ labelled line.client begun command work ])
+    by : (o : Option KeptLabel) → EndsOnly work (elim o [ None ↦ work | Some begun ↦ labelled line.client begun command work ])
     by None = ends_self work
     by (Some begun) = ends_labelled line.client begun command work
 

@@ -1,6 +1,6 @@
 -- How many changes files have pending after a serve is what the machine counts then.
 use Rattle.qs_world_lawful.proofs.Words.{◌≡◌, ◌≢◌, ℕ, ◌+◌, ◌==◌, Bool, true, false, List, [], ◌∷◌, ◌++◌, Option, Some, None, suc, refl, sym, ap, subst, ◌∙◌, arith, length, nat_lt, nat_tests, unwrap_or, nat_le, if◌then◌else◌, tid_cmp, NodeNo, ServerNo, Tid, tid_itself, lookup_put, IsRising, put_rises, tid_total, ServerValue, changes_in, after_serving, served_by, reply_of, TableValue, share_of, nothing_held, served, after_serve, reply_to, holder, Op, Put, Append, Del, Get, Listing, Note, Notes, Bind}
-use Rattle.qs_world_lawful.proofs.Words.{Find, Timer, Left, Window, Title, Keep, Fetch, Lend, Extra, Reply, Kind, Files, Share, TransactionValue, life, served_in, Part, RequestNo, ServersValue, with_server, is_client, at_server, HoldsFiles, false≢true, eqb-true, eqb-false, some_same}
+use Rattle.qs_world_lawful.proofs.Words.{Find, Timer, Left, Window, Title, Keep, Fetch, Lend, Extra, Reply, ServerKind, Files, Share, TransactionValue, life, served_in, Part, RequestNo, ServersValue, with_server, is_client, at_server, HoldsFiles, false≢true, eqb-true, eqb-false, some_same}
 use Rattle.qs_ipc.specs.Queue.{is_for}
 use Rattle.qs_ops.specs.Files.{text_reply}
 use Rattle.qs_ops.specs.Server.{reply_in}
@@ -104,7 +104,7 @@ module _ (servers : ServersValue) (f : HoldsFiles servers) (server : ServerNo) (
   u value = after_serving value tid op reply
 
   files_served : after_serving servers.files tid op reply ≡ record servers.files { table = served servers.files.table tid op reply }
-  files_served = ap (λ (k : Kind). served_by k tid op reply servers.files) f.kind
+  files_served = ap (λ (k : ServerKind). served_by k tid op reply servers.files) f.kind
 
   -- files are files still
   pub serve_filed : HoldsFiles (with_server server u servers)
@@ -131,7 +131,7 @@ module _ (servers : ServersValue) (f : HoldsFiles servers) (server : ServerNo) (
         count_is d a b e = ap (λ (n : ℕ). if d then n + 1 else n) e
 
         changed : (is_for rules.files_no op ≡ true) × (reply_of servers.files tid op ≡ Some reply) → reply ≡ replies.Done → is_change op ≡ true
-        changed so is = done_change servers.files.table tid op so.0 (sym (ap (λ (k : Kind). reply_in servers.files k tid op) f.kind) ∙ (so.1 ∙ ap (λ (r : Reply). Some r) is))
+        changed so is = done_change servers.files.table tid op so.0 (sym (ap (λ (k : ServerKind). reply_in servers.files k tid op) f.kind) ∙ (so.1 ∙ ap (λ (r : Reply). Some r) is))
 
         by : (b : Bool) → (server.0 == numbers.files_no) ≡ b → (part_of after (at_server here rules.files_no) inc).pending ≡ length (changes_in (with_server server u servers).files tid)
         by true is =

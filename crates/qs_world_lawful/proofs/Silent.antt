@@ -1,7 +1,7 @@
 -- What a node does without an entry that changes what is held: a request leaves its queue, a label is kept, a command comes, a
 -- loan is taken; and the tick of its clock.
 use Rattle.qs_world_lawful.proofs.Words.{◌≡◌, ◌≢◌, ◌⊎◌, inl, inr, ℕ, ◌≤◌, Bool, true, false, List, [], ◌∷◌, Option, Some, None, Equal, suc, refl, sym, ap, subst, ◌∙◌, arith, length, drop, le_refl, filter, find, lookup, is_at, tied_itself, nat_cmp_total, exact_unsigned, ClientNo, NodeNo, ServerNo, Tid, IpcValue, queue_at, QueueValue, Delivery, ScriptLine, lookup_put, lookup_put_apart, changed_at_here, put_rises, TransactionValue, RequestNo, BookValue, find_transaction, tick_node, ticked}
-use Rattle.qs_world_lawful.proofs.Words.{enter, put_label, label_at, has_label, Work, with_queues, with_manager, change_server, client_cmp, with_command, Begun, OpenCommand, face_of, HoldsTid, HoldsAt, HoldsClients, IsBehind, IsOwner, IsAsking, HoldsWork, book_at, is_seen, HoldsWaitsAt, IsWithin, waiting_ops, op_of, Op, some_same, le_le}
+use Rattle.qs_world_lawful.proofs.Words.{enter, put_label, label_at, has_label, Work, with_queues, with_manager, change_server, client_cmp, with_command, KeptLabel, OpenCommand, face_of, HoldsTid, HoldsAt, HoldsClients, IsBehind, IsOwner, IsAsking, HoldsWork, book_at, is_seen, HoldsWaitsAt, IsWithin, waiting_ops, op_of, Op, some_same, le_le}
 use Rattle.std.specs.Cmp.{IsTotalOrder}
 use Rattle.std.proofs.lemmas.Cmp.{on_total}
 use Rattle.qs_ipc.specs.Ipc as ipc
@@ -138,7 +138,7 @@ module _ (stamp : ℕ) (before : BookValue) (work : Work) (h : HoldsWork stamp b
 
   -- ---- a label is kept: of a begin that was refused, or of a transaction of another node's client
 
-  pub by_label : (b : Begun) → ((t : Tid) (c : ClientNo) → b.tid ≡ Some t → b.owner ≡ Some c → ⊥) → HoldsWork stamp before (put_label b work)
+  pub by_label : (b : KeptLabel) → ((t : Tid) (c : ClientNo) → b.tid ≡ Some t → b.owner ≡ Some c → ⊥) → HoldsWork stamp before (put_label b work)
   by_label b nobody = kept_on stamp before work (put_label b work) h refl refl
       (held_on stamp book book node new h.holds (record { setting = refl; at = refl; in_inc = refl }) refl h.holds.state (record { up = refl; inc = refl; begun = refl; format = refl })
       h.holds.order refl h.holds.there (λ t is. is) (at_none here node.setting.inc book node new h.holds.at faces) clients h.holds.servers h.holds.waits)
@@ -152,12 +152,12 @@ module _ (stamp : ℕ) (before : BookValue) (work : Work) (h : HoldsWork stamp b
       asking_on : (t : Tid) (c : ClientNo) → IsAsking node t c → IsAsking new t c
       asking_on t c a = record { command = a.command; waits = a.waits; commits = a.commits; unissued = a.unissued; begun = a.begun; labelled = label_stays a.command.line.label b node.kept.now.labels a.begun a.labelled; of = a.of; owned = a.owned }
 
-      labels_on : (label : List ℕ) (begun : Begun) (t : Tid) (c : ClientNo) → label_at label new ≡ Some begun → begun.tid ≡ Some t → begun.owner ≡ Some c → IsOwner book t c
+      labels_on : (label : List ℕ) (begun : KeptLabel) (t : Tid) (c : ClientNo) → label_at label new ≡ Some begun → begun.tid ≡ Some t → begun.owner ≡ Some c → IsOwner book t c
       labels_on label begun t c is of owned = by (label_more label b node.kept.now.labels begun is)
         where
           by : (find (has_label label) node.kept.now.labels ≡ Some begun) ⊎ (b ≡ begun) → IsOwner book t c
           by (inl was) = h.holds.clients.labels label begun t c was of owned
-          by (inr same) = absurd (nobody t c (ap (λ (x : Begun). x.tid) same ∙ of) (ap (λ (x : Begun). x.owner) same ∙ owned))
+          by (inr same) = absurd (nobody t c (ap (λ (x : KeptLabel). x.tid) same ∙ of) (ap (λ (x : KeptLabel). x.owner) same ∙ owned))
 
       clients : HoldsClients book new
       clients = record {

@@ -1,5 +1,5 @@
 -- Whatever files, audit and the further server vote is the vote by the rules, whether their transaction is crossed there or not.
-use Rattle.qs_world_lawful.proofs.Words.{◌≡◌, ℕ, ◌==◌, ◌+◌, Bool, true, false, List, Some, refl, sym, ap, subst, ◌∙◌, arith, nat_lt, true≢false, nat_tests, not, length, fold, if◌then◌else◌, Member, NodeNo, ServerNo, Tid, BookValue, find_transaction, has_vote, is_vote, TransactionValue, is_crossed, vote_of, changes_vote, names_no, windows_no, scratch_no, class_of, is_two_phase, TableValue, share_of, has_changes, apply_change, File, Kind, Share, Vote, server_at, at_server, Holds, HoldsTable, is_seen}
+use Rattle.qs_world_lawful.proofs.Words.{◌≡◌, ℕ, ◌==◌, ◌+◌, Bool, true, false, List, Some, refl, sym, ap, subst, ◌∙◌, arith, nat_lt, true≢false, nat_tests, not, length, fold, if◌then◌else◌, Member, NodeNo, ServerNo, Tid, BookValue, find_transaction, has_vote, is_vote, TransactionValue, is_crossed, vote_of, changes_vote, names_no, windows_no, scratch_no, class_of, is_two_phase, TableValue, share_of, has_changes, apply_change, File, ServerKind, Share, Vote, server_at, at_server, Holds, HoldsTable, is_seen}
 use Rattle.qs_world_lawful.proofs.Words.{seen_in, eqb-true, eq-eqb}
 use Rattle.std.specs.Prelude.{sum_by}
 use Rattle.qs_book_machine.specs.Clauses.{is_server_vote, prepare_need}
@@ -88,7 +88,7 @@ module _ (stamp : ℕ) (book : BookValue) (node : NodeValue) (h : Holds stamp bo
 
       by : (b : Bool) → has_changes held tid ≡ b → IsRight files_no (if b then changes_vote node.servers.files.kind held tid free frame else votes.ReadOnly)
       by false is = right files_no votes.ReadOnly refl (λ mine. ap not (same_changes files_no h.state.files held h.servers.files mine ∙ is))
-      by true is = subst (λ (k : Kind). IsRight files_no (changes_vote k held tid free frame)) (sym h.servers.kinds.files) (with_quota is h.servers.kinds.quota (nat_lt h.servers.kinds.quota (view_bytes held tid)) refl)
+      by true is = subst (λ (k : ServerKind). IsRight files_no (changes_vote k held tid free frame)) (sym h.servers.kinds.files) (with_quota is h.servers.kinds.quota (nat_lt h.servers.kinds.quota (view_bytes held tid)) refl)
 
   audit_right : (free : ℕ) → IsRight audit_no (vote_of node.servers.audit tid free frame)
   audit_right free = by (has_changes held tid) refl
@@ -101,7 +101,7 @@ module _ (stamp : ℕ) (book : BookValue) (node : NodeValue) (h : Holds stamp bo
 
       by : (b : Bool) → has_changes held tid ≡ b → IsRight audit_no (if b then changes_vote node.servers.audit.kind held tid free frame else votes.ReadOnly)
       by false is = right audit_no votes.ReadOnly refl (λ mine. ap not (same_changes audit_no h.state.audit held h.servers.audit mine ∙ is))
-      by true is = subst (λ (k : Kind). IsRight audit_no (changes_vote k held tid free frame)) (sym h.servers.kinds.audit)
+      by true is = subst (λ (k : ServerKind). IsRight audit_no (changes_vote k held tid free frame)) (sym h.servers.kinds.audit)
           (in_room held free (IsRight audit_no)
           (λ less. right audit_no (votes.Abort (reasons.LogRoom (vote_need held tid frame) free)) (rw less refl)
           (λ mine. and_three _ _ _ (some is mine) (eq-eqb _ _ (same_need audit_no h.state.audit held h.servers.audit mine)) less))
@@ -112,7 +112,7 @@ module _ (stamp : ℕ) (book : BookValue) (node : NodeValue) (h : Holds stamp bo
     where
       by : (b : Bool) → IsRight extra_no (if b then changes_vote node.servers.extra.kind node.servers.extra.table tid free frame else votes.ReadOnly)
       by false = right extra_no votes.ReadOnly refl (λ mine. refl)
-      by true = subst (λ (k : Kind). IsRight extra_no (changes_vote k node.servers.extra.table tid free frame)) (sym h.servers.kinds.extra) (right extra_no votes.ReadOnly refl (λ mine. refl))
+      by true = subst (λ (k : ServerKind). IsRight extra_no (changes_vote k node.servers.extra.table tid free frame)) (sym h.servers.kinds.extra) (right extra_no votes.ReadOnly refl (λ mine. refl))
 
   -- all that vote but names
   pub vote_is_right : (server : ServerNo) → is_kept server ≡ true → is_two_phase (class_of server.0) ≡ true → (server.0 == names_no) ≡ false → (free : ℕ) → is_vote h.state tid tx (at_server here server) (vote_of (server_at node.servers server) tid free frame) ≡ true

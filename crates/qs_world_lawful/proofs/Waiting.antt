@@ -1,5 +1,5 @@
 -- A command that stayed open is looked at again at the end of a step: as a whole.
-use Rattle.qs_world_lawful.proofs.Words.{◌≡◌, ℕ, ◌==◌, Bool, true, false, Option, Some, None, refl, sym, ap, subst, ◌∙◌, nat_lt, true≢false, if◌then◌else◌, lookup, is_at, ClientNo, Member, Tid, Op, Command, BookValue, last_taken, Begun, Lent, borrower_command, is_void, is_aborted, request_command, label_at, Work, client_cmp, is_owner, owner_waits, borrower_waits, waits_at, wait_command, wait_on, Issued, OpenCommand, IsAsking, HoldsWork, Participant, some_same, eqb-self, eqb-true}
+use Rattle.qs_world_lawful.proofs.Words.{◌≡◌, ℕ, ◌==◌, Bool, true, false, Option, Some, None, refl, sym, ap, subst, ◌∙◌, nat_lt, true≢false, if◌then◌else◌, lookup, is_at, ClientNo, Member, Tid, Op, Command, BookValue, last_taken, KeptLabel, Lent, borrower_command, is_void, is_aborted, request_command, label_at, Work, client_cmp, is_owner, owner_waits, borrower_waits, waits_at, wait_command, wait_on, Issued, OpenCommand, IsAsking, HoldsWork, Participant, some_same, eqb-self, eqb-true}
 use Rattle.qs_ops.specs.declared.answer.Answer.TheVariants as answers
 use Rattle.qs_book_journal.specs.declared.script_line.Command.TheVariants as commands
 use Rattle.qs_node_step.specs.Bringing.{answer}
@@ -9,8 +9,8 @@ use Rattle.qs_world_lawful.proofs.OwnersAnswers.{by_owner_waits}
 use Rattle.qs_tm.specs.Manager as tm
 
 module _ (stamp : ℕ) (before : BookValue) (work : Work) (h : HoldsWork stamp before work) (client : ClientNo) (small : nat_lt client.0 224 ≡ true)
-    (inc : (command : OpenCommand) (begun : Begun) (tid : Tid) → lookup (is_at (client_cmp client)) work.node.commands ≡ Some command → label_at command.line.label work.node ≡ Some begun → begun.tid ≡ Some tid → begun.owner ≡ Some client → (part : Participant) → tm.part_of tid work.node.manager ≡ Some part → part.outcome ≡ None → tid.inc ≡ work.node.setting.inc)
-    (requests : (command : OpenCommand) (begun : Begun) (tid : Tid) (member : Member) (op : Op) (last : Lent) → lookup (is_at (client_cmp client)) work.node.commands ≡ Some command → label_at command.line.label work.node ≡ Some begun → begun.tid ≡ Some tid
+    (inc : (command : OpenCommand) (begun : KeptLabel) (tid : Tid) → lookup (is_at (client_cmp client)) work.node.commands ≡ Some command → label_at command.line.label work.node ≡ Some begun → begun.tid ≡ Some tid → begun.owner ≡ Some client → (part : Participant) → tm.part_of tid work.node.manager ≡ Some part → part.outcome ≡ None → tid.inc ≡ work.node.setting.inc)
+    (requests : (command : OpenCommand) (begun : KeptLabel) (tid : Tid) (member : Member) (op : Op) (last : Lent) → lookup (is_at (client_cmp client)) work.node.commands ≡ Some command → label_at command.line.label work.node ≡ Some begun → begun.tid ≡ Some tid
     → command.issued ≡ None → command.line.command ≡ commands.Request member op → last_taken client tid work.node.kept.now.loans ≡ Some last → last.yielded ≡ false → is_void tid last work.node ≡ false → HoldsWork stamp before (request_command client tid member op work)) where
   same_client : (c : ClientNo) → (c.0 == client.0) ≡ true → c ≡ client
   same_client c e = ap (λ (n : ℕ). record { 0 = n }) (eqb-true c.0 client.0 e)
@@ -19,14 +19,14 @@ module _ (stamp : ℕ) (before : BookValue) (work : Work) (h : HoldsWork stamp b
   owner_is None e = absurd (cc e)
   owner_is (Some owner) e = ap (λ (c : ClientNo). Some c) (same_client owner e)
 
-  module _ (command : OpenCommand) (waits : lookup (is_at (client_cmp client)) work.node.commands ≡ Some command) (begun : Begun) (labelled : label_at command.line.label work.node ≡ Some begun) where
+  module _ (command : OpenCommand) (waits : lookup (is_at (client_cmp client)) work.node.commands ≡ Some command) (begun : KeptLabel) (labelled : label_at command.line.label work.node ≡ Some begun) where
     -- who does not own it does not wait for its commit
     idle : is_owner client begun.owner ≡ false → (t : Tid) → IsAsking work.node t client → ⊥
     idle other t a =
         let same : command ≡ a.command = some_same (sym waits ∙ a.waits) in
         let label : label_at command.line.label work.node ≡ Some a.begun = subst (λ (c : OpenCommand). label_at c.line.label work.node ≡ Some a.begun) (sym same) a.labelled in
         let begun_same : begun ≡ a.begun = some_same (sym labelled ∙ label) in
-        true≢false (sym (ap (is_owner client) (ap (λ (b : Begun). b.owner) begun_same ∙ a.owned) ∙ eqb-self client.0) ∙ other)
+        true≢false (sym (ap (is_owner client) (ap (λ (b : KeptLabel). b.owner) begun_same ∙ a.owned) ∙ eqb-self client.0) ∙ other)
 
     pub by_borrower_command : is_owner client begun.owner ≡ false → command.issued ≡ None → (tid : Tid) → begun.tid ≡ Some tid → (c : Command) → command.line.command ≡ c → HoldsWork stamp before (borrower_command client tid c work)
     by_borrower_command other unissued tid of = by
@@ -71,7 +71,7 @@ module _ (stamp : ℕ) (before : BookValue) (work : Work) (h : HoldsWork stamp b
   pub by_wait_on : HoldsWork stamp before (wait_on work client)
   by_wait_on = by (lookup (is_at (client_cmp client)) work.node.commands) refl
     where
-      at_label : (command : OpenCommand) → lookup (is_at (client_cmp client)) work.node.commands ≡ Some command → (o : Option Begun) → label_at command.line.label work.node ≡ o → HoldsWork stamp before (elim o [ None ↦ work | Some begun ↦ waits_at client command begun work ])
+      at_label : (command : OpenCommand) → lookup (is_at (client_cmp client)) work.node.commands ≡ Some command → (o : Option KeptLabel) → label_at command.line.label work.node ≡ o → HoldsWork stamp before (elim o [ None ↦ work | Some begun ↦ waits_at client command begun work ])
       at_label command waits None is = h
       at_label command waits (Some begun) is = by_waits_at command waits begun is
 

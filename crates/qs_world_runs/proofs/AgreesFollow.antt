@@ -1,5 +1,5 @@
 -- What a stage of a step says of a transaction the next stage says too: as the node settles, and as it answers commands that stayed open.
-use Rattle.qs_world_runs.proofs.Words.{◌≡◌, ℕ, Bool, true, false, Option, Some, None, is_none, refl, ap, if◌then◌else◌, lookup, is_at, ClientNo, Tid, Begun, Decided, kept_outcome, is_aborted, answer, decided_answer, label_at, forget_rule, pass_rule, ready_rule, refuse_rule, settle_tid, try, Work, client_cmp, borrower_waits, is_owner, owner_waits, wait_command, wait_on, waits_at, Issued, OpenCommand, is_undecided, Participant, World, Scene, is_sound, commands_in_run, case_of, settle_tid_goes}
+use Rattle.qs_world_runs.proofs.Words.{◌≡◌, ℕ, Bool, true, false, Option, Some, None, is_none, refl, ap, if◌then◌else◌, lookup, is_at, ClientNo, Tid, KeptLabel, Decided, kept_outcome, is_aborted, answer, decided_answer, label_at, forget_rule, pass_rule, ready_rule, refuse_rule, settle_tid, try, Work, client_cmp, borrower_waits, is_owner, owner_waits, wait_command, wait_on, waits_at, Issued, OpenCommand, is_undecided, Participant, World, Scene, is_sound, commands_in_run, case_of, settle_tid_goes}
 use Rattle.qs_world_runs.proofs.Words.{leads_on}
 use Rattle.qs_base.specs.declared.identifiers.Outcome.{Outcome}
 use Rattle.qs_ops.specs.declared.answer.Answer.TheVariants as answers
@@ -64,7 +64,7 @@ wait_on_on {k} work client = by (lookup (is_at (client_cmp client)) work.node.co
     borrower command None None = on_itself work
     borrower command None (Some tid) = borrower_command_on client tid command.line.command work
 
-    at : (command : OpenCommand) (o : Option Begun) → TurnsOn k work (elim o [ None ↦ work | Some begun ↦ waits_at client command begun work ])
+    at : (command : OpenCommand) (o : Option KeptLabel) → TurnsOn k work (elim o [ None ↦ work | Some begun ↦ waits_at client command begun work ])
     at command None = on_itself work
     at command (Some begun) = if_on (is_owner client begun.owner) (owner command begun.tid) (borrower command command.issued begun.tid)
 
@@ -96,11 +96,11 @@ module _ (t : Tid) (scene : Scene) (n : ℕ) (work : Work) (w : machine.World) (
     command_stands : GoesOn t scene n (wait_command client command work) w
     command_stands = by (label_at command.line.label work.node)
       where
-        owned : (begun : Begun) (b : Bool) → GoesOn t scene n (if b then owner_waits client begun.tid command.line.command work else borrower_waits client command.issued begun.tid command.line.command work) w
+        owned : (begun : KeptLabel) (b : Bool) → GoesOn t scene n (if b then owner_waits client begun.tid command.line.command work else borrower_waits client command.issued begun.tid command.line.command work) w
         owned begun true = owner_stands begun.tid
         owned begun false = borrower_stands command.issued begun.tid
 
-        by : (o : Option Begun) → GoesOn t scene n (elim o [ None ↦ work | Some begun ↦ waits_at client command begun work ]) w
+        by : (o : Option KeptLabel) → GoesOn t scene n (elim o [ None ↦ work | Some begun ↦ waits_at client command begun work ]) w
         by None = stands_itself t scene n work w is
         by (Some begun) = owned begun (is_owner client begun.owner)
 

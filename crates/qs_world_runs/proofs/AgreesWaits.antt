@@ -1,5 +1,5 @@
 -- What is kept at each stage of a step is kept as a command that stayed open is answered.
-use Rattle.qs_world_runs.proofs.Words.{◌≡◌, ℕ, Bool, true, List, Option, Some, None, refl, lookup, is_at, ClientNo, Member, NodeNo, Tid, Command, first_untaken, last_taken, Begun, Decided, Lent, Op, kept_outcome, is_aborted, is_void, take, take_command, lent_command, with_loan, loan_command, borrower_command, enter, request_as, request_command, decided_answer, label_at, Work, client_cmp, is_owner, owner_waits, borrower_waits, waits_at, wait_command, wait_on, Issued, OpenCommand}
+use Rattle.qs_world_runs.proofs.Words.{◌≡◌, ℕ, Bool, true, List, Option, Some, None, refl, lookup, is_at, ClientNo, Member, NodeNo, Tid, Command, first_untaken, last_taken, KeptLabel, Decided, Lent, Op, kept_outcome, is_aborted, is_void, take, take_command, lent_command, with_loan, loan_command, borrower_command, enter, request_as, request_command, decided_answer, label_at, Work, client_cmp, is_owner, owner_waits, borrower_waits, waits_at, wait_command, wait_on, Issued, OpenCommand}
 use Rattle.qs_ipc.specs.Queue.{is_for}
 use Rattle.qs_book_journal.specs.declared.script_line.Command.TheVariants as commands
 use Rattle.qs_ops.specs.declared.answer.Answer.TheVariants as answers
@@ -57,7 +57,7 @@ module _ (P Q : Tid → Bool) (R : NodeNo → Bool) (me : NodeNo) (nodes : ℕ) 
       by None = i
       by (Some decided) = keeps.answer client (decided_answer decided command) work i
 
-  borrower_waits_walk : (client : ClientNo) (issued : Option Issued) (name : List ℕ) (begun : Begun) (command : Command) (work : Work) → label_at name work.node ≡ Some begun → may_command nodes command ≡ true → I work → I (borrower_waits client issued begun.tid command work)
+  borrower_waits_walk : (client : ClientNo) (issued : Option Issued) (name : List ℕ) (begun : KeptLabel) (command : Command) (work : Work) → label_at name work.node ≡ Some begun → may_command nodes command ≡ true → I work → I (borrower_waits client issued begun.tid command work)
   borrower_waits_walk client (Some issued) name begun command work found may i = if_walk P Q R me nodes I reads keeps (is_aborted issued.tid work.node) (λ is. keeps.answer client answers.Ended work i) (λ is. i)
   borrower_waits_walk client None name begun command work found may i = by begun.tid refl
     where
@@ -68,7 +68,7 @@ module _ (P Q : Tid → Bool) (R : NodeNo → Bool) (me : NodeNo) (nodes : ℕ) 
   pub wait_on_walk : (work : Work) (client : ClientNo) → I work → I (wait_on work client)
   wait_on_walk work client i = by (lookup (is_at (client_cmp client)) work.node.commands) refl
     where
-      at : (command : OpenCommand) → may_command nodes command.line.command ≡ true → (o : Option Begun) → label_at command.line.label work.node ≡ o → I (elim o [ None ↦ work | Some begun ↦ waits_at client command begun work ])
+      at : (command : OpenCommand) → may_command nodes command.line.command ≡ true → (o : Option KeptLabel) → label_at command.line.label work.node ≡ o → I (elim o [ None ↦ work | Some begun ↦ waits_at client command begun work ])
       at command may None none = i
       at command may (Some begun) found = if_walk P Q R me nodes I reads keeps (is_owner client begun.owner) (λ is. owner_waits_walk client begun.tid command.line.command work i)
           (λ is. borrower_waits_walk client command.issued command.line.label begun command.line.command work found may i)

@@ -1,6 +1,6 @@
 -- What waits for its reply waits on as clients command: the client that issued it does not, since its command is in hand.
 use Rattle.qs_world_runs.proofs.Words.{◌≡◌, inl, ℕ, ◌+◌, Bool, true, false, List, [], ◌∷◌, ◌++◌, Option, Some, None, refl, sym, subst, ◌∙◌, if◌then◌else◌, nat_cmp_total, tied_itself, is_at, lookup, is_some, Equal, ClientNo, Member, Tid, Lent, Op, label_at, put_label, changed_apart, Work, client_cmp, with_doings, with_manager, Issued, OpenCommand, awaits_note, is_answered_by, is_by_files, is_forgotten, new_participant, Participant, Command, ScriptLine, first_untaken, give_back, last_taken}
-use Rattle.qs_world_runs.proofs.Words.{take_first, Begun, Decided, Answer, client_server, kept_outcome, become_asked, borrower_command, is_void, lent_command, take, with_loan, yield, answer, enter, ask, begin_as, begin_command, begin_or_refuse, decided_answer, enter_ask, open_command, owner_command, refuse_begin, request_as, request_command, command_came, is_owner, labelled, obey, with_command, with_kept, BeginFault, client_exact}
+use Rattle.qs_world_runs.proofs.Words.{take_first, KeptLabel, Decided, Answer, client_server, kept_outcome, become_asked, borrower_command, is_void, lent_command, take, with_loan, yield, answer, enter, ask, begin_as, begin_command, begin_or_refuse, decided_answer, enter_ask, open_command, owner_command, refuse_begin, request_as, request_command, command_came, is_owner, labelled, obey, with_command, with_kept, BeginFault, client_exact}
 use Rattle.qs_base.specs.declared.identifiers.Outcome.TheVariants as outcomes
 use Rattle.qs_node_step.specs.Deciding.{decide}
 use Rattle.qs_node_step.specs.Requests.{next_number}
@@ -161,7 +161,7 @@ module _ (D : Type 0) (tid : Tid) (member : Member) (number : ℕ) where
       borrows c None = itself_on D tid member number work
       borrows c (Some t) = borrower_on line.client t c work free
 
-      under : (c : Command) (o : Option Begun) → L work (elim o [ None ↦ work | Some begun ↦ labelled line.client begun c work ])
+      under : (c : Command) (o : Option KeptLabel) → L work (elim o [ None ↦ work | Some begun ↦ labelled line.client begun c work ])
       under c None = itself_on D tid member number work
       under c (Some begun) = if_on D tid member number (is_owner line.client begun.owner) (owner_command line.client begun.tid c work) (elim begun.tid [ None ↦ work | Some t ↦ borrower_command line.client t c work ]) work
           (λ so. owner_on line.client begun.tid c work free) (λ so. borrows c begun.tid)

@@ -1,5 +1,5 @@
 -- What waits for its reply waits on through each thing that a rule does: changes of what is kept of transactions, of commands, and of what is kept for clients.
-use Rattle.qs_world_runs.proofs.Words.{◌≡◌, ◌≢◌, ◌⊎◌, inl, inr, ℕ, ◌==◌, ◌&&◌, ◌||◌, not, Bool, true, false, List, [], ◌∷◌, ◌++◌, Some, None, refl, sym, ap, subst, ◌∙◌, arith, if◌then◌else◌, nat_tests, is_at, filter, find, list_any, lookup, is_some, ClientNo, Member, Tid, give_back, is_taken, last_taken, take_first, Begun, Lent, forget_apart, is_engaged, client_cmp, OpenCommand, Manager, Outstanding, Participant, AreApart, same_client_or, same_or_apart, part_changed, Among, IsBorrowed}
+use Rattle.qs_world_runs.proofs.Words.{◌≡◌, ◌≢◌, ◌⊎◌, inl, inr, ℕ, ◌==◌, ◌&&◌, ◌||◌, not, Bool, true, false, List, [], ◌∷◌, ◌++◌, Some, None, refl, sym, ap, subst, ◌∙◌, arith, if◌then◌else◌, nat_tests, is_at, filter, find, list_any, lookup, is_some, ClientNo, Member, Tid, give_back, is_taken, last_taken, take_first, KeptLabel, Lent, forget_apart, is_engaged, client_cmp, OpenCommand, Manager, Outstanding, Participant, AreApart, same_client_or, same_or_apart, part_changed, Among, IsBorrowed}
 use Rattle.qs_world_runs.proofs.Words.{is_lent_to, eqb-true, and_first}
 use Rattle.qs_node_kept.specs.Keeping.{has_label}
 use Rattle.qs_node_kept.specs.Loans.{is_loan_of, is_untaken}
@@ -191,7 +191,7 @@ module _ (tid : Tid) (member : Member) (number : ℕ) where
   -- ---- what is kept for clients
 
   module _ (commands : List (ClientNo × OpenCommand)) (inc : ℕ) where
-    pub labelled_on : (kept : Kept) (label : Begun) → B commands kept inc → B commands (record kept { labels = kept.labels ++ label ∷ [] }) inc
+    pub labelled_on : (kept : Kept) (label : KeptLabel) → B commands kept inc → B commands (record kept { labels = kept.labels ++ label ∷ [] }) inc
     labelled_on kept label b = record { client = b.client; command = b.command; there = b.there; issued = b.issued; begun = b.begun; label = find_more (has_label b.command.line.label) kept.labels (label ∷ []) b.begun b.label; other = b.other; lent = b.lent }
 
     pub lent_on : (kept : Kept) (loan : Lent) → B commands kept inc → B commands (record kept { loans = kept.loans ++ loan ∷ [] }) inc

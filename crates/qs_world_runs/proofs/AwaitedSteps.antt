@@ -1,5 +1,5 @@
 -- What waits for its reply waits on through a whole step: a client whose request waits is answered by its reply, or where abort is known.
-use Rattle.qs_world_runs.proofs.Words.{◌≡◌, ℕ, ◌==◌, ◌&&◌, Bool, true, false, Option, Some, None, refl, sym, ap, subst, ◌∙◌, insert_entry, is_at, find, list_any, lookup, is_none, is_some, same_member, ClientNo, Member, ServerNo, Tid, member_here, label_at, due_tids, settle, Work, client_cmp, Setting, Issued, OpenCommand, Participant, Begun, Decided, kept_outcome, is_aborted, answer, decided_answer, begin_incarnation, borrower_waits, happen, is_owner, owner_waits, step_work, wait_command}
+use Rattle.qs_world_runs.proofs.Words.{◌≡◌, ℕ, ◌==◌, ◌&&◌, Bool, true, false, Option, Some, None, refl, sym, ap, subst, ◌∙◌, insert_entry, is_at, find, list_any, lookup, is_none, is_some, same_member, ClientNo, Member, ServerNo, Tid, member_here, label_at, due_tids, settle, Work, client_cmp, Setting, Issued, OpenCommand, Participant, KeptLabel, Decided, kept_outcome, is_aborted, answer, decided_answer, begin_incarnation, borrower_waits, happen, is_owner, owner_waits, step_work, wait_command}
 use Rattle.qs_world_runs.proofs.Words.{wait_on, waiting_clients, waits_at, work_on, Event, begin_same, is_engaged, IsBorrowed, same_Some}
 use Rattle.qs_packet.specs.declared.message.Message.TheVariants as messages
 use Rattle.qs_ops.specs.declared.answer.Answer.TheVariants as answers
@@ -29,11 +29,11 @@ module _ (D : Type 0) (tid : Tid) (member : Member) (number : ℕ) where
     its_own : (b : IsBorrowed tid member number work.node.commands work.node.kept.now work.node.setting.inc) → client ≡ b.client → b.command ≡ command
     its_own b e = same_Some b.command command (sym b.there ∙ subst (λ (c : ClientNo). lookup (is_at (client_cmp c)) work.node.commands ≡ Some command) e there)
 
-    owner_wait_on : (begun : Begun) → label_at command.line.label work.node ≡ Some begun → is_owner client begun.owner ≡ true → L work (owner_waits client begun.tid command.line.command work)
+    owner_wait_on : (begun : KeptLabel) → label_at command.line.label work.node ≡ Some begun → is_owner client begun.owner ≡ true → L work (owner_waits client begun.tid command.line.command work)
     owner_wait_on begun label owns = of begun.tid
       where
         not_its : Ot client work
-        not_its w b e = absurd (let mine : is_owner b.client b.begun.owner ≡ true = subst (λ (c : ClientNo). is_owner c b.begun.owner ≡ true) e (subst (λ (x : Begun). is_owner client x.owner ≡ true) (same_Some begun b.begun (sym label ∙ subst (λ (c : OpenCommand). label_at c.line.label work.node ≡ Some b.begun) (its_own b e) b.label)) owns) in
+        not_its w b e = absurd (let mine : is_owner b.client b.begun.owner ≡ true = subst (λ (c : ClientNo). is_owner c b.begun.owner ≡ true) e (subst (λ (x : KeptLabel). is_owner client x.owner ≡ true) (same_Some begun b.begun (sym label ∙ subst (λ (c : OpenCommand). label_at c.line.label work.node ≡ Some b.begun) (its_own b e) b.label)) owns) in
             let none : is_owner b.client b.begun.owner ≡ false = b.other in cc (mine, none))
 
         kept : (o : Option Decided) → L work (elim o [ None ↦ work | Some decided ↦ answer client (decided_answer decided command.line.command) work ])
@@ -59,7 +59,7 @@ module _ (D : Type 0) (tid : Tid) (member : Member) (number : ℕ) where
     known_on : L work (wait_command client command work)
     known_on = by (label_at command.line.label work.node) refl
       where
-        by : (o : Option Begun) → label_at command.line.label work.node ≡ o → L work (elim o [ None ↦ work | Some begun ↦ waits_at client command begun work ])
+        by : (o : Option KeptLabel) → label_at command.line.label work.node ≡ o → L work (elim o [ None ↦ work | Some begun ↦ waits_at client command begun work ])
         by None label = itself_on D tid member number work
         by (Some begun) label = if_on D tid member number (is_owner client begun.owner) (owner_waits client begun.tid command.line.command work) (borrower_waits client command.issued begun.tid command.line.command work) work
             (λ owns. owner_wait_on begun label owns) (λ so. borrower_wait_on command.issued refl begun.tid)

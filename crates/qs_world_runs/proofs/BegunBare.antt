@@ -1,5 +1,5 @@
 -- What begins in a step is not asked for there, and nothing of it is lent: so none of its servers votes, and no borrower has a request of it issued.
-use Rattle.qs_world_runs.proofs.Words.{◌≡◌, ℕ, ◌==◌, ◌&&◌, not, Bool, true, false, List, [], ◌∷◌, length, Option, Some, None, is_some, suc, refl, sym, ap, subst, ◌∙◌, arith, if◌then◌else◌, is_at, filter, lookup, nat_tests, same_tid, ClientNo, Tid, Command, first_untaken, give_back, is_standing_loan, is_taken, last_taken, take_first, Begun, Decided, Lent, Answer, Cause, client_server, kept_outcome, borrower_command, is_aborted, is_void, lent_command, loan_command, take, with_loan, yield}
+use Rattle.qs_world_runs.proofs.Words.{◌≡◌, ℕ, ◌==◌, ◌&&◌, not, Bool, true, false, List, [], ◌∷◌, length, Option, Some, None, is_some, suc, refl, sym, ap, subst, ◌∙◌, arith, if◌then◌else◌, is_at, filter, lookup, nat_tests, same_tid, ClientNo, Tid, Command, first_untaken, give_back, is_standing_loan, is_taken, last_taken, take_first, KeptLabel, Decided, Lent, Answer, Cause, client_server, kept_outcome, borrower_command, is_aborted, is_void, lent_command, loan_command, take, with_loan, yield}
 use Rattle.qs_world_runs.proofs.Words.{answer, enter, decided_answer, request_as, label_at, forget_rule, is_pass_due, may_answer, pass_rule, ready_rule, refuse_rule, settle_tid, try, Work, client_cmp, with_doings, with_kept, borrower_waits, is_owner, owner_waits, wait_command, wait_on, waits_at, Issued, OpenCommand, is_undecided, Participant, settle_leaves, same_is, next_not_zero, not_implied}
 use Rattle.qs_book_journal.specs.declared.entry.Act.TheVariants as acts
 use Rattle.qs_book_journal.specs.declared.script_line.Command.TheVariants as commands
@@ -216,11 +216,11 @@ module _ (t : Tid) where
       borrowed None None command = none
       borrowed None (Some tid) command = borrower_on client tid command work none
 
-      whose : (command : OpenCommand) (begun : Begun) (b : Bool) → NoneLent (if b then owner_waits client begun.tid command.line.command work else borrower_waits client command.issued begun.tid command.line.command work)
+      whose : (command : OpenCommand) (begun : KeptLabel) (b : Bool) → NoneLent (if b then owner_waits client begun.tid command.line.command work else borrower_waits client command.issued begun.tid command.line.command work)
       whose command begun true = owned begun.tid command.line.command
       whose command begun false = borrowed command.issued begun.tid command.line.command
 
-      labelled : (command : OpenCommand) (o : Option Begun) → NoneLent (elim o [ None ↦ work | Some begun ↦ waits_at client command begun work ])
+      labelled : (command : OpenCommand) (o : Option KeptLabel) → NoneLent (elim o [ None ↦ work | Some begun ↦ waits_at client command begun work ])
       labelled command None = none
       labelled command (Some begun) = whose command begun (is_owner client begun.owner)
 

@@ -1,5 +1,5 @@
 -- Of what the reference machine does not have yet no request waits and none is on its way, so nothing of it comes but a command.
-use Rattle.qs_world_runs.proofs.Words.{◌≡◌, inr, ℕ, ◌+◌, ◌<◌, ◌==◌, ◌&&◌, Bool, true, false, List, [], ◌∷◌, length, map, zero, suc, Option, Some, None, is_some, refl, sym, ap, subst, ◌∙◌, arith, if◌then◌else◌, drop, slice_get, filter, same_tid, ServerNo, Tid, IpcValue, queue_at, Delivery, Begun, BookValue, find_transaction, TransactionValue, Message, label_at, serve_next, serve_or_drop, Work, with_queues, work_on, Event, Clock, Commanded, Handed, Noticed, Queues, Source, event_of, Opening}
+use Rattle.qs_world_runs.proofs.Words.{◌≡◌, inr, ℕ, ◌+◌, ◌<◌, ◌==◌, ◌&&◌, Bool, true, false, List, [], ◌∷◌, length, map, zero, suc, Option, Some, None, is_some, refl, sym, ap, subst, ◌∙◌, arith, if◌then◌else◌, drop, slice_get, filter, same_tid, ServerNo, Tid, IpcValue, queue_at, Delivery, KeptLabel, BookValue, find_transaction, TransactionValue, Message, label_at, serve_next, serve_or_drop, Work, with_queues, work_on, Event, Clock, Commanded, Handed, Noticed, Queues, Source, event_of, Opening}
 use Rattle.qs_world_runs.proofs.Words.{Parcel, World, server_no, from_client, from_node, from_notice, steady, StepMay, step_may, same_is, begun_tidy, c, stage, tidy_reads, IsDoomed, AtEach, first_work, Every, IsParcel, is_asking_for, pending, Joined, book_in, PlacesAt, asked, message_of, ComesWell, ServesWell, some_same}
 use Rattle.qs_ipc.specs.Ipc as ipc
 use Rattle.qs_ipc.specs.Queue.{count_of, is_of}
@@ -146,7 +146,7 @@ commands_unbegun w t world n stamp free before source event is makes unbegun = b
     its = step_may world n stamp source makes.may
 
     Named : List ℕ → Type 0
-    Named label = (begun : Begun) → label_at label (first_work (world.hosts n).node free).node ≡ Some begun → begun.tid ≡ Some t → ⊥
+    Named label = (begun : KeptLabel) → label_at label (first_work (world.hosts n).node free).node ≡ Some begun → begun.tid ≡ Some t → ⊥
 
     never : (label : List ℕ) → Named label
     never label begun named tid_is = let has : has_begun world t ≡ true = (tidy_reads (c world is.steady n free its.low its.runs) (stage world is.steady n free its.low its.runs)).label label begun t (first_work (world.hosts n).node free) (begun_tidy world is.steady n free its.low its.runs) named tid_is in

@@ -1,5 +1,5 @@
 -- A command comes, or one that stayed open is looked at again: a request that it issues is issued well, or its transaction is doomed; a loan is given back.
-use Rattle.qs_world_runs.proofs.Words.{◌≡◌, ◌⊎◌, inl, inr, ℕ, Bool, true, false, List, Option, Some, None, refl, sym, ap, subst, ◌∙◌, if◌then◌else◌, is_at, lookup, same_tid, ClientNo, Member, Tid, Command, ScriptLine, last_taken, Begun, Decided, Lent, BookValue, Answer, Op, client_server, kept_outcome, borrower_command, is_aborted, is_void, lent_command, loan_command, with_loan, yield, answer, decided_answer, open_command, owner_command, request_as, request_command, label_at, Work, client_cmp}
+use Rattle.qs_world_runs.proofs.Words.{◌≡◌, ◌⊎◌, inl, inr, ℕ, Bool, true, false, List, Option, Some, None, refl, sym, ap, subst, ◌∙◌, if◌then◌else◌, is_at, lookup, same_tid, ClientNo, Member, Tid, Command, ScriptLine, last_taken, KeptLabel, Decided, Lent, BookValue, Answer, Op, client_server, kept_outcome, borrower_command, is_aborted, is_void, lent_command, loan_command, with_loan, yield, answer, decided_answer, open_command, owner_command, request_as, request_command, label_at, Work, client_cmp}
 use Rattle.qs_world_runs.proofs.Words.{borrower_waits, command_came, is_owner, labelled, obey, owner_waits, wait_command, wait_on, waits_at, with_command, Issued, OpenCommand, IsDoomed, same_is, Field, IssuesWell, WaitsWell, same_Some}
 use Rattle.qs_book_journal.specs.declared.script_line.Command.TheVariants as commands
 use Rattle.qs_ops.specs.declared.answer.Answer.TheVariants as answers
@@ -107,12 +107,12 @@ module _ (D : Type 0) (t : Tid) (base : Field) (knows : ℕ → ℕ) (n stamp : 
 
   -- ---- a command, by its label
 
-  lends : (client : ClientNo) (label : List ℕ) (begun : Begun) (command : Command) (work : Work) → CommandsWell D t base knows n stamp before client label command work → label_at label work.node ≡ Some begun → is_owner client begun.owner ≡ false → (tid : Tid) → begun.tid ≡ Some tid → LendsWell client tid command work
+  lends : (client : ClientNo) (label : List ℕ) (begun : KeptLabel) (command : Command) (work : Work) → CommandsWell D t base knows n stamp before client label command work → label_at label work.node ≡ Some begun → is_owner client begun.owner ≡ false → (tid : Tid) → begun.tid ≡ Some tid → LendsWell client tid command work
   lends client label begun command work well found other tid is member op loan same some given void request number numbered =
       well begun member op number found (is ∙ ap (λ (k : Tid). Some k) same)
       (inr (other, (loan, ap (λ (k : Tid). last_taken client k work.node.kept.now.loans) (sym same) ∙ some, given, ap (λ (k : Tid). is_void k loan work.node) (sym same) ∙ void))) request numbered
 
-  labelled_goes : (client : ClientNo) (label : List ℕ) (begun : Begun) (command : Command) (work : Work) → CommandsWell D t base knows n stamp before client label command work → label_at label work.node ≡ Some begun → G work (labelled client begun command work)
+  labelled_goes : (client : ClientNo) (label : List ℕ) (begun : KeptLabel) (command : Command) (work : Work) → CommandsWell D t base knows n stamp before client label command work → label_at label work.node ≡ Some begun → G work (labelled client begun command work)
   labelled_goes client label begun command work well found = by (is_owner client begun.owner) refl
     where
       lent : is_owner client begun.owner ≡ false → (o : Option Tid) → begun.tid ≡ o → G work (elim o [ None ↦ work | Some tid ↦ borrower_command client tid command work ])
@@ -126,7 +126,7 @@ module _ (D : Type 0) (t : Tid) (base : Field) (knows : ℕ → ℕ) (n stamp : 
   at_label : (line : ScriptLine) (command : Command) (work : Work) → CommandsWell D t base knows n stamp before line.client line.label command work → G work (elim (label_at line.label work.node) [ None ↦ work | Some begun ↦ labelled line.client begun command work ])
   at_label line command work well = by (label_at line.label work.node) refl
     where
-      by : (o : Option Begun) → label_at line.label work.node ≡ o → G work (elim o [ None ↦ work | Some begun ↦ labelled line.client begun command work ])
+      by : (o : Option KeptLabel) → label_at line.label work.node ≡ o → G work (elim o [ None ↦ work | Some begun ↦ labelled line.client begun command work ])
       by None none = still work
       by (Some begun) found = labelled_goes line.client line.label begun command work well found
 
@@ -155,7 +155,7 @@ module _ (D : Type 0) (t : Tid) (base : Field) (knows : ℕ → ℕ) (n stamp : 
           told None = still work
           told (Some decided) = said client (decided_answer decided command) work
 
-      borrower : (label : List ℕ) (begun : Begun) (issued : Option Issued) (command : Command) → (issued ≡ None → CommandsWell D t base knows n stamp before client label command work) → label_at label work.node ≡ Some begun → is_owner client begun.owner ≡ false → (o : Option Tid) → begun.tid ≡ o
+      borrower : (label : List ℕ) (begun : KeptLabel) (issued : Option Issued) (command : Command) → (issued ≡ None → CommandsWell D t base knows n stamp before client label command work) → label_at label work.node ≡ Some begun → is_owner client begun.owner ≡ false → (o : Option Tid) → begun.tid ≡ o
           → G work (borrower_waits client issued o command work)
       borrower label begun (Some issued) command w found other o is = aborted (is_aborted issued.tid work.node)
         where
@@ -165,14 +165,14 @@ module _ (D : Type 0) (t : Tid) (base : Field) (knows : ℕ → ℕ) (n stamp : 
       borrower label begun None command w found other None is = still work
       borrower label begun None command w found other (Some tid) is = borrower_goes client tid command work (lends client label begun command work (w refl) found other tid is)
 
-      at : (command : OpenCommand) → (MayGoYet client command work → CommandsWell D t base knows n stamp before client command.line.label command.line.command work) → (o : Option Begun) → label_at command.line.label work.node ≡ o → G work (elim o [ None ↦ work | Some begun ↦ waits_at client command begun work ])
+      at : (command : OpenCommand) → (MayGoYet client command work → CommandsWell D t base knows n stamp before client command.line.label command.line.command work) → (o : Option KeptLabel) → label_at command.line.label work.node ≡ o → G work (elim o [ None ↦ work | Some begun ↦ waits_at client command begun work ])
       at command w None none = still work
       at command w (Some begun) found = which (is_owner client begun.owner) refl
         where
           which : (b : Bool) → is_owner client begun.owner ≡ b → G work (if b then owner_waits client begun.tid command.line.command work else borrower_waits client command.issued begun.tid command.line.command work)
           which true owns = owner begun.tid command.line.command
           which false other = borrower command.line.label begun command.issued command.line.command
-              (λ none. w (record { unissued = none; lent = λ b is. subst (λ (k : Begun). is_owner client k.owner ≡ false) (same_Some begun b (sym found ∙ is)) other })) found other begun.tid refl
+              (λ none. w (record { unissued = none; lent = λ b is. subst (λ (k : KeptLabel). is_owner client k.owner ≡ false) (same_Some begun b (sym found ∙ is)) other })) found other begun.tid refl
 
       by : (o : Option OpenCommand) → lookup (is_at (client_cmp client)) work.node.commands ≡ o → G work (elim o [ None ↦ work | Some command ↦ wait_command client command work ])
       by None none = still work

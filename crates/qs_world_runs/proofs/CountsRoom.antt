@@ -1,5 +1,5 @@
 -- Where a vote pass is due, commit was asked for; so the transaction began in the run, and files of its node have few changes of it.
-use Rattle.qs_world_runs.proofs.Words.{◌≡◌, ℕ, ◌≤◌, ◌<◌, ◌^◌, ◌&&◌, arith, true, List, [], ◌∷◌, ◌++◌, Option, Some, None, refl, sym, subst, ◌∙◌, not, is_at, lookup, ⊤, Bool, false, length, unwrap_or, tid_cmp, ClientNo, Tid, Entry, Begun, at_exact, tid_itself, IsBelow, IsRising, after_both, BookValue, find_transaction, book_after, TransactionValue, changes_in, share_of, Message, label_at, due_tids, is_busy, is_put_off, settle_tid, Work, doings_of, work_on, is_owner, Event, needs_pass}
+use Rattle.qs_world_runs.proofs.Words.{◌≡◌, ℕ, ◌≤◌, ◌<◌, ◌^◌, ◌&&◌, arith, true, List, [], ◌∷◌, ◌++◌, Option, Some, None, refl, sym, subst, ◌∙◌, not, is_at, lookup, ⊤, Bool, false, length, unwrap_or, tid_cmp, ClientNo, Tid, Entry, KeptLabel, at_exact, tid_itself, IsBelow, IsRising, after_both, BookValue, find_transaction, book_after, TransactionValue, changes_in, share_of, Message, label_at, due_tids, is_busy, is_put_off, settle_tid, Work, doings_of, work_on, is_owner, Event, needs_pass}
 use Rattle.qs_world_runs.proofs.Words.{new_participant, Participant, book_of, IsOpening, Opening, ComesTo, HoldsWork, book_at, entries_so_far, face_of, AtEach, done_work, first_work, HoldsAt, Every, HasNodeFacts, AreFew, HasRoom, IsOfRun, MayAsk, store_of, and_parts}
 use Rattle.qs_book_machine.specs.Lawful.{IsLawful}
 use Rattle.qs_packet.specs.declared.message.Message.TheVariants as messages
@@ -80,7 +80,7 @@ module _ (o : Opening) (opens : IsOpening o) (history : List Entry) (lawful : Is
     may_ask : (e : Event) → ComesTo before e (work_on node free) → MayAsk T e first
     may_ask (events.Command client line label command) is = λ begun tid found of own. by begun tid found of begun.owner refl own
       where
-        by : (begun : Begun) (tid : Tid) → label_at label first.node ≡ Some begun → begun.tid ≡ Some tid → (c : Option ClientNo) → begun.owner ≡ c → is_owner client c ≡ true → T tid
+        by : (begun : KeptLabel) (tid : Tid) → label_at label first.node ≡ Some begun → begun.tid ≡ Some tid → (c : Option ClientNo) → begun.owner ≡ c → is_owner client c ≡ true → T tid
         by begun tid found of None none own = absurd (cc own)
         by begun tid found of (Some owner) owned own = let at = held.holds.clients.labels label begun tid owner found of owned in
             owned_of_run o opens (history ++ entries_so_far stamp first) lawful_then tid at.tx (found_then tid at.tx at.found) (rw at.owns refl)

@@ -1,5 +1,5 @@
 -- What a command of a client issues, as it comes or once it stayed open, finds what it needs, or went out late and is awaited.
-use Rattle.qs_world_runs.proofs.Words.{◌≡◌, ◌⊎◌, inl, inr, ℕ, ◌<◌, ◌≤◌, nat_lt, Bool, true, false, List, Option, Some, None, refl, sym, ap, subst, ◌∙◌, if◌then◌else◌, is_at, lookup, ClientNo, Member, Tid, next_sent, same_node, Command, ScriptLine, last_taken, Begun, Decided, Lent, Op, client_server, kept_outcome, borrower_command, is_void, lent_command, with_loan, answer, decided_answer, open_command, owner_command, request_as, request_command, issue_as, next_local, label_at, Work, client_cmp}
+use Rattle.qs_world_runs.proofs.Words.{◌≡◌, ◌⊎◌, inl, inr, ℕ, ◌<◌, ◌≤◌, nat_lt, Bool, true, false, List, Option, Some, None, refl, sym, ap, subst, ◌∙◌, if◌then◌else◌, is_at, lookup, ClientNo, Member, Tid, next_sent, same_node, Command, ScriptLine, last_taken, KeptLabel, Decided, Lent, Op, client_server, kept_outcome, borrower_command, is_void, lent_command, with_loan, answer, decided_answer, open_command, owner_command, request_as, request_command, issue_as, next_local, label_at, Work, client_cmp}
 use Rattle.qs_world_runs.proofs.Words.{here, borrower_waits, command_came, is_owner, labelled, obey, owner_waits, wait_command, wait_on, waits_at, with_command, Issued, OpenCommand, Outstanding, Participant, is_undecided, is_sound, IsRunning, Field, IssueFinds, WaitFinds, ltb-true, same_Some}
 use Rattle.qs_ipc.specs.Queue.{is_for}
 use Rattle.qs_book_journal.specs.declared.script_line.Command.TheVariants as commands
@@ -33,7 +33,7 @@ module _ (t : Tid) (client : ClientNo) (member : Member) (op : Op) (number : ℕ
       ∙ (ap (λ (b : Bool). if b then answer client answers.NotYours work else if is_void t loan work.node then answer client answers.Ended work else lent_command client t (commands.Request member op) work) given
       ∙ (ap (λ (b : Bool). if b then answer client answers.Ended work else lent_command client t (commands.Request member op) work) valid ∙ requests))
 
-pub obeyed_requests : (t : Tid) (client : ClientNo) (begun : Begun) (command : Command) (member : Member) (op : Op) (number : ℕ) (work : Work) → begun.tid ≡ Some t → IsObeyed t client begun work → command ≡ commands.Request member op → next_number t member.node work ≡ Some number
+pub obeyed_requests : (t : Tid) (client : ClientNo) (begun : KeptLabel) (command : Command) (member : Member) (op : Op) (number : ℕ) (work : Work) → begun.tid ≡ Some t → IsObeyed t client begun work → command ≡ commands.Request member op → next_number t member.node work ≡ Some number
     → labelled client begun command work ≡ request_as client t member op number work
 obeyed_requests t client begun command member op number work its obeyed is numbered = ap (λ (c : Command). labelled client begun c work) is ∙ by obeyed
   where
@@ -50,7 +50,7 @@ abbrev pub HasLabels : Work → Type 0
 HasLabels work = AreLabels work.node.setting work.node.manager work.node.kept.now
 
 -- the transaction is not decided then
-pub obeyed_open : (t : Tid) (client : ClientNo) (begun : Begun) (label : List ℕ) (work : Work) (part : Participant) → is_sound work.node ≡ true → HasLabels work → label_at label work.node ≡ Some begun → begun.tid ≡ Some t → IsObeyed t client begun work
+pub obeyed_open : (t : Tid) (client : ClientNo) (begun : KeptLabel) (label : List ℕ) (work : Work) (part : Participant) → is_sound work.node ≡ true → HasLabels work → label_at label work.node ≡ Some begun → begun.tid ≡ Some t → IsObeyed t client begun work
     → part_of t work ≡ Some part → part.outcome ≡ None
 obeyed_open t client begun label work part sound labels found its (inr borrower) known =
     none_is part (and_both (is_undecided part) (is_held part) (told_part is_open t work.node.manager part known (loan_open client t borrower.1.0 work borrower.1.1 borrower.1.2 borrower.1.3 sound))).0
@@ -68,7 +68,7 @@ module _ (D : Type 0) (t : Tid) (base : Field) (knows : ℕ → ℕ) (small : ba
 
   module _ (client : ClientNo) (label : List ℕ) (command : Command) (work new : Work) (sound : is_sound work.node ≡ true) (labels : HasLabels work) (size : work.node.setting.nodes ≡ base.size)
       (fits : (member : Member) (op : Op) → command ≡ commands.Request member op → (is_for member.server op ≡ true) × (nat_lt member.node.0 work.node.setting.nodes ≡ true))
-      (comes_to : (begun : Begun) → label_at label work.node ≡ Some begun → begun.tid ≡ Some t → labelled client begun command work ≡ new) (supplies : Supplies D t base knows work new) where
+      (comes_to : (begun : KeptLabel) → label_at label work.node ≡ Some begun → begun.tid ≡ Some t → labelled client begun command work ≡ new) (supplies : Supplies D t base knows work new) where
     pub command_found : CommandFinds D t base knows client label command work
     command_found begun member op number found its obeyed is numbered = by (part_of t work) refl (same_node member.node (here work)) refl
       where
@@ -112,7 +112,7 @@ module _ (D : Type 0) (t : Tid) (base : Field) (knows : ℕ → ℕ) (small : ba
     pub wait_found : WaitFinds D t base knows work client
     wait_found command here_so yet = command_found client command.line.label command.line.command work (wait_on work client) sound labels size (fits command here_so) comes_to supplies
       where
-        comes_to : (begun : Begun) → label_at command.line.label work.node ≡ Some begun → begun.tid ≡ Some t → labelled client begun command.line.command work ≡ wait_on work client
+        comes_to : (begun : KeptLabel) → label_at command.line.label work.node ≡ Some begun → begun.tid ≡ Some t → labelled client begun command.line.command work ≡ wait_on work client
         comes_to begun found its =
             at_label ∙ (borrows ∙ (sym waits ∙ (sym opened ∙ sym there)))
           where
@@ -128,7 +128,7 @@ module _ (D : Type 0) (t : Tid) (base : Field) (knows : ℕ → ℕ) (small : ba
                 ∙ (ap (λ (o : Option Issued). borrower_waits client o begun.tid command.line.command work) yet.unissued ∙ ap (λ (o : Option Tid). borrower_waits client None o command.line.command work) its)
 
             opened : wait_command client command work ≡ waits_at client command begun work
-            opened = ap (λ (o : Option Begun). elim o [ None ↦ work | Some b ↦ waits_at client command b work ]) found
+            opened = ap (λ (o : Option KeptLabel). elim o [ None ↦ work | Some b ↦ waits_at client command b work ]) found
 
             there : wait_on work client ≡ wait_command client command work
             there = ap (λ (o : Option OpenCommand). elim o [ None ↦ work | Some c ↦ wait_command client c work ]) here_so
@@ -145,6 +145,6 @@ module _ (D : Type 0) (t : Tid) (base : Field) (knows : ℕ → ℕ) (small : ba
         opened : Supplies D t base knows (with_command line first) (command_came line first)
         opened m late unreached = supplies m (record { number = late.number; old = late.old; was = late.was; undecided = late.undecided; later = late.later; part = late.part; now = late.now; awaits = late.awaits; uncommitted = late.uncommitted; in_run = late.in_run; other = late.other }) unreached
 
-        comes_to : (b : Begun) → label_at line.label (with_command line first).node ≡ Some b → b.tid ≡ Some t → labelled line.client b line.command (with_command line first) ≡ command_came line first
-        comes_to b there of = sym (ap (λ (c : Command). obey line c (with_command line first)) is ∙ (ap (λ (o : Option Begun). elim o [ None ↦ with_command line first | Some k ↦ labelled line.client k (commands.Request member op) (with_command line first) ]) there
+        comes_to : (b : KeptLabel) → label_at line.label (with_command line first).node ≡ Some b → b.tid ≡ Some t → labelled line.client b line.command (with_command line first) ≡ command_came line first
+        comes_to b there of = sym (ap (λ (c : Command). obey line c (with_command line first)) is ∙ (ap (λ (o : Option KeptLabel). elim o [ None ↦ with_command line first | Some k ↦ labelled line.client k (commands.Request member op) (with_command line first) ]) there
             ∙ sym (ap (λ (c : Command). labelled line.client b c (with_command line first)) is)))

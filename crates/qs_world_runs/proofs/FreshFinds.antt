@@ -1,5 +1,5 @@
 -- What begins in a step finds what it needs there: nothing of it comes, no server votes on it and no borrower has a request of it issued.
-use Rattle.qs_world_runs.proofs.Words.{◌≡◌, inl, inr, ℕ, true, false, List, [], ◌∷◌, ClientNo, Tid, Begun, BookValue, due_tids, settle, settle_tid, Work, is_owner, wait_on, waiting_clients, taken_by, IsDoomed, AtEach, done_work, book_in, Field, field_of, taken, PassesWell, WaitsWell}
+use Rattle.qs_world_runs.proofs.Words.{◌≡◌, inl, inr, ℕ, true, false, List, [], ◌∷◌, ClientNo, Tid, KeptLabel, BookValue, due_tids, settle, settle_tid, Work, is_owner, wait_on, waiting_clients, taken_by, IsDoomed, AtEach, done_work, book_in, Field, field_of, taken, PassesWell, WaitsWell}
 use Rattle.qs_world_runs.specs.BegunBare.{IsBegunBare, NotBorrowed, NotDue}
 use Rattle.qs_world_runs.specs.PlacesGo.{IsObeyed}
 use Rattle.qs_world_runs.specs.PlacesSteps.{FreshFind}
@@ -18,7 +18,7 @@ module _ (D : Type 0) (t : Tid) (base : Field) (knows : ℕ → ℕ) (n stamp : 
     none_issued clients (wait_on work client) bare.1,
   )
     where
-      never : (begun : Begun) → is_owner client begun.owner ≡ false → IsObeyed t client begun work → ⊥
+      never : (begun : KeptLabel) → is_owner client begun.owner ≡ false → IsObeyed t client begun work → ⊥
       never begun other (inl own) = let on : is_owner client begun.owner ≡ true = own.0 in cc (on, other)
       never begun other (inr lent) = bare.0 client lent.1.0 lent.1.1 lent.1.2 lent.1.3
 

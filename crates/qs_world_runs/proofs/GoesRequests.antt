@@ -1,5 +1,5 @@
 -- What holds of each thing that a step does holds of requests that are issued, come, wait and are served, and of replies.
-use Rattle.qs_world_runs.proofs.Words.{ℕ, Bool, true, false, List, [], ◌∷◌, ◌++◌, Option, Some, None, refl, is_none, lookup, is_at, ClientNo, Member, NodeNo, ServerNo, Tid, same_node, Engaged, is_client, Delivery, Op, Reply, Begun, member_of, is_by_files, Outstanding, enter, send, member_here, enqueue, enter_issue, with_local, issue_here, ask_on, issue_away, issue_as, issue, is_asked, label_of, answer_issuer, waits_as, take_reply, reply_came, label_at, put_label, learn_label, cover_from}
+use Rattle.qs_world_runs.proofs.Words.{ℕ, Bool, true, false, List, [], ◌∷◌, ◌++◌, Option, Some, None, refl, is_none, lookup, is_at, ClientNo, Member, NodeNo, ServerNo, Tid, same_node, Engaged, is_client, Delivery, Op, Reply, KeptLabel, member_of, is_by_files, Outstanding, enter, send, member_here, enqueue, enter_issue, with_local, issue_here, ask_on, issue_away, issue_as, issue, is_asked, label_of, answer_issuer, waits_as, take_reply, reply_came, label_at, put_label, learn_label, cover_from}
 use Rattle.qs_world_runs.proofs.Words.{engage, take_in, is_dropped, request_came, reply_here, change_served, enter_serve, lent_to, make_loan, serve, serve_or_drop, serve_next, serve_all, Work, with_manager, with_queues, with_kept, with_doings, here, client_cmp}
 use Rattle.qs_engage.specs.declared.engage.Engaged.TheVariants as engagements
 use Rattle.qs_ipc.specs.Ipc as ipc
@@ -71,7 +71,7 @@ module _ (R : Work → Work → Type 0) (g : Goes R) where
 
   -- ---- a request comes
 
-  pub goes_label : (b : Begun) (work : Work) → R work (put_label b work)
+  pub goes_label : (b : KeptLabel) (work : Work) → R work (put_label b work)
   goes_label b work = g.still work (put_label b work) refl refl
 
   goes_learn_label : (label : List ℕ) (tid : Tid) (work : Work) → R work (learn_label label tid work)

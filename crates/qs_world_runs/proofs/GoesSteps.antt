@@ -1,5 +1,5 @@
 -- What holds of each thing that a step does holds of a whole step, where what it begins is new; and of the end of a commit, as far as that may come.
-use Rattle.qs_world_runs.proofs.Words.{◌≡◌, ℕ, ◌+◌, ◌&&◌, not, Bool, true, false, List, [], Option, Some, None, fold, refl, if◌then◌else◌, lookup, is_at, ClientNo, NodeNo, Tid, listed, same_node, Command, ScriptLine, Begun, Decided, ticked, Message, kept_outcome, borrower_command, is_aborted, answer, enter, send, ask, begin_as, begin_or_refuse, decided_answer, open_command, owner_command, give_notices, begin_incarnation, find_gone, inquire, is_orphaned_by, known_tids, notice_decided}
+use Rattle.qs_world_runs.proofs.Words.{◌≡◌, ℕ, ◌+◌, ◌&&◌, not, Bool, true, false, List, [], Option, Some, None, fold, refl, if◌then◌else◌, lookup, is_at, ClientNo, NodeNo, Tid, listed, same_node, Command, ScriptLine, KeptLabel, Decided, ticked, Message, kept_outcome, borrower_command, is_aborted, answer, enter, send, ask, begin_as, begin_or_refuse, decided_answer, open_command, owner_command, give_notices, begin_incarnation, find_gone, inquire, is_orphaned_by, known_tids, notice_decided}
 use Rattle.qs_world_runs.proofs.Words.{notice_part, notice_tid, peer_restarted, resume_home, resume_part, resume_tid, label_at, put_label, settle, Work, change_server, client_cmp, here, with_manager, with_node, with_queues, work_on, abort_old, age_rule, borrower_waits, command_came, happen, is_owner, labelled, message_came, obey, owner_waits, step_work, tick, wait_command, wait_on, waiting_clients, waits_at, with_command, end_record, end_told, learn, learn_unknown, names_at, take_outcome}
 use Rattle.qs_world_runs.proofs.Words.{take_told, tell_came, told_at_home, told_came, told_known, told_unknown, Event, Issued, OpenCommand, is_told_again, named_by, begun_participant, is_owed_by, is_undecided, BeginFault, Participant, BeginsNew}
 use Rattle.qs_base.specs.declared.identifiers.Outcome.{Outcome}
@@ -72,7 +72,7 @@ module _ (R : Work → Work → Type 0) (g : Goes R) where
       by None = goes_open client tid command work
       by (Some decided) = goes_answer R g client (decided_answer decided command) work
 
-  goes_labelled : (client : ClientNo) (begun : Begun) (command : Command) (work : Work) → R work (labelled client begun command work)
+  goes_labelled : (client : ClientNo) (begun : KeptLabel) (command : Command) (work : Work) → R work (labelled client begun command work)
   goes_labelled client begun command work = goes_if R g (is_owner client begun.owner) work (owner_command client begun.tid command work) _ (goes_owner client begun.tid command work) (by begun.tid)
     where
       by : (o : Option Tid) → R work (elim o [ None ↦ work | Some tid ↦ borrower_command client tid command work ])
@@ -104,7 +104,7 @@ module _ (R : Work → Work → Type 0) (g : Goes R) where
       w : Work
       w = with_command line work
 
-      met : (c : Command) (o : Option Begun) → R w (elim o [ None ↦ w | Some begun ↦ labelled client begun c w ])
+      met : (c : Command) (o : Option KeptLabel) → R w (elim o [ None ↦ w | Some begun ↦ labelled client begun c w ])
       met c None = g.self w
       met c (Some begun) = goes_labelled client begun c w
 
@@ -234,7 +234,7 @@ module _ (R : Work → Work → Type 0) (g : Goes R) where
       borrowers c None None = g.self work
       borrowers c None (Some tid) = goes_borrower R g client tid c work
 
-      of : (command : OpenCommand) (o : Option Begun) → R work (elim o [ None ↦ work | Some begun ↦ waits_at client command begun work ])
+      of : (command : OpenCommand) (o : Option KeptLabel) → R work (elim o [ None ↦ work | Some begun ↦ waits_at client command begun work ])
       of command None = g.self work
       of command (Some begun) = goes_if R g (is_owner client begun.owner) work (owner_waits client begun.tid command.line.command work) (borrower_waits client command.issued begun.tid command.line.command work)
           (owners command.line.command begun.tid) (borrowers command.line.command command.issued begun.tid)

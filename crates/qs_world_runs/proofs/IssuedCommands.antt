@@ -1,5 +1,5 @@
 -- What a client's command issues waits then: the owner's at its home, which has not decided; a borrower's while its loan stands, with the command in hand.
-use Rattle.qs_world_runs.proofs.Words.{◌≡◌, inl, inr, ℕ, ◌==◌, ◌&&◌, ◌||◌, not, Bool, true, false, List, [], ◌∷◌, Option, Some, None, refl, sym, ap, subst, ◌∙◌, if◌then◌else◌, is_at, filter, list_any, lookup, same_tid, ClientNo, Member, NodeNo, Tid, same_node, Command, ScriptLine, last_taken, Begun, Decided, Lent, Answer, Op, client_server, kept_outcome, borrower_command, is_aborted, is_void, lent_command, loan_command, with_loan, answer, decided_answer, open_command, owner_command}
+use Rattle.qs_world_runs.proofs.Words.{◌≡◌, inl, inr, ℕ, ◌==◌, ◌&&◌, ◌||◌, not, Bool, true, false, List, [], ◌∷◌, Option, Some, None, refl, sym, ap, subst, ◌∙◌, if◌then◌else◌, is_at, filter, list_any, lookup, same_tid, ClientNo, Member, NodeNo, Tid, same_node, Command, ScriptLine, last_taken, KeptLabel, Decided, Lent, Answer, Op, client_server, kept_outcome, borrower_command, is_aborted, is_void, lent_command, loan_command, with_loan, answer, decided_answer, open_command, owner_command}
 use Rattle.qs_world_runs.proofs.Words.{request_as, request_command, label_at, Work, client_cmp, borrower_waits, command_came, is_owner, labelled, obey, owner_waits, wait_command, wait_on, waits_at, with_command, Issued, OpenCommand, Outstanding, is_engaged, is_sound, same_flag, known_sound, same_is, is_loan_in, IsRunning, IsBorrowed, is_lent_to, LeavesPlaces, eqb-self, not_implied, or_right}
 use Rattle.qs_book_journal.specs.declared.script_line.Command.TheVariants as commands
 use Rattle.qs_book_laws.proofs.Maps.{lookup_put}
@@ -44,7 +44,7 @@ module _ (tid : Tid) (issuer member : Member) (number : ℕ) (op : Op) (client :
 
   -- ---- a command in hand, at its label
 
-  module _ (hand : OpenCommand) (there : lookup (is_at (client_cmp client)) work.node.commands ≡ Some hand) (begun : Begun) (found : label_at hand.line.label work.node ≡ Some begun) (sound : is_sound work.node ≡ true) (away : IsAway member work) where
+  module _ (hand : OpenCommand) (there : lookup (is_at (client_cmp client)) work.node.commands ≡ Some hand) (begun : KeptLabel) (found : label_at hand.line.label work.node ≡ Some begun) (sound : is_sound work.node ≡ true) (away : IsAway member work) where
     abbrev the_request : Member → ℕ → Outstanding
     the_request m k = record { issuer = client_server client; member = m; number = k; count = 0 }
 
@@ -197,7 +197,7 @@ module _ (tid : Tid) (issuer member : Member) (number : ℕ) (op : Op) (client :
   pub wait_waits : is_sound work.node ≡ true → IsAway member work → Goes (wait_on work client)
   wait_waits sound away = by (lookup (is_at (client_cmp client)) work.node.commands) refl
     where
-      at : (hand : OpenCommand) → lookup (is_at (client_cmp client)) work.node.commands ≡ Some hand → (o : Option Begun) → label_at hand.line.label work.node ≡ o → Goes (elim o [ None ↦ work | Some begun ↦ waits_at client hand begun work ])
+      at : (hand : OpenCommand) → lookup (is_at (client_cmp client)) work.node.commands ≡ Some hand → (o : Option KeptLabel) → label_at hand.line.label work.node ≡ o → Goes (elim o [ None ↦ work | Some begun ↦ waits_at client hand begun work ])
       at hand there None none = still
       at hand there (Some begun) found = open_waits hand there begun found sound away
 
@@ -217,7 +217,7 @@ module _ (tid : Tid) (issuer member : Member) (number : ℕ) (op : Op) (line : S
   under : (c : Command) → Waited tid issuer member number op coming (elim (label_at line.label coming.node) [ None ↦ coming | Some begun ↦ labelled line.client begun c coming ])
   under c = by (label_at line.label coming.node) refl
     where
-      by : (o : Option Begun) → label_at line.label coming.node ≡ o → Waited tid issuer member number op coming (elim o [ None ↦ coming | Some begun ↦ labelled line.client begun c coming ])
+      by : (o : Option KeptLabel) → label_at line.label coming.node ≡ o → Waited tid issuer member number op coming (elim o [ None ↦ coming | Some begun ↦ labelled line.client begun c coming ])
       by None none = λ has. inl has
       by (Some begun) found = labelled_waits tid issuer member number op line.client coming (record { line = line; issued = None }) there begun found sound away labels c
 

@@ -1,5 +1,5 @@
 -- What a node keeps for its clients after a whole step is as the machine has it, where it keeps each label of its own transactions as their owner's.
-use Rattle.qs_world_runs.proofs.Words.{◌≡◌, ℕ, ◌≤◌, ◌&&◌, ◌||◌, not, Bool, true, false, List, [], ◌∷◌, Option, Some, None, refl, sym, ap, subst, arith, is_some, nat_le, nat_tests, filter, list_all, list_any, same_tid, same_tid-self, same_tid-true, ClientNo, Tid, Begun, Lent, BookValue, find_transaction, TransactionValue, kept_outcome, Setting, is_undecided, Participant, Stage, IsTidyNode, HoldsBeside, face_of, is_loan_in, HoldsAt, HoldsTid, Every, HasNodeFacts, every_on, AreOwned}
+use Rattle.qs_world_runs.proofs.Words.{◌≡◌, ℕ, ◌≤◌, ◌&&◌, ◌||◌, not, Bool, true, false, List, [], ◌∷◌, Option, Some, None, refl, sym, ap, subst, arith, is_some, nat_le, nat_tests, filter, list_all, list_any, same_tid, same_tid-self, same_tid-true, ClientNo, Tid, KeptLabel, Lent, BookValue, find_transaction, TransactionValue, kept_outcome, Setting, is_undecided, Participant, Stage, IsTidyNode, HoldsBeside, face_of, is_loan_in, HoldsAt, HoldsTid, Every, HasNodeFacts, every_on, AreOwned}
 use Rattle.qs_node_kept.specs.Keeping.{is_label_of}
 use Rattle.qs_node_step.specs.State.{NodeValue}
 use Rattle.qs_tm.specs.Manager as tm
@@ -65,7 +65,7 @@ module _ (stamp : ℕ) (book : BookValue) (c : Stage) (node : NodeValue) (h : Ho
       low : nat_le loan.inc c.setting.inc ≡ true → loan.inc ≤ c.setting.inc
       low it = grind (arith, nat_tests, it)
 
-  undecided : (begun : Begun) → AreOwned node.setting.node node.kept.now.labels begun → IsLeftOpen node.setting.node book node.kept.now.outcomes begun
+  undecided : (begun : KeptLabel) → AreOwned node.setting.node node.kept.now.labels begun → IsLeftOpen node.setting.node book node.kept.now.outcomes begun
   undecided begun owned tid is home none = by (tm.part_of tid node.manager) refl runs
     where
       found : AnyOf (is_owned_as tid) node.kept.now.labels (is_owned_label node)

@@ -1,6 +1,6 @@
 -- A step keeps the labels that its node has, keeps the label of what it begins as its owner's, and learns none of a transaction of its own that has
 -- no owner: so it is after each thing that a rule does.
-use Rattle.qs_world_runs.proofs.Words.{◌≡◌, ℕ, Bool, true, false, ◌||◌, List, [], ◌∷◌, ◌++◌, Some, None, refl, sym, ap, subst, ◌∙◌, list_any-append, list_any, ⊤, same_tid-self, ClientNo, Member, NodeNo, ServerNo, Tid, Act, Begun, Op, step_work, Event, Every, every_on, every_more, AreOwned, IsKept, IsOrdinary, Trace, entered, trace_of, same_Some}
+use Rattle.qs_world_runs.proofs.Words.{◌≡◌, ℕ, Bool, true, false, ◌||◌, List, [], ◌∷◌, ◌++◌, Some, None, refl, sym, ap, subst, ◌∙◌, list_any-append, list_any, ⊤, same_tid-self, ClientNo, Member, NodeNo, ServerNo, Tid, Act, KeptLabel, Op, step_work, Event, Every, every_on, every_more, AreOwned, IsKept, IsOrdinary, Trace, entered, trace_of, same_Some}
 use Rattle.qs_book_journal.specs.declared.entry.Act.TheVariants as acts
 use Rattle.qs_ops.specs.declared.answer.Answer.TheVariants as answers
 use Rattle.qs_packet.specs.declared.message.Message.TheVariants as messages
@@ -11,18 +11,18 @@ use Rattle.qs_world_runs.specs.Traces.{TakesIn, noted}
 use Rattle.qs_world_runs.proofs.TraceStages.{step_traced}
 
 -- what begins has its owner's label
-abbrev pub HasLabel : List Begun → Act → Type 0
+abbrev pub HasLabel : List KeptLabel → Act → Type 0
 HasLabel labels (acts.Begin tid label client) = is_owned_in labels tid ≡ true
 HasLabel labels act = ⊤
 
-pub record Labelled (here : NodeNo) (was : List Begun) (t : Trace) : Type 0 where
+pub record Labelled (here : NodeNo) (was : List KeptLabel) (t : Trace) : Type 0 where
   pub grows : (tid : Tid) → is_owned_in was tid ≡ true → is_owned_in t.labels tid ≡ true
   pub owned : Every (AreOwned here t.labels) t.labels
   pub begun : Every (HasLabel t.labels) t.entries
 
 -- ---- one more label
 
-module _ (labels : List Begun) (label : Begun) where
+module _ (labels : List KeptLabel) (label : KeptLabel) where
   or_before : (tid : Tid) → is_owned_in labels tid ≡ true → is_owned_in (labels ++ label ∷ []) tid ≡ true
   or_before tid is = list_any-append (is_owned_as tid) labels (label ∷ []) ∙ ap (λ (b : Bool). b || list_any (is_owned_as tid) (label ∷ [])) is
 
@@ -37,18 +37,18 @@ module _ (labels : List Begun) (label : Begun) where
   has_before (acts.Begin tid name client) is = or_before tid is
   has_before act is = tt
 
-ordinary : (labels : List Begun) (act : Act) → IsOrdinary act → HasLabel labels act
+ordinary : (labels : List KeptLabel) (act : Act) → IsOrdinary act → HasLabel labels act
 ordinary labels (acts.Begin tid label client) is = absurd is
 ordinary labels act is = tt
 
 owned_one : (tid : Tid) (label : List ℕ) (client : ClientNo) → is_owned_as tid (record { label = label; tid = Some tid; owner = Some client }) ≡ true
 owned_one tid label client = same_tid-self tid
 
-module _ (here : NodeNo) (was : List Begun) where
+module _ (here : NodeNo) (was : List KeptLabel) where
   enters : (t : Trace) (act : Act) → HasLabel t.labels act → Labelled here was t → Labelled here was (entered act t)
   enters t act has l = record { grows = l.grows; owned = l.owned; begun = every_more (HasLabel t.labels) t.entries (act ∷ []) l.begun (has, tt) }
 
-  notes : (t : Trace) (label : Begun) → ((tid : Tid) → label.tid ≡ Some tid → tid.home ≡ here → is_owned_in (t.labels ++ label ∷ []) tid ≡ true) → Labelled here was t → Labelled here was (noted label t)
+  notes : (t : Trace) (label : KeptLabel) → ((tid : Tid) → label.tid ≡ Some tid → tid.home ≡ here → is_owned_in (t.labels ++ label ∷ []) tid ≡ true) → Labelled here was t → Labelled here was (noted label t)
   notes t label its l = record {
     grows = λ tid is. or_before t.labels label tid (l.grows tid is);
     owned = every_more (AreOwned here (t.labels ++ label ∷ [])) t.labels (label ∷ [])
@@ -62,7 +62,7 @@ module _ (here : NodeNo) (was : List Begun) where
     sends = λ t to message is l. record { grows = l.grows; owned = l.owned; begun = l.begun };
     closes = λ t client command said there l. let e = enters t (acts.Answer client command.line.line said) tt l in record { grows = e.grows; owned = e.owned; begun = e.begun };
     begins = λ t line tid there is l. (
-        let own : Begun = record { label = line.label; tid = Some tid; owner = Some line.client } in
+        let own : KeptLabel = record { label = line.label; tid = Some tid; owner = Some line.client } in
         let n : Labelled here was (noted own t) = notes t own (λ other same home. or_last t.labels own other (subst (λ (x : Tid). is_owned_as other (record { label = line.label; tid = Some x; owner = Some line.client }) ≡ true) (sym (same_Some tid other same)) (owned_one other line.label line.client))) l in
         let b : Labelled here was (entered (acts.Begin tid line.label line.client) (noted own t)) = enters (noted own t) (acts.Begin tid line.label line.client) (or_last t.labels own tid (owned_one tid line.label line.client)) n in
         let e : Labelled here was (entered (acts.Answer line.client line.line answers.Done) (entered (acts.Begin tid line.label line.client) (noted own t))) = enters (entered (acts.Begin tid line.label line.client) (noted own t)) (acts.Answer line.client line.line answers.Done) tt b in
@@ -101,5 +101,5 @@ step_labels node event free owned asks = step_traced (Labelled here was) (Labell
     here : NodeNo
     here = node.setting.node
 
-    was : List Begun
+    was : List KeptLabel
     was = node.kept.now.labels

@@ -1,6 +1,6 @@
 -- What the machine has of a transaction that began in the run, its home keeps the label of, as its owner's: so it is as a run begins, and after each
 -- move. So a request that comes home tells the home of no label that it has not.
-use Rattle.qs_world_runs.proofs.Words.{◌≡◌, ◌⊎◌, inl, inr, ℕ, ◌==◌, ◌<◌, ◌&&◌, Bool, true, false, List, [], ◌∷◌, ◌++◌, Option, Some, None, refl, sym, ap, subst, ◌∙◌, arith, nat_lt, if◌then◌else◌, eqb-true, eqb-false, nat_tests, is_some, same_tid-self, ClientNo, NodeNo, Tid, Act, CrashCause, Entry, Begun, Inv, BookValue, find_transaction, book_after, effect, TransactionValue, Request, RequestNo, Op, Record, recovered_of, after_step, effects_of, step_work, Event, Setting, book_of, opened_from}
+use Rattle.qs_world_runs.proofs.Words.{◌≡◌, ◌⊎◌, inl, inr, ℕ, ◌==◌, ◌<◌, ◌&&◌, Bool, true, false, List, [], ◌∷◌, ◌++◌, Option, Some, None, refl, sym, ap, subst, ◌∙◌, arith, nat_lt, if◌then◌else◌, eqb-true, eqb-false, nat_tests, is_some, same_tid-self, ClientNo, NodeNo, Tid, Act, CrashCause, Entry, KeptLabel, Inv, BookValue, find_transaction, book_after, effect, TransactionValue, Request, RequestNo, Op, Record, recovered_of, after_step, effects_of, step_work, Event, Setting, book_of, opened_from}
 use Rattle.qs_world_runs.proofs.Words.{Clock, Commanded, Cut, Handed, Meet, Move, Noticed, Queues, Rise, Source, Step, Stop, cut_log, cut_with, event_of, may_move, moved, risen_host, step_with, stepped_host, stopped, entries_of, entry_of, Opening, World, start, from_client, from_node, from_notice, StepMay, step_may, node_stopped, steady_gives, Every, IsWithin, HoldsNodeAt, same_or_apart, Begins, Turning, by_entry, opening_empty, HoldsOps, step_same, Turns, MakesStep, Joined, book_in, AreOwned}
 use Rattle.qs_world_runs.proofs.Words.{InStep, trace_of, eqb-self, some_same}
 use Rattle.qs_book_journal.specs.declared.entry.Act.TheVariants as acts
@@ -54,7 +54,7 @@ module _ (P : Opening → World → Type 0) (o : Opening) (world : World) (j : J
   old = book_in o world
 
   -- the labels of one node, after what was entered
-  labels_on : (new : World) (more : List Entry) → new.journal ≡ world.journal ++ more → IsLawful (book_of o) new.journal → (here : NodeNo) (labels later : List Begun) → HoldsLabels old here labels
+  labels_on : (new : World) (more : List Entry) → new.journal ≡ world.journal ++ more → IsLawful (book_of o) new.journal → (here : NodeNo) (labels later : List KeptLabel) → HoldsLabels old here labels
       → ((tid : Tid) → is_owned_in labels tid ≡ true → is_owned_in later tid ≡ true) → Every (AreOwned here later) later → Every (AsItBegins (λ (tid : Tid). tid.home ≡ here → is_owned_in later tid ≡ true)) more → HoldsLabels (book_in o new) here later
   labels_on new more journal lawful here labels later h grows owned begins = record {
     owned = owned;
@@ -163,12 +163,12 @@ module _ (P : Opening → World → Type 0) (o : Opening) (world : World) (j : J
     own_labels = subst (λ (s : Setting). Every (AreOwned s.node (after_step node event free).kept.saved.labels) (after_step node event free).kept.saved.labels) (sym setting_is) labelled.owned
 
     -- what it begins
-    all_begun : (here : NodeNo) (labels : List Begun) (es : List Act) → Every (HasLabel labels) es → Every (AsItBegins (λ (tid : Tid). tid.home ≡ here → is_owned_in labels tid ≡ true)) (entries_of n stamp es)
+    all_begun : (here : NodeNo) (labels : List KeptLabel) (es : List Act) → Every (HasLabel labels) es → Every (AsItBegins (λ (tid : Tid). tid.home ≡ here → is_owned_in labels tid ≡ true)) (entries_of n stamp es)
     all_begun here labels [] all = tt
     all_begun here labels (act ∷ es) all = ((λ tid label client is home at_home. subst (HasLabel labels) is all.0), all_begun here labels es all.1)
 
     -- the others begin nothing of their own in it
-    none_begun : (k : ℕ) → (k == n) ≡ false → k < world.size → (labels : List Begun) (es : List Act) → Every (AsItBegins (λ (tid : Tid). tid.home ≡ (world.hosts k).node.setting.node → is_owned_in labels tid ≡ true)) (entries_of n stamp es)
+    none_begun : (k : ℕ) → (k == n) ≡ false → k < world.size → (labels : List KeptLabel) (es : List Act) → Every (AsItBegins (λ (tid : Tid). tid.home ≡ (world.hosts k).node.setting.node → is_owned_in labels tid ≡ true)) (entries_of n stamp es)
     none_begun k far low labels [] = tt
     none_begun k far low labels (act ∷ es) = ((λ tid label client is home at_home. absurd (eqb-false k n far (sym (j.held.nodes k low).node ∙ (ap (λ (h : NodeNo). h.0) (sym at_home) ∙ home)))), none_begun k far low labels es)
 

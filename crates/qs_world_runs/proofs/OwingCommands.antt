@@ -1,5 +1,5 @@
 -- What a node waits for stands on through what clients command, as it comes and while it waits: a request that is issued has its command in hand, and nothing waits for a command that is answered.
-use Rattle.qs_world_runs.proofs.Words.{◌≡◌, ℕ, ◌+◌, ◌-◌, true, false, List, Option, Some, None, refl, sym, ap, subst, ◌∙◌, arith, nat_lt, if◌then◌else◌, nat_tests, is_at, find, lookup, same_tid-self, same_tid-true, same_tid, ClientNo, Member, Tid, Entry, Command, ScriptLine, is_outcome_of, first_untaken, give_back, last_taken, take_first, Begun, Decided, Answer, Op, client_of, client_server, kept_outcome, become_asked, borrower_command, is_aborted, is_void, lent_command, loan_command, take}
+use Rattle.qs_world_runs.proofs.Words.{◌≡◌, ℕ, ◌+◌, ◌-◌, true, false, List, Option, Some, None, refl, sym, ap, subst, ◌∙◌, arith, nat_lt, if◌then◌else◌, nat_tests, is_at, find, lookup, same_tid-self, same_tid-true, same_tid, ClientNo, Member, Tid, Entry, Command, ScriptLine, is_outcome_of, first_untaken, give_back, last_taken, take_first, KeptLabel, Decided, Answer, Op, client_of, client_server, kept_outcome, become_asked, borrower_command, is_aborted, is_void, lent_command, loan_command, take}
 use Rattle.qs_world_runs.proofs.Words.{take_command, with_loan, answer, enter, ask, begin_command, begin_or_refuse, decided_answer, enter_ask, open_command, owner_command, request_as, request_command, is_issued_as, label_at, put_label, Work, client_cmp, with_doings, with_kept, with_manager, borrower_waits, is_owner, labelled, obey, owner_waits, wait_command, wait_on, waits_at, Issued, OpenCommand, begun_participant, BeginFault, Manager, Outstanding, Participant, clash, left_true, of_some}
 use Rattle.qs_world_runs.proofs.Words.{same_self, Amid, Around, IsCommanded, NotAwaited, around, command_at, fresh_command}
 use Rattle.qs_base.proofs.Same.{same_member-self}
@@ -53,21 +53,21 @@ module _ (a : Around) (client : ClientNo) (command : OpenCommand) (there : comma
           its = left_true (same_tid issued.tid tid) _ (subst (λ (i : Issued). is_issued_as tid request.member request.number i ≡ true) one c.for_it)
 
   -- nor does what its owner is told the end of
-  pub ended_unawaited : (m : Manager) (begun : Begun) (tid : Tid) (decided : Decided) → find (has_label command.line.label) a.labels ≡ Some begun → begun.tid ≡ Some tid → is_owner client begun.owner ≡ true → find (is_outcome_of tid) a.outcomes ≡ Some decided → NotAwaited a m client
+  pub ended_unawaited : (m : Manager) (begun : KeptLabel) (tid : Tid) (decided : Decided) → find (has_label command.line.label) a.labels ≡ Some begun → begun.tid ≡ Some tid → is_owner client begun.owner ≡ true → find (is_outcome_of tid) a.outcomes ≡ Some decided → NotAwaited a m client
   ended_unawaited m begun tid decided found of own ended t part known undecided = every_each (λ (request : Outstanding). IsCommanded a t request → client_of request.issuer ≡ client → ⊥) not_this part.waiting
     where
       no : None ≡ Some decided → ⊥
       no e = cc e
 
       not_this : (request : Outstanding) → IsCommanded a t request → client_of request.issuer ≡ client → ⊥
-      not_this request c same = no (sym (c.unended (subst (λ (x : ClientNo). is_owner x c.begun.owner ≡ true) (sym same) (subst (λ (b : Begun). is_owner client b.owner ≡ true) (sym one) own)))
+      not_this request c same = no (sym (c.unended (subst (λ (x : ClientNo). is_owner x c.begun.owner ≡ true) (sym same) (subst (λ (b : KeptLabel). is_owner client b.owner ≡ true) (sym one) own)))
           ∙ (ap (λ (x : Tid). find (is_outcome_of x) a.outcomes) (same_tid-true t tid its) ∙ ended))
         where
           one : c.begun ≡ begun
           one = of_some (sym c.found ∙ (ap (λ (o : OpenCommand). find (has_label o.line.label) a.labels) (its_command t request c same) ∙ found))
 
           its : same_tid t tid ≡ true
-          its = sym (ap (λ (o : Option Tid). elim o [ None ↦ false | Some other ↦ same_tid t other ]) (ap (λ (b : Begun). b.tid) one ∙ of)) ∙ c.of
+          its = sym (ap (λ (o : Option Tid). elim o [ None ↦ false | Some other ↦ same_tid t other ]) (ap (λ (b : KeptLabel). b.tid) one ∙ of)) ∙ c.of
 
 module _ (before : List Entry) (stamp : ℕ) where
   abbrev Keeps : Work → Work → Type 0
@@ -87,7 +87,7 @@ module _ (before : List Entry) (stamp : ℕ) where
       part : Participant
       part = begun_participant line.client work.node.manager.ticks
 
-      label : Begun
+      label : KeptLabel
       label = record { label = line.label; tid = Some next; owner = Some line.client }
 
       begins : Amid before stamp (with_manager (tm.begin line.client) work)
@@ -104,7 +104,7 @@ module _ (before : List Entry) (stamp : ℕ) where
 
   -- ---- of a client whose command is in hand and was not issued, under that label
 
-  module _ (client : ClientNo) (command : OpenCommand) (begun : Begun) (work : Work) (there : lookup (is_at (client_cmp client)) work.node.commands ≡ Some command) (none : command.issued ≡ None) (found : label_at command.line.label work.node ≡ Some begun) where
+  module _ (client : ClientNo) (command : OpenCommand) (begun : KeptLabel) (work : Work) (there : lookup (is_at (client_cmp client)) work.node.commands ≡ Some command) (none : command.issued ≡ None) (found : label_at command.line.label work.node ≡ Some begun) where
     module _ (tid : Tid) (of : begun.tid ≡ Some tid) (unended : is_owner client begun.owner ≡ true → kept_outcome tid work.node ≡ None) where
       request_keeps : (member : Member) (op : Op) → Keeps work (request_command client tid member op work)
       request_keeps member op = rules.elim_keeps before stamp (next_number tid member.node work) work (λ number. request_as client tid member op number work) work (λ h. h) as_number
@@ -216,12 +216,12 @@ module _ (before : List Entry) (stamp : ℕ) where
       (λ begun found. rules.if_keeps before stamp (is_owner client begun.owner) (owner_waits client begun.tid command.line.command work) (borrower_waits client command.issued begun.tid command.line.command work) work
       (λ own. owners command there begun found own begun.tid refl) (λ far. borrowers command there begun found far command.issued refl)))
     where
-      owners : (command : OpenCommand) → lookup (is_at (client_cmp client)) work.node.commands ≡ Some command → (begun : Begun) → label_at command.line.label work.node ≡ Some begun → is_owner client begun.owner ≡ true → (o : Option Tid) → begun.tid ≡ o → Keeps work (owner_waits client o command.line.command work)
+      owners : (command : OpenCommand) → lookup (is_at (client_cmp client)) work.node.commands ≡ Some command → (begun : KeptLabel) → label_at command.line.label work.node ≡ Some begun → is_owner client begun.owner ≡ true → (o : Option Tid) → begun.tid ≡ o → Keeps work (owner_waits client o command.line.command work)
       owners command there begun found own None of = λ h. h
       owners command there begun found own (Some tid) of = rules.elim_keeps before stamp (kept_outcome tid work.node) work (λ decided. answer client (decided_answer decided command.line.command) work) work (λ h. h)
           (λ decided kept. answered_amid before stamp client (decided_answer decided command.line.command) work (ended_unawaited (around before stamp work) client command there work.node.manager begun tid decided found of own kept))
 
-      borrowers : (command : OpenCommand) → lookup (is_at (client_cmp client)) work.node.commands ≡ Some command → (begun : Begun) → label_at command.line.label work.node ≡ Some begun → is_owner client begun.owner ≡ false → (i : Option Issued) → command.issued ≡ i → Keeps work (borrower_waits client i begun.tid command.line.command work)
+      borrowers : (command : OpenCommand) → lookup (is_at (client_cmp client)) work.node.commands ≡ Some command → (begun : KeptLabel) → label_at command.line.label work.node ≡ Some begun → is_owner client begun.owner ≡ false → (i : Option Issued) → command.issued ≡ i → Keeps work (borrower_waits client i begun.tid command.line.command work)
       borrowers command there begun found far (Some issued) some = rules.if_keeps before stamp (is_aborted issued.tid work.node) (answer client answers.Ended work) work work
           (λ aborted. answered_amid before stamp client answers.Ended work (aborted_unawaited (around before stamp work) client command there work.node.manager issued some aborted)) (λ open_still h. h)
       borrowers command there begun found far None none = of begun.tid refl

@@ -1,5 +1,5 @@
 -- What a node waits for stands on as its step enters something, keeps labels and outcomes, and takes and answers commands.
-use Rattle.qs_world_runs.proofs.Words.{◌≡◌, ◌≢◌, ◌⊎◌, inl, inr, ℕ, ◌+◌, ◌-◌, ◌==◌, ◌&&◌, ◌||◌, Bool, true, false, List, [], ◌∷◌, ◌++◌, Option, Some, None, refl, sym, ap, subst, ◌∙◌, arith, append_assoc, if◌then◌else◌, nat_tests, insert_entry, is_at, find, lookup, remove_entry, ClientNo, NodeNo, Tid, peer_of, Act, Entry, ScriptLine, is_outcome_of, Begun, Decided, changed_apart, is_count_of, client_no, Answer, Cause, client_of, answer, enter, keep_outcome, put_label, Work, client_cmp}
+use Rattle.qs_world_runs.proofs.Words.{◌≡◌, ◌≢◌, ◌⊎◌, inl, inr, ℕ, ◌+◌, ◌-◌, ◌==◌, ◌&&◌, ◌||◌, Bool, true, false, List, [], ◌∷◌, ◌++◌, Option, Some, None, refl, sym, ap, subst, ◌∙◌, arith, append_assoc, if◌then◌else◌, nat_tests, insert_entry, is_at, find, lookup, remove_entry, ClientNo, NodeNo, Tid, peer_of, Act, Entry, ScriptLine, is_outcome_of, KeptLabel, Decided, changed_apart, is_count_of, client_no, Answer, Cause, client_of, answer, enter, keep_outcome, put_label, Work, client_cmp}
 use Rattle.qs_world_runs.proofs.Words.{with_manager, with_command, Issued, OpenCommand, Manager, Outstanding, Participant, entries_of, entry_of, Every, AreApart, client_exact, same_client_or, of_some, Amid, Around, IsCommanded, NotAwaited, StandsSo, around, command_at}
 use Rattle.qs_base.specs.declared.identifiers.Outcome.{Outcome}
 use Rattle.qs_book_journal.specs.declared.entry.Act.TheVariants as acts
@@ -24,7 +24,7 @@ pub record IsSilent (act : Act) : Type 0 where
 
 -- a request is commanded on where its client's command, its label and the outcomes that are kept stay
 pub commanded_as : (a b : Around) (tid : Tid) (request : Outstanding) → ((command : OpenCommand) → command_at (client_of request.issuer) a ≡ Some command → command_at (client_of request.issuer) b ≡ Some command)
-    → ((label : List ℕ) (begun : Begun) → find (has_label label) a.labels ≡ Some begun → find (has_label label) b.labels ≡ Some begun) → (find (is_outcome_of tid) a.outcomes ≡ None → find (is_outcome_of tid) b.outcomes ≡ None)
+    → ((label : List ℕ) (begun : KeptLabel) → find (has_label label) a.labels ≡ Some begun → find (has_label label) b.labels ≡ Some begun) → (find (is_outcome_of tid) a.outcomes ≡ None → find (is_outcome_of tid) b.outcomes ≡ None)
     → IsCommanded a tid request → IsCommanded b tid request
 commanded_as a b tid request commands labels outcomes c = record {
   command = c.command;
@@ -120,7 +120,7 @@ module _ (before : List Entry) (stamp : ℕ) where
 
   -- ---- labels and outcomes
 
-  pub labelled_amid : (begun : Begun) (work : Work) → Here work → Here (put_label begun work)
+  pub labelled_amid : (begun : KeptLabel) (work : Work) → Here work → Here (put_label begun work)
   labelled_amid begun work = waits_as a b work.node.manager (λ tid part known. so_still a b refl refl tid part (λ undecided. every_each (λ (request : Outstanding). IsCommanded a tid request → IsCommanded b tid request)
       (λ request. commanded_as a b tid request (λ command there. there) (λ label was found. label_stays label begun work.node.kept.now.labels was found) (λ kept. kept)) part.waiting))
     where

@@ -1,5 +1,5 @@
 -- After a whole step of a node, what it waits for of others stands in the history.
-use Rattle.qs_world_runs.proofs.Words.{◌≡◌, ℕ, ◌<◌, ◌==◌, true, false, List, ◌++◌, Option, Some, None, refl, sym, ap, subst, ◌∙◌, append-nil, is_at, lookup, Tid, peer_of, Entry, Begun, IsRising, tid_cmp, client_of, kept_outcome, is_issued_as, waits_as, label_at, Work, client_cmp, work_on, after_step, effects_of, step_work, Setting, Issued, OpenCommand, Outstanding, Participant, entries_of, Opening, World, every_on, step_same, book_in, IsAwaited, Owes, StandsOwed, stands_awaited}
+use Rattle.qs_world_runs.proofs.Words.{◌≡◌, ℕ, ◌<◌, ◌==◌, true, false, List, ◌++◌, Option, Some, None, refl, sym, ap, subst, ◌∙◌, append-nil, is_at, lookup, Tid, peer_of, Entry, KeptLabel, IsRising, tid_cmp, client_of, kept_outcome, is_issued_as, waits_as, label_at, Work, client_cmp, work_on, after_step, effects_of, step_work, Setting, Issued, OpenCommand, Outstanding, Participant, entries_of, Opening, World, every_on, step_same, book_in, IsAwaited, Owes, StandsOwed, stands_awaited}
 use Rattle.qs_world_runs.proofs.Words.{stands_uncounted, Amid, Around, IsCommanded, IsHeld, StandsSo, around, command_at, InStep}
 use Rattle.qs_node_kept.specs.Keeping.{is_label_of}
 use Rattle.qs_ops.specs.Servers.{files_no}
@@ -20,14 +20,14 @@ module _ (before : List Entry) (stamp free : ℕ) (node : NodeValue) (rising : I
 
   -- what its command's label names
   record IsNamed (tid : Tid) (command : OpenCommand) : Type 0 where
-    begun : Begun
+    begun : KeptLabel
     found : label_at command.line.label node ≡ Some begun
     of : is_label_of tid begun ≡ true
 
   named : (tid : Tid) (command : OpenCommand) → names_tid tid node (Some command) ≡ true → IsNamed tid command
   named tid command is = by (label_at command.line.label node) refl is
     where
-      by : (o : Option Begun) → label_at command.line.label node ≡ o → (elim o [ None ↦ false | Some begun ↦ is_label_of tid begun ]) ≡ true → IsNamed tid command
+      by : (o : Option KeptLabel) → label_at command.line.label node ≡ o → (elim o [ None ↦ false | Some begun ↦ is_label_of tid begun ]) ≡ true → IsNamed tid command
       by None none e = absurd (cc e)
       by (Some begun) found e = record { begun = begun; found = found; of = e }
 
@@ -80,7 +80,7 @@ ends before stamp n work own w = subst (λ (k : ℕ). Owes work.node (before ++ 
         in_hand c = ap (waits_as tid request.member request.number) c.there ∙ (ap (λ (i : Option Issued). elim i [ None ↦ false | Some issued ↦ is_issued_as tid request.member request.number issued ]) c.as_issued ∙ c.for_it)
 
         labelled : IsCommanded (around before stamp work) tid request → names_tid tid work.node (lookup (is_at (client_cmp (client_of request.issuer))) work.node.commands) ≡ true
-        labelled c = ap (names_tid tid work.node) c.there ∙ (ap (λ (b : Option Begun). elim b [ None ↦ false | Some begun ↦ is_label_of tid begun ]) c.found ∙ c.of)
+        labelled c = ap (names_tid tid work.node) c.there ∙ (ap (λ (b : Option KeptLabel). elim b [ None ↦ false | Some begun ↦ is_label_of tid begun ]) c.found ∙ c.of)
 
     owes : Owes work.node history
     owes tid part known = let s : StandsSo (around before stamp work) tid part = w.each tid part known in record {

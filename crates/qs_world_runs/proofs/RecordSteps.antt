@@ -1,5 +1,5 @@
 -- Which records a whole step makes: what the node opened with, what comes, what it does of itself, and commands that stayed open.
-use Rattle.qs_world_runs.proofs.Words.{◌≡◌, inr, ℕ, ◌≤◌, ◌+◌, ◌++◌, Bool, true, false, List, [], ◌∷◌, Option, Some, None, fold, refl, sym, ap, subst, ◌∙◌, if◌then◌else◌, is_at, lookup, set_value, tid_cmp, ClientNo, NodeNo, Tid, listed, Act, Command, ScriptLine, Begun, Decided, Answer, ticked, Message, Record, kept_outcome, borrower_command, is_aborted, answer, enter, log_if, send, send_each, ask, begin_as, begin_or_refuse, decided_answer, open_command, owner_command, request_command}
+use Rattle.qs_world_runs.proofs.Words.{◌≡◌, inr, ℕ, ◌≤◌, ◌+◌, ◌++◌, Bool, true, false, List, [], ◌∷◌, Option, Some, None, fold, refl, sym, ap, subst, ◌∙◌, if◌then◌else◌, is_at, lookup, set_value, tid_cmp, ClientNo, NodeNo, Tid, listed, Act, Command, ScriptLine, KeptLabel, Decided, Answer, ticked, Message, Record, kept_outcome, borrower_command, is_aborted, answer, enter, log_if, send, send_each, ask, begin_as, begin_or_refuse, decided_answer, open_command, owner_command, request_command}
 use Rattle.qs_world_runs.proofs.Words.{give_notices, begin_incarnation, known_tids, resume_home, resume_part, resume_tid, label_at, put_label, settle, Work, change_server, client_cmp, with_manager, with_node, work_on, abort_old, age_rule, answer_waiting, borrower_waits, command_came, happen, is_owner, labelled, message_came, obey, owner_waits, step_work, tick, wait_command, wait_on, waiting_clients, waits_at, with_command, Event, Issued, OpenCommand, BeginFault, Participant, Every, Quiet}
 use Rattle.qs_world_runs.proofs.Words.{quiet_send, IsSource, commits_of, decides_of, told_commit, zero_le}
 use Rattle.qs_base.specs.declared.identifiers.Outcome.{Outcome}
@@ -47,7 +47,7 @@ module _ (start : NodeValue) (event : Event) where
       by None = open_makes client tid command work
       by (Some decided) = quiet start event work (answer client (decided_answer decided command) work) (quiet_answer client (decided_answer decided command) work)
 
-  labelled_makes : (client : ClientNo) (begun : Begun) (command : Command) (work : Work) → K start event work (labelled client begun command work)
+  labelled_makes : (client : ClientNo) (begun : KeptLabel) (command : Command) (work : Work) → K start event work (labelled client begun command work)
   labelled_makes client begun command work = makes_if (me start event) (Else start event) (is_owner client begun.owner) work (owner_command client begun.tid command work) _ (owner_makes client begun.tid command work) (by begun.tid)
     where
       by : (o : Option Tid) → K start event work (elim o [ None ↦ work | Some tid ↦ borrower_command client tid command work ])
@@ -69,7 +69,7 @@ module _ (start : NodeValue) (event : Event) where
       w : Work
       w = with_command line work
 
-      met : (command : Command) (o : Option Begun) → K start event w (elim o [ None ↦ w | Some begun ↦ labelled line.client begun command w ])
+      met : (command : Command) (o : Option KeptLabel) → K start event w (elim o [ None ↦ w | Some begun ↦ labelled line.client begun command w ])
       met command None = self start event w
       met command (Some begun) = labelled_makes line.client begun command w
 
@@ -210,7 +210,7 @@ module _ (start : NodeValue) (event : Event) where
       borrowers c None None = self start event work
       borrowers c None (Some tid) = quiet start event work (borrower_command client tid c work) (quiet_borrower client tid c work)
 
-      of : (command : OpenCommand) (o : Option Begun) → K start event work (elim o [ None ↦ work | Some begun ↦ waits_at client command begun work ])
+      of : (command : OpenCommand) (o : Option KeptLabel) → K start event work (elim o [ None ↦ work | Some begun ↦ waits_at client command begun work ])
       of command None = self start event work
       of command (Some begun) = makes_if (me start event) (Else start event) (is_owner client begun.owner) work (owner_waits client begun.tid command.line.command work) (borrower_waits client command.issued begun.tid command.line.command work)
           (owners command.line.command begun.tid) (borrowers command.line.command command.issued begun.tid)

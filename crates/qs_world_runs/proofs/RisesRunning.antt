@@ -1,5 +1,5 @@
 -- A node that restarts has all that the machine has beside it: what it had in memory is gone, its log and what is kept for its clients stand, and of what began here the machine has nothing open any more.
-use Rattle.qs_world_runs.proofs.Words.{◌≡◌, ◌⊎◌, inl, inr, ℕ, ◌<◌, ◌==◌, ◌&&◌, not, Bool, true, false, List, [], ◌∷◌, ◌++◌, Option, Some, None, fold, nat_lt, refl, sym, ap, subst, ◌∙◌, arith, if◌then◌else◌, nat_tests, find, list_any, slice_get, same_tid, NodeNo, Tid, is_outcome_of, Begun, Decided, after_both, BookValue, cell_of_transaction, find_transaction, effect, is_among, TransactionValue, is_commit, Cell, Recovery, recovery, is_kept_commit, recovered_of, Setting, Participant, book_of}
+use Rattle.qs_world_runs.proofs.Words.{◌≡◌, ◌⊎◌, inl, inr, ℕ, ◌<◌, ◌==◌, ◌&&◌, not, Bool, true, false, List, [], ◌∷◌, ◌++◌, Option, Some, None, fold, nat_lt, refl, sym, ap, subst, ◌∙◌, arith, if◌then◌else◌, nat_tests, find, list_any, slice_get, same_tid, NodeNo, Tid, is_outcome_of, KeptLabel, Decided, after_both, BookValue, cell_of_transaction, find_transaction, effect, is_among, TransactionValue, is_commit, Cell, Recovery, recovery, is_kept_commit, recovered_of, Setting, Participant, book_of}
 use Rattle.qs_world_runs.proofs.Words.{opened_from, Rise, may_move, moved, risen_host, Opening, World, inc_of, began_here, has_issued, is_committed_at, Lasts, HoldsLogged, Every, rise_entry, HoldsNodeOf, opens_soundly, in_runs, lasts_first, lasts_ran, LastsWell, opened_numbered, opening_named, rises_well, clash, of_some, HoldsRunning, Joined, book_in, same_Some, ltb-true, or_right, or_left, or_cases, eqb-self}
 use Rattle.std.proofs.lemmas.List.Folds.{find-append}
 use Rattle.std.specs.Option.{option_or}
@@ -42,7 +42,7 @@ module _ (tid : Tid) (here : NodeNo) (done : List Tid) where
       by None e = absurd (cc e)
       by (Some d) e = e
 
-  kept_closed : (labels : List Begun) (os : List Decided) → Kept_at os → Kept_at (fold (close_outcome here done) os labels)
+  kept_closed : (labels : List KeptLabel) (os : List Decided) → Kept_at os → Kept_at (fold (close_outcome here done) os labels)
   kept_closed [] os is = is
   kept_closed (b ∷ labels) os is = kept_closed labels (close_outcome here done os b) (of b.tid)
     where

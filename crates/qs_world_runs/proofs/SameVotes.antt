@@ -1,6 +1,6 @@
 -- Each vote that a step puts on record is of what its server had pending as the step began: a server that serves a request of a transaction in the step casts
 -- no vote on it then, and by a vote or a notice all that is pending stays, or nothing is left to vote on.
-use Rattle.qs_world_runs.proofs.Words.{◌≡◌, ◌⊎◌, inl, inr, ℕ, ◌==◌, Bool, true, false, List, [], ◌∷◌, ◌++◌, Option, refl, sym, ap, subst, ◌∙◌, if◌then◌else◌, is_at, unwrap_or, tid_exact, or-true, tid_cmp, ServerNo, Tid, tid_itself, IsRising, is_empty, ServerValue, after_notice, after_serving, after_vote, changes_in, is_logged, ticked, Op, Kind, Record, ServersValue, server_at, with_server, is_put_off, no_doings, work_on, Doings, Opening, World, Every, HoldsStill, same_or_apart, every_append}
+use Rattle.qs_world_runs.proofs.Words.{◌≡◌, ◌⊎◌, inl, inr, ℕ, ◌==◌, Bool, true, false, List, [], ◌∷◌, ◌++◌, Option, refl, sym, ap, subst, ◌∙◌, if◌then◌else◌, is_at, unwrap_or, tid_exact, or-true, tid_cmp, ServerNo, Tid, tid_itself, IsRising, is_empty, ServerValue, after_notice, after_serving, after_vote, changes_in, is_logged, ticked, Op, ServerKind, Record, ServersValue, server_at, with_server, is_put_off, no_doings, work_on, Doings, Opening, World, Every, HoldsStill, same_or_apart, every_append}
 use Rattle.qs_world_runs.proofs.Words.{StepMay, step_may, book_in, IsKeptStock, Stock, stock_of, IsNoVote}
 use Rattle.qs_book_laws.proofs.Maps.{lookup_put, lookup_put_apart}
 use Rattle.qs_ops.specs.Servers as numbers
@@ -125,7 +125,7 @@ module _ (node : NodeValue) where
     votes = tt;
   }
     where
-      other : (kind its : Kind) → kind ≡ its → is_logged its ≡ false → is_logged kind ≡ true → ⊥
+      other : (kind its : ServerKind) → kind ≡ its → is_logged its ≡ false → is_logged kind ≡ true → ⊥
       other kind its is none logged = let off : is_logged kind ≡ false = ap is_logged is ∙ none in cc (off, logged)
 
       rising : (server : ServerNo) → is_logged (server_at node.servers server).kind ≡ true → IsRising tid_cmp (server_at node.servers server).table.shares

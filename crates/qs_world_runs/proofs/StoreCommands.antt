@@ -1,5 +1,5 @@
 -- What all things that a rule does to servers, records and transactions keep, the commands of clients keep.
-use Rattle.qs_world_runs.proofs.Words.{◌≡◌, true, Option, Some, None, refl, if◌then◌else◌, ClientNo, Member, Tid, Command, ScriptLine, first_untaken, give_back, last_taken, take_first, Begun, Op, client_server, kept_outcome, become_asked, borrower_command, is_void, lent_command, loan_command, take, take_command, with_loan, answer, enter, ask, begin_command, begin_or_refuse, decided_answer, enter_ask, open_command, owner_command, request_as, request_command, label_at, put_label, Work}
+use Rattle.qs_world_runs.proofs.Words.{◌≡◌, true, Option, Some, None, refl, if◌then◌else◌, ClientNo, Member, Tid, Command, ScriptLine, first_untaken, give_back, last_taken, take_first, KeptLabel, Op, client_server, kept_outcome, become_asked, borrower_command, is_void, lent_command, loan_command, take, take_command, with_loan, answer, enter, ask, begin_command, begin_or_refuse, decided_answer, enter_ask, open_command, owner_command, request_as, request_command, label_at, put_label, Work}
 use Rattle.qs_world_runs.proofs.Words.{with_doings, with_kept, with_manager, command_came, is_owner, labelled, obey, with_command, BeginFault, IsKeptStore, Store, store_of}
 use Rattle.qs_base.specs.declared.identifiers.Outcome.TheVariants as outcomes
 use Rattle.qs_book_journal.specs.declared.entry.Act.TheVariants as acts
@@ -76,7 +76,7 @@ module _ (A : Tid → Type 0) (P : Store → Type 0) (k : IsKeptStore A P) where
       by (commands.Request member op) = loans (commands.Request member op)
 
   -- where an owner may ask for what is under that label
-  pub command_keeps : (line : ScriptLine) (work : Work) → ((begun : Begun) (tid : Tid) → label_at line.label work.node ≡ Some begun → begun.tid ≡ Some tid → is_owner line.client begun.owner ≡ true → A tid) → Keeps work (command_came line work)
+  pub command_keeps : (line : ScriptLine) (work : Work) → ((begun : KeptLabel) (tid : Tid) → label_at line.label work.node ≡ Some begun → begun.tid ≡ Some tid → is_owner line.client begun.owner ≡ true → A tid) → Keeps work (command_came line work)
   command_keeps line work may = by line.command
     where
       came : Work

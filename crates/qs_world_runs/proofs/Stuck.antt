@@ -1,5 +1,5 @@
 -- What keeps a node from being ready for a transaction stays so through the rest of its step: its own turn, that of every other, and commands that stayed open.
-use Rattle.qs_world_runs.proofs.Words.{◌≡◌, ℕ, Bool, true, false, List, [], ◌∷◌, Option, Some, None, refl, sym, subst, ◌∙◌, if◌then◌else◌, ◌&&◌, not, is_at, lookup, same_tid, ClientNo, Member, Tid, Command, first_untaken, last_taken, give_back, take_first, Begun, Decided, Lent, Cause, Op, client_server, kept_outcome, borrower_command, is_aborted, is_void, lent_command, loan_command, take, with_loan, answer, enter, log_if, decided_answer, request_as, request_command, decide_as, end_members}
+use Rattle.qs_world_runs.proofs.Words.{◌≡◌, ℕ, Bool, true, false, List, [], ◌∷◌, Option, Some, None, refl, sym, subst, ◌∙◌, if◌then◌else◌, ◌&&◌, not, is_at, lookup, same_tid, ClientNo, Member, Tid, Command, first_untaken, last_taken, give_back, take_first, KeptLabel, Decided, Lent, Cause, Op, client_server, kept_outcome, borrower_command, is_aborted, is_void, lent_command, loan_command, take, with_loan, answer, enter, log_if, decided_answer, request_as, request_command, decide_as, end_members}
 use Rattle.qs_world_runs.proofs.Words.{give_notices, keep_outcome, label_at, forget_rule, is_pass_due, may_answer, pass_rule, ready, ready_rule, refusal_goes_to, refuse_elsewhere, refuse_rule, send_refusal, settle_tid, try, is_busy, Work, client_cmp, doings_of, with_manager, with_doings, with_kept, borrower_waits, is_owner, owner_waits, wait_command, wait_on, waits_at, forget, vote_pass, Issued, OpenCommand, is_undecided, Decision, Participant, settle_leaves, same_is}
 use Rattle.qs_base.specs.declared.identifiers.Outcome.TheVariants as outcomes
 use Rattle.qs_book_journal.specs.declared.entry.Act.TheVariants as acts
@@ -176,7 +176,7 @@ module _ (t : Tid) where
       borrower None None command = keeps_itself t work
       borrower None (Some tid) command = borrower_keeps client tid command work
 
-      at : (command : OpenCommand) (o : Option Begun) → Keeps t work (elim o [ None ↦ work | Some begun ↦ waits_at client command begun work ])
+      at : (command : OpenCommand) (o : Option KeptLabel) → Keeps t work (elim o [ None ↦ work | Some begun ↦ waits_at client command begun work ])
       at command None = keeps_itself t work
       at command (Some begun) = which (is_owner client begun.owner)
         where

@@ -1,5 +1,5 @@
 -- What clients command leaves what was served and what waits within the numbers that were given: an owner's transaction runs at its home here, and of what is lent numbers were given.
-use Rattle.qs_world_runs.proofs.Words.{◌≡◌, ℕ, ◌+◌, ◌==◌, Bool, true, false, Option, Some, None, refl, sym, subst, ◌∙◌, if◌then◌else◌, ClientNo, Member, NodeNo, Tid, last_number, same_node, Command, ScriptLine, first_untaken, give_back, last_taken, take_first, Begun, Decided, Lent, Op, client_server, kept_outcome, become_asked, borrower_command, is_aborted, is_void, lent_command, loan_command, take, take_command, with_loan, answer, enter, ask, begin_command, begin_or_refuse, decided_answer}
+use Rattle.qs_world_runs.proofs.Words.{◌≡◌, ℕ, ◌+◌, ◌==◌, Bool, true, false, Option, Some, None, refl, sym, subst, ◌∙◌, if◌then◌else◌, ClientNo, Member, NodeNo, Tid, last_number, same_node, Command, ScriptLine, first_untaken, give_back, last_taken, take_first, KeptLabel, Decided, Lent, Op, client_server, kept_outcome, become_asked, borrower_command, is_aborted, is_void, lent_command, loan_command, take, take_command, with_loan, answer, enter, ask, begin_command, begin_or_refuse, decided_answer}
 use Rattle.qs_world_runs.proofs.Words.{enter_ask, open_command, owner_command, request_command, issue_away, issue_here, next_local, label_at, put_label, Work, here, with_doings, with_kept, with_manager, command_came, is_owner, labelled, obey, with_command, BeginFault, Outstanding, Participant, HasNodeFacts, IsRunning, same_self, AreTallied, IsTallied, tally_of, not_implied}
 use Rattle.qs_base.specs.declared.identifiers.Outcome.TheVariants as outcomes
 use Rattle.qs_book_journal.specs.declared.entry.Act.TheVariants as acts
@@ -110,7 +110,7 @@ module _ (W : Tid → Type 0) where
     abbrev came : Work
     came = with_command line work
 
-    owned : (begun : Begun) (owner : Option ClientNo) → label_at line.label work.node ≡ Some begun → begun.owner ≡ owner → is_owner line.client owner ≡ true → (tid : Tid) → begun.tid ≡ Some tid → kept_outcome tid work.node ≡ None → RunsHere tid came
+    owned : (begun : KeptLabel) (owner : Option ClientNo) → label_at line.label work.node ≡ Some begun → begun.owner ≡ owner → is_owner line.client owner ≡ true → (tid : Tid) → begun.tid ≡ Some tid → kept_outcome tid work.node ≡ None → RunsHere tid came
     owned begun None found of own tid its none = absurd (cc own)
     owned begun (Some client) found of own tid its none = record {
       home = λ part known. (facts.parts tid part known).homed ∙ same;
