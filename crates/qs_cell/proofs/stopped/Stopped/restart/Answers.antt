@@ -52,6 +52,12 @@ returns-in-Ok-clause-rooms g c = λ told keep set here.
     begun_roomy g.D.Disk.fault_count c.args.alloc keep (g.D.Disk.byte_count c.args.self.disk.disk) (g.D.Disk.state c.args.self.disk.disk) c.in-Ok.log _ _
     c.begin_incarnation.result c.begin_incarnation.ensures.begins set here (c.in-Ok.ensures.reopened told)
 
+pub returns-in-Err-clause-moments : goal.returns-in-Err-clause-moments
+returns-in-Err-clause-moments g c = λ told a b here.
+    let s = (g.D.Disk.state c.args.self.disk.disk) in
+    subst (λ (r : Restarted _ g.row.F.Denot g.row.X.Denot). Keeps (HasOneOf a b) s (g.D.Disk.state (restarted_disk r).disk)) (sym c.refused.ensures)
+    (c.in-Err.ensures.moments told a b here)
+
 pub returns-in-Err-clause-left : goal.returns-in-Err-clause-left
 returns-in-Err-clause-left g c = λ told keep here.
     let s = (g.D.Disk.state c.args.self.disk.disk) in
