@@ -5,7 +5,7 @@ use Rattle.qs_base.specs.declared.identifiers.ClientNo.{ClientNo}
 use Rattle.qs_base.specs.declared.memory.NoMemory.{NoMemory}
 use Rattle.qs_book_journal.specs.declared.script_line.LineAnswer.{LineAnswer}
 use Rattle.qs_book_journal.specs.declared.script_line.ScriptLine.{ScriptLine}
-use Rattle.qs_link.specs.Lane.{FeedValue, DrawValue, IsLane, IsFront, on_way}
+use Rattle.qs_link.specs.Lane.{FeedValue, DrawValue, IsFifo, IsLane, IsFront, on_way}
 use Rattle.qs_link.specs.declared.ends.NodeEnds.{NodeEnds}
 use Rattle.rtrb.specs.Ring.{SameProducer, SameConsumer}
 
@@ -62,6 +62,7 @@ pub record GoesOn {T : Type 0} (from_old from_new : FeedValue T) (to_old to_new 
   pub front : IsFront to_old.inbox to_new.inbox
   pub all : OnOk answer (to_new.inbox ≡ on_way from_old to_old)
   pub held : IfOk answer (λ n. n ≡ length to_new.inbox)
+  pub fifo : IsFifo from_old to_old × IsFifo from_new to_new
 
 -- the client's feed and the node's end are of one lane, where the client has one here
 abbrev pub SendsTo : FeedValue ScriptLine → Option NodeEnds → Type 0

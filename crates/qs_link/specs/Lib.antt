@@ -4,5 +4,6 @@ pub mod Link
 pub mod Parcel
 pub mod Plan
 pub mod Planned
+pub mod OnlyPut
 -- The lanes between a node and its clients: the commands that come by them, and the answers that go.
 pub mod Lanes

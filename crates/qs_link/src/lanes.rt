@@ -51,6 +51,7 @@ where
     ensures lane { IfOk result (λ ends. IsLane ends.0 ends.1) }
     ensures empty { IfOk result (λ ends. on_way ends.0 ends.1 ≡ []) }
     ensures places { IfOk result (λ ends. HasPlaces ends.0 ends.1) }
+    ensures fifo { IfOk result (λ ends. IsFifo ends.0 ends.1) }
 {
     let (feed, draw) = RingBuffer::new(alloc, PLACES)?;
     Ok((
@@ -156,6 +157,7 @@ where
     ensures front { IsFront to.old.inbox to.new.inbox }
     ensures all { OnOk result (to.new.inbox ≡ on_way from.old to.old) }
     ensures held { IfOk result (λ n. n ≡ length to.new.inbox) }
+    ensures fifo { IsFifo from.old to.old × IsFifo from.new to.new }
 {
     to.ring.slots_beside(&mut from.ring);
     pop_all(&mut to.ring, &mut to.inbox)?;

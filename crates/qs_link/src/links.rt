@@ -1,7 +1,7 @@
 //! Links: lanes of parcels.
 ghost use Rattle.std.specs.Prelude.{◌≡◌, ◌↔◌, [], length, IfOk, IfSome, OnOk, IsErr};
 ghost use Rattle.qs_base.specs.declared.memory.NoMemory.{NoMemory};
-ghost use Rattle.qs_link.specs.Lane.{IsLane, HasPlaces, IsFront, on_way};
+ghost use Rattle.qs_link.specs.Lane.{IsLane, HasPlaces, IsFifo, IsFront, on_way};
 ghost use Rattle.qs_link.specs.Link.{Took, TookNone};
 ghost use Rattle.qs_link.specs.Plan.{IsPlan, IsFresh};
 ghost use Rattle.qs_link.specs.Planned.{Carried};
@@ -38,6 +38,7 @@ pub fn link(alloc: Global, plan: LinkPlan) -> Result<(Outgoing, Incoming), NoMem
     ensures lane { IfOk result (λ ends. IsLane ends.0.feed ends.1) }
     ensures empty { IfOk result (λ ends. on_way ends.0.feed ends.1 ≡ []) }
     ensures places { IfOk result (λ ends. HasPlaces ends.0.feed ends.1) }
+    ensures fifo { IfOk result (λ ends. IsFifo ends.0.feed ends.1) }
     ensures fresh { IfOk result (λ ends. IsFresh plan ends.0) }
 {
     let (feed, draw) = lane(alloc)?;
@@ -86,6 +87,7 @@ pub fn carry_link(from: &mut Outgoing, to: &mut Incoming) -> Result<usize, NoMem
     ensures front { IsFront to.old.inbox to.new.inbox }
     ensures all { OnOk result (to.new.inbox ≡ on_way from.old.feed to.old) }
     ensures held { IfOk result (λ n. n ≡ length to.new.inbox) }
+    ensures fifo { IsFifo from.old.feed to.old × IsFifo from.new.feed to.new }
 {
     carry(&mut from.feed, &mut to.draw)
 }

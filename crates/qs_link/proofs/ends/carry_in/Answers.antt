@@ -19,6 +19,7 @@ returns-in-Some c =
       front = c.carry.ensures.front;
       all = c.carry.ensures.all;
       held = c.carry.ensures.held;
+      fifo = c.carry.ensures.fifo;
     })
 
 pub returns-in-None : goal.returns-in-None
