@@ -62,15 +62,22 @@ pub(crate) fn link_row(alloc: Global, words: &str) -> Result<String, Error> {
     let Ok(mut ends) = Ends::new(alloc, plan) else {
         bail!("there is no memory");
     };
-    put_all(&mut ends, count)?;
+    let said = come(alloc, &mut ends, count);
+    drop(ends);
+    said
+}
+
+/// Which of so many packets come over a link.
+fn come(alloc: Global, ends: &mut Ends, count: &str) -> Result<String, Error> {
+    put_all(ends, count)?;
     ends.push_all();
     let mut said = format!(in alloc; "ring")?;
-    add_all(alloc, &mut said, &mut ends)?;
+    add_all(alloc, &mut said, ends)?;
     said.push_str(" carried")?;
     if ends.carry().is_err() {
         bail!("there is no memory");
     }
-    add_all(alloc, &mut said, &mut ends)?;
+    add_all(alloc, &mut said, ends)?;
     Ok(said)
 }
 

@@ -44,7 +44,9 @@ fn settled(alloc: Global, plan: Plan) -> Result<Drawn, Error> {
     for number in 0..plan.runs {
         drawn.begin(Lcg64Xsh32::new(plan.seed, number));
         let mut run = Run::new(alloc, &mut drawn)?;
-        if !run.drive(alloc, TICKS, &mut drawn)? {
+        let settled = run.drive(alloc, TICKS, &mut drawn);
+        drop(run);
+        if !settled? {
             bail!("run {number} did not settle");
         }
     }

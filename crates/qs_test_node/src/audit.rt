@@ -41,35 +41,55 @@ fn seen<S: Server>(server: &mut S, tid: Tid) -> Result<usize, Fail>
     }
 }
 
+// A note is served and voted for.
+fn is_voted(alloc: Global, audit: &mut Audit) -> Result<bool, Fail> {
+    let is_done = audit.serve(tid(1), &note(alloc, "x")?)? == Reply::Done;
+    let vote = audit.vote(tid(1), FRAME + NEED, FRAME)?;
+    let changes = audit.changes(tid(1))?;
+    Ok(is_done && vote == Vote::Recoverable && changes == notes(alloc, &["x"])?)
+}
+
+// Once it is committed a transaction sees it, whose own vote is read-only.
+fn is_seen(alloc: Global, audit: &mut Audit) -> Result<bool, Fail> {
+    audit.note(tid(1), Notice::Commit);
+    let is_seen = seen(audit, tid(2))? == 1;
+    let is_read = audit.vote(tid(2), 0, FRAME)? == Vote::ReadOnly;
+    Ok(is_seen && is_read && audit.contents()? == notes(alloc, &["x"])?)
+}
+
 #[test]
 fn a_committed_note_is_seen(rt: HostRuntime) -> Result<(), Fail> {
-    let alloc = rt.alloc();
-    let mut audit = Audit::new(alloc);
-    assert!(rt; audit.serve(tid(1), &note(alloc, "x")?)? == Reply::Done);
-    assert!(rt; audit.vote(tid(1), FRAME + NEED, FRAME)? == Vote::Recoverable);
-    assert!(rt; audit.changes(tid(1))? == notes(alloc, &["x"])?);
-    audit.note(tid(1), Notice::Commit);
-    assert!(rt; seen(&mut audit, tid(2))? == 1);
-    assert!(rt; audit.vote(tid(2), 0, FRAME)? == Vote::ReadOnly);
-    assert!(rt; audit.contents()? == notes(alloc, &["x"])?);
+    let mut audit = Audit::new(rt.alloc());
+    assert!(rt; is_voted(rt.alloc(), &mut audit)?);
+    assert!(rt; is_seen(rt.alloc(), &mut audit)?);
     assert!(rt; audit.class() == Class::Recoverable);
     Ok(())
+}
+
+fn keep_two(alloc: Global, audit: &mut Audit) -> Result<(), Fail> {
+    audit.keep(tid(1), &notes(alloc, &["x", "y"])?)?;
+    audit.keep(tid(2), &notes(alloc, &["z"])?)?;
+    Ok(())
+}
+
+// One is refused for want of room, the other one commits, and a restart forgets.
+fn are_settled(audit: &mut Audit) -> Result<bool, Fail> {
+    let reason = Reason::LogRoom {
+        need: FRAME + NEED,
+        room: 0,
+    };
+    let is_refused = audit.vote(tid(2), 0, FRAME)? == Vote::Abort { reason };
+    audit.note(tid(2), Notice::Abort);
+    audit.note(tid(1), Notice::Commit);
+    let is_seen = seen(audit, tid(3))? == 2;
+    audit.clear();
+    Ok(is_refused && is_seen && seen(audit, tid(3))? == 0)
 }
 
 #[test]
 fn kept_notes_are_pending_until_their_outcome(rt: HostRuntime) -> Result<(), Fail> {
     let mut audit = Audit::new(rt.alloc());
-    audit.keep(tid(1), &notes(rt.alloc(), &["x", "y"])?)?;
-    audit.keep(tid(2), &notes(rt.alloc(), &["z"])?)?;
-    let reason = Reason::LogRoom {
-        need: FRAME + NEED,
-        room: 0,
-    };
-    assert!(rt; audit.vote(tid(2), 0, FRAME)? == Vote::Abort { reason });
-    audit.note(tid(2), Notice::Abort);
-    audit.note(tid(1), Notice::Commit);
-    assert!(rt; seen(&mut audit, tid(3))? == 2);
-    audit.clear();
-    assert!(rt; seen(&mut audit, tid(3))? == 0);
+    keep_two(rt.alloc(), &mut audit)?;
+    assert!(rt; are_settled(&mut audit)?);
     Ok(())
 }

@@ -1,4 +1,6 @@
 //! A script of two lines: in acts, and in visits.
+ghost use Rattle.std.specs.Prelude.{◌≡◌};
+
 use qs_base::{Bytes, ClientNo, List, NoMemory};
 use qs_book_journal::{Command, LineAnswer, ScriptLine};
 use qs_client::{ClientCell, ClientEnds};
@@ -53,27 +55,37 @@ fn lanes(alloc: Global) -> Result<(ClientEnds, Node), NoMemory> {
 // Clients may be handed to threads.
 fn goes_to_a_thread<T: Send>(_value: &T) {}
 
+fn acts(client: &mut ClientCell, node: &mut Node) -> Result<bool, NoMemory>
+    requires { client.old.acts ≡ 0 }
+{
+    let has_sent = client.act()?;
+    let has_come = node.takes() == Some(2);
+    node.answer(2);
+    Ok(has_sent && has_come && client.act()? && client.at() == Some(3))
+}
+
 #[test]
 fn an_act_sends_and_an_act_takes(rt: HostRuntime) -> Result<(), Fail> {
+    let lines = lines(rt.alloc())?;
     let (ends, mut node) = lanes(rt.alloc())?;
-    let mut client = ClientCell::new(ClientNo(0), lines(rt.alloc())?, ends);
+    let mut client = ClientCell::new(ClientNo(0), lines, ends);
     goes_to_a_thread(&client);
-    assert!(rt; client.act()?);
-    assert!(rt; node.takes() == Some(2));
-    node.answer(2);
-    assert!(rt; client.act()?);
-    assert!(rt; client.at() == Some(3));
+    assert!(rt; acts(&mut client, &mut node)?);
     Ok(())
+}
+
+fn visits(client: &mut ClientCell, node: &mut Node) -> Result<bool, NoMemory> {
+    let has_sent = client.visit()?;
+    let has_come = node.takes().is_some();
+    node.answer(2);
+    Ok(has_sent && !has_come && !client.visit()? && client.at() == Some(2))
 }
 
 #[test]
 fn a_visit_leaves_the_rings_alone(rt: HostRuntime) -> Result<(), Fail> {
+    let lines = lines(rt.alloc())?;
     let (ends, mut node) = lanes(rt.alloc())?;
-    let mut client = ClientCell::new(ClientNo(0), lines(rt.alloc())?, ends);
-    assert!(rt; client.visit()?);
-    assert!(rt; node.takes() == None);
-    node.answer(2);
-    assert!(rt; !client.visit()?);
-    assert!(rt; client.at() == Some(2));
+    let mut client = ClientCell::new(ClientNo(0), lines, ends);
+    assert!(rt; visits(&mut client, &mut node)?);
     Ok(())
 }

@@ -23,18 +23,31 @@ fn journal_of(alloc: Global, begun: &[(u8, Stamp, u32)]) -> Result<List<Entry>, 
     Ok(journal)
 }
 
-#[test]
-fn journals_are_merged_by_stamp_then_node(rt: HostRuntime) -> Result<(), Fail> {
-    let alloc = rt.alloc();
+const MERGED: [(u8, Stamp, u32); 5] = [(0, 1, 4), (0, 1, 3), (1, 1, 1), (1, 2, 2), (0, 3, 5)];
+
+fn journals_of(alloc: Global) -> Result<List<List<Entry>>, NoMemory> {
     let mut journals = List::new(alloc);
     journals.push(journal_of(alloc, &[(1, 1, 1), (1, 2, 2)])?)?;
     journals.push(journal_of(alloc, &[(0, 1, 4), (0, 1, 3), (0, 3, 5)])?)?;
-    let wanted = [(0, 1, 4), (0, 1, 3), (1, 1, 1), (1, 2, 2), (0, 3, 5)];
-    let merged = merge(alloc, &journals)?;
-    assert!(rt; merged.len() == wanted.len());
-    for (entry, (node, stamp, seq)) in merged.as_slice().iter().zip(wanted.iter()) {
-        assert!(rt; entry.node == NodeNo(*node) && entry.stamp == *stamp);
-        assert!(rt; matches!(&entry.act, Act::Begin { tid: begun, .. } if *begun == tid(*seq)));
-    }
+    Ok(journals)
+}
+
+fn is_entry(entry: &Entry, node: u8, stamp: Stamp, seq: u32) -> bool {
+    entry.node == NodeNo(node)
+        && entry.stamp == stamp
+        && matches!(&entry.act, Act::Begin { tid: begun, .. } if *begun == tid(seq))
+}
+
+fn are_merged(entries: &[Entry]) -> bool {
+    entries.len() == MERGED.len()
+        && entries.iter().zip(MERGED.iter()).all(|(entry, (node, stamp, seq))| is_entry(
+            entry, *node, *stamp, *seq,
+        ))
+}
+
+#[test]
+fn journals_are_merged_by_stamp_then_node(rt: HostRuntime) -> Result<(), Fail> {
+    let merged = merge(rt.alloc(), &journals_of(rt.alloc())?)?;
+    assert!(rt; are_merged(merged.as_slice()));
     Ok(())
 }

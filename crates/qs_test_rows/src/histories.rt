@@ -5,7 +5,7 @@
 
 use crate::row::Row;
 use anyhow::{Error, bail};
-use qs_tools::{JournalFailed, check, read_journal};
+use qs_tools::{Journal, JournalFailed, check, read_journal};
 use std::alloc::Global;
 
 /// The most entries of a history here.
@@ -16,17 +16,23 @@ const LAST_OPENING: u32 = 1_000;
 
 /// What the judge says of the text of a history.
 fn verdict(alloc: Global, text: &[u8]) -> Result<String, Error> {
-    let journal = match read_journal(alloc, text) {
-        Ok(journal) => journal,
-        Err(JournalFailed::Fault { line }) => {
-            return Ok(format!(in alloc; "no history at line {line}")?);
+    match read_journal(alloc, text) {
+        Ok(journal) => {
+            let said = judged(alloc, &journal);
+            drop(journal);
+            said
         }
+        Err(JournalFailed::Fault { line }) => Ok(format!(in alloc; "no history at line {line}")?),
         Err(JournalFailed::NoMemory) => bail!("no memory"),
-    };
+    }
+}
+
+/// What the judge says of a history.
+fn judged(alloc: Global, journal: &Journal) -> Result<String, Error> {
     if journal.first > LAST_OPENING || journal.entries.len() > MOST_ENTRIES {
         bail!("the history is too long");
     }
-    match check(alloc, &journal) {
+    match check(alloc, journal) {
         Ok(None) => Ok(format!(in alloc; "lawful")?),
         Ok(Some((line, clause))) => {
             Ok(format!(in alloc; "unlawful at line {line}: clause {clause}")?)

@@ -121,11 +121,17 @@ impl Rows {
     }
 }
 
-fn main(rt: HostRuntime) -> Result<(), Error> {
-    let alloc = rt.alloc();
-    let mut rows = Rows::new(alloc);
-    for line in BufReader::new(alloc, rt.reader())?.lines(alloc) {
-        rows.read(&rt, line?.as_str())?;
+/// Reads all rows.
+fn read_all(rt: &HostRuntime, rows: &mut Rows) -> Result<(), Error> {
+    for line in BufReader::new(rt.alloc(), rt.reader())?.lines(rt.alloc()) {
+        rows.read(rt, line?.as_str())?;
     }
-    rows.finish(&rt)
+    rows.finish(rt)
+}
+
+fn main(rt: HostRuntime) -> Result<(), Error> {
+    let mut rows = Rows::new(rt.alloc());
+    let read = read_all(&rt, &mut rows);
+    drop(rows);
+    read
 }

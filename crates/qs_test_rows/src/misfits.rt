@@ -6,27 +6,48 @@
 use crate::row::Row;
 use anyhow::{Context, Error, bail};
 use qs_book_check::{Fault, Misfit, first_misfit};
-use qs_text_script::{ScriptFailed, read_script};
-use qs_tools::{JournalFailed, read_journal};
+use qs_text_script::{Script, ScriptFailed, read_script};
+use qs_tools::{Journal, JournalFailed, read_journal};
 use std::alloc::Global;
 
 /// What the checker says of the texts of a script and a history.
 fn verdict(alloc: Global, script: &str, history: &str) -> Result<String, Error> {
-    let journal = match read_journal(alloc, history.as_bytes()) {
-        Ok(journal) => journal,
+    let journal = journal_of(alloc, history)?;
+    let said = said_of(alloc, script, &journal);
+    drop(journal);
+    said
+}
+
+fn journal_of(alloc: Global, history: &str) -> Result<Journal, Error> {
+    match read_journal(alloc, history.as_bytes()) {
+        Ok(journal) => Ok(journal),
         Err(JournalFailed::Fault { line }) => bail!("line {line} of a history does not read"),
         Err(JournalFailed::NoMemory) => bail!("no memory"),
-    };
+    }
+}
+
+/// What the checker says of a history by the text of a script.
+fn said_of(alloc: Global, script: &str, journal: &Journal) -> Result<String, Error> {
     let nodes = u8::try_from(journal.opened.len()).context("there are too many nodes")?;
-    let script = match read_script(alloc, script.as_bytes(), nodes) {
-        Ok(script) => script,
+    let script = script_of(alloc, script, nodes)?;
+    let said = compared(alloc, &script, journal);
+    drop(script);
+    said
+}
+
+fn script_of(alloc: Global, script: &str, nodes: u8) -> Result<Script, Error> {
+    match read_script(alloc, script.as_bytes(), nodes) {
+        Ok(script) => Ok(script),
         Err(ScriptFailed::Fault { line, fault }) => {
             bail!("line {line} of the script: {fault:?}")
         }
         Err(ScriptFailed::NoMemory) => bail!("no memory"),
-    };
+    }
+}
+
+fn compared(alloc: Global, script: &Script, journal: &Journal) -> Result<String, Error> {
     let opened = journal.opened.as_slice();
-    let Ok(misfit) = first_misfit(alloc, &script, opened, journal.entries.as_slice()) else {
+    let Ok(misfit) = first_misfit(alloc, script, opened, journal.entries.as_slice()) else {
         bail!("no memory");
     };
     Ok(match misfit {

@@ -8,7 +8,7 @@
 
 use crate::shared::{tell, words_of};
 use anyhow::{Context, Error, bail};
-use qs_base::{ClientNo, List, NodeNo};
+use qs_base::{Bytes, ClientNo, List, NodeNo};
 use qs_book::{Book, BookFault};
 use qs_text::out_text;
 use qs_text_script::{Script, ScriptFailed, Seat, Status, Waiting, read_script, read_words};
@@ -32,11 +32,11 @@ fn words<R: AllocGlobal + Print>(rt: &R, line: &str) -> Result<(), Error> {
 /// Prints the status of a run that stopped while the client of these words waited at that line.
 fn waits<R: AllocGlobal + Print>(rt: &R, words: &str) -> Result<(), Error> {
     let (client, line) = words.split_once(' ').context("a client and a line")?;
-    let mut waiting = List::new(rt.alloc());
     let one = Waiting {
         client: ClientNo(client.parse::<u8>().context("no client")?),
         line: line.parse::<u32>().context("no line")?,
     };
+    let mut waiting = List::new(rt.alloc());
     if waiting.push(one).is_err() {
         bail!("no memory");
     }
@@ -60,7 +60,10 @@ fn show_script<R: Print>(rt: &R, script: &Script) -> Result<(), Error> {
 fn script<R: AllocGlobal + Print>(rt: &R, text: &str, nodes: u8) -> Result<Option<Script>, Error> {
     match read_script(rt.alloc(), text.as_bytes(), nodes) {
         Ok(script) => {
-            show_script(rt, &script)?;
+            if let Err(fault) = show_script(rt, &script) {
+                drop(script);
+                return Err(fault);
+            }
             Ok(Some(script))
         }
         Err(ScriptFailed::Fault { line, fault }) => {
@@ -101,13 +104,32 @@ fn book_of(alloc: Global, journal: &Journal) -> Result<Book, Error> {
     let Ok(mut book) = Book::opening(alloc, journal.opened.as_slice()) else {
         bail!("no memory");
     };
+    if let Err(fault) = apply_all(&mut book, journal) {
+        drop(book);
+        return Err(fault);
+    }
+    Ok(book)
+}
+
+fn apply_all(book: &mut Book, journal: &Journal) -> Result<(), Error> {
     for entry in journal.entries.as_slice() {
         match book.apply(entry) {
             Ok(()) | Err(BookFault::Unlawful { .. }) => {}
             Err(BookFault::NoMemory) => bail!("no memory"),
         }
     }
-    Ok(book)
+    Ok(())
+}
+
+/// The output of a run that had the history.
+fn output_of(alloc: Global, script: &Script, journal: &Journal) -> Result<Bytes, Error> {
+    let book = book_of(alloc, journal)?;
+    let out = out_text(alloc, script, &journal.entries, &book, true);
+    drop(book);
+    match out {
+        Ok(out) => Ok(out),
+        Err(_) => bail!("no memory"),
+    }
 }
 
 /// Prints a history that was read, and behind it the output of a run that had it.
@@ -123,10 +145,7 @@ fn show_history<R: AllocGlobal + Print>(
     for entry in journal.entries.as_slice() {
         println!(rt; "  {entry:?}")?;
     }
-    let book = book_of(rt.alloc(), journal)?;
-    let Ok(out) = out_text(rt.alloc(), script, &journal.entries, &book, true) else {
-        bail!("no memory");
-    };
+    let out = output_of(rt.alloc(), script, journal)?;
     let out = str::from_utf8(out.as_slice()).context("no text")?;
     print!(rt; "{out}")?;
     Ok(())
@@ -135,7 +154,11 @@ fn show_history<R: AllocGlobal + Print>(
 /// Reads a history, and prints it or the line of its fault.
 fn history<R: AllocGlobal + Print>(rt: &R, text: &str, script: &Script) -> Result<(), Error> {
     match read_journal(rt.alloc(), text.as_bytes()) {
-        Ok(journal) => show_history(rt, script, &journal),
+        Ok(journal) => {
+            let shown = show_history(rt, script, &journal);
+            drop(journal);
+            shown
+        }
         Err(JournalFailed::Fault { line }) => {
             println!(rt; "  no history at line {line}")?;
             Ok(())

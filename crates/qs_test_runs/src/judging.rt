@@ -3,7 +3,7 @@
 use crate::memory::made;
 use crate::row::Row;
 use anyhow::{Context, Error, bail};
-use qs_base::NoMemory;
+use qs_base::{Bytes, NoMemory};
 use qs_disk::{MemDisk, is_size};
 use qs_io::{MemSink, MemSource};
 use qs_text::status_line;
@@ -128,33 +128,57 @@ where
     R: AllocGlobal + Print + Threads + Sync,
 {
     let alloc = rt.alloc();
+    let turn = format!(in alloc; "{place}seed {seed}")?;
     let words = made(with_seed(alloc, row, seed))?;
     let mut given = disks.take(alloc, row, seed)?;
-    if given.len() < DISK_COUNT {
-        bail!("a disk is missing");
-    }
-    let mut source = made(MemSource::new(alloc, script.as_bytes(), row.source_fails.as_slice()))?;
+    let judged = judge_over(rt, row, words.as_slice(), script, turn.as_str(), &mut given);
+    disks.keep(given, seed)?;
+    judged
+}
+
+/// Runs a script over these disks, and compares what it came to.
+fn judge_over<R>(
+    rt: &R,
+    row: &Row,
+    words: &[String],
+    script: &str,
+    turn: &str,
+    disks: &mut Vec<MemDisk>,
+) -> Result<(), Error>
+where
+    R: AllocGlobal + Print + Threads + Sync,
+{
+    let alloc = rt.alloc();
     if row.sink_piece == 0 {
         bail!("a sink takes no bytes");
     }
+    let mut source = made(MemSource::new(alloc, script.as_bytes(), row.source_fails.as_slice()))?;
     let mut sink = made(MemSink::new(
         alloc,
         SINK_BYTES,
         row.sink_piece,
         row.sink_fails.as_slice(),
     ))?;
-    let ran = run(
-        rt,
-        alloc,
-        words.as_slice(),
-        &mut source,
-        &mut sink,
-        &mut given,
-    );
-    let line = made(status_line(alloc, &ran.status))?;
-    let turn = format!(in alloc; "{place}seed {seed}")?;
-    compare(rt, row, turn.as_str(), line.as_slice(), sink.given())?;
-    disks.keep(given, seed)
+    let line = ran(rt, words, &mut source, &mut sink, disks)?;
+    compare(rt, row, turn, line.as_slice(), sink.given())
+}
+
+/// Runs a script, and gives the line of its status.
+fn ran<R>(
+    rt: &R,
+    words: &[String],
+    source: &mut MemSource,
+    sink: &mut MemSink,
+    disks: &mut Vec<MemDisk>,
+) -> Result<Bytes, Error>
+where
+    R: AllocGlobal + Print + Threads + Sync,
+{
+    if disks.len() < DISK_COUNT {
+        bail!("a disk is missing");
+    }
+    let ran = run(rt, rt.alloc(), words, source, sink, disks);
+    made(status_line(rt.alloc(), &ran.status))
 }
 
 /// Prints what a run came to where that is none of the row's ends.

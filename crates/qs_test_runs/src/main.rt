@@ -42,26 +42,56 @@ where
     judge(rt, row, disks)
 }
 
-fn main(rt: HostRuntime) -> Result<(), Error> {
-    let alloc = rt.alloc();
-    let mut disks = Disks::new(alloc)?;
-    let mut row: Option<Row> = None;
-    for line in BufReader::new(alloc, rt.reader())?.lines(alloc) {
-        let line = line?;
+/// The row that is being read, if one is, and the disks.
+#[derive(Drop)]
+struct Rows {
+    row: Option<Row>,
+    disks: Disks,
+}
+
+impl Rows {
+    /// Reads a line, and judges the row that ends before it.
+    fn read<R>(&mut self, rt: &R, line: &str) -> Result<(), Error>
+    where
+        R: AllocGlobal + Print + Threads + Sync,
+    {
         if let Some(name) = line.strip_prefix("# ") {
-            if let Some(done) = row {
-                tell(&rt, &done, &mut disks)?;
-            }
-            row = Some(Row::new(alloc, name)?);
-            continue;
+            self.finish(rt)?;
+            self.row = Some(Row::new(rt.alloc(), name)?);
+            return Ok(());
         }
-        match row.as_mut() {
-            Some(row) => row.add(alloc, line.as_str())?,
+        match self.row.as_mut() {
+            Some(row) => row.add(rt.alloc(), line),
             None => bail!("a line stands in no row"),
         }
     }
-    if let Some(last) = row {
-        tell(&rt, &last, &mut disks)?;
+
+    /// Judges the row that ends here, if one does.
+    fn finish<R>(&mut self, rt: &R) -> Result<(), Error>
+    where
+        R: AllocGlobal + Print + Threads + Sync,
+    {
+        match self.row.as_ref() {
+            Some(row) => tell(rt, row, &mut self.disks),
+            None => Ok(()),
+        }
     }
-    Ok(())
+}
+
+/// Reads all rows.
+fn read_all(rt: &HostRuntime, rows: &mut Rows) -> Result<(), Error> {
+    for line in BufReader::new(rt.alloc(), rt.reader())?.lines(rt.alloc()) {
+        rows.read(rt, line?.as_str())?;
+    }
+    rows.finish(rt)
+}
+
+fn main(rt: HostRuntime) -> Result<(), Error> {
+    let mut rows = Rows {
+        row: None,
+        disks: Disks::new(rt.alloc())?,
+    };
+    let read = read_all(&rt, &mut rows);
+    drop(rows);
+    read
 }

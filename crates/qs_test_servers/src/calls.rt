@@ -27,10 +27,14 @@ pub(crate) fn open_servers(
 ) -> Result<Called, NoMemory> {
     let mut servers = Servers::new(alloc, Files::new(alloc, quota), NoServer::new(alloc));
     let none = List::new(alloc);
-    match server {
-        FILES => servers.take_in(contents, &none)?,
-        AUDIT => servers.take_in(&none, contents)?,
-        _ => {}
+    let taken = match server {
+        FILES => servers.take_in(contents, &none),
+        AUDIT => servers.take_in(&none, contents),
+        _ => Ok(()),
+    };
+    if let Err(NoMemory) = taken {
+        drop(servers);
+        return Err(NoMemory);
     }
     Ok(servers)
 }

@@ -5,8 +5,9 @@ use crate::drawn::{Drawn, NAME_COUNT, look_of, name_at};
 use crate::machine::Machine;
 use crate::seen::Seen;
 use qs_base::{Bytes, NoMemory, NodeNo, ServerNo, Tid};
-use qs_ops::{Notice, Op};
+use qs_ops::{Changes, Notice, Op};
 use std::alloc::Global;
+use std::mem;
 
 /// How many operations of a transaction are served, and by how many less a sequence may begin.
 const MOST_OPERATIONS: u32 = 1_024;
@@ -30,29 +31,21 @@ pub(crate) struct Drill {
 }
 
 impl Drill {
-    /// Servers with nothing. In one sequence of 64 a transaction has nearly all operations that are served.
-    pub(crate) fn new(
-        alloc: Global,
-        server: ServerNo,
-        drawn: &mut Drawn,
-    ) -> Result<Drill, NoMemory> {
+    /// Servers with nothing.
+    pub(crate) fn new(alloc: Global, server: ServerNo, drawn: &Drawn) -> Drill {
         let quota = if drawn.is_long {
             LONG_QUOTA
         } else {
             SHORT_QUOTA
         };
-        let mut drill = Drill {
+        Drill {
             server,
             quota,
             servers: new_servers(alloc, quota),
             machine: Machine::new(alloc, server, quota),
             calls: 0,
             alloc,
-        };
-        if drawn.one_of(64) {
-            drill.tire(drawn)?;
         }
-        Ok(drill)
     }
 
     /// A transaction has nearly all its operations served, most of which are reads.
@@ -64,9 +57,14 @@ impl Drill {
             } else {
                 drawn.read(self.alloc, self.server)?
             };
-            if let Some(reply) = reply_of(&mut self.servers, self.server, tid, &op)? {
-                self.machine.serve(tid, &op, &reply)?;
-            }
+            self.serve_both(tid, &op)?;
+        }
+        Ok(())
+    }
+
+    fn serve_both(&mut self, tid: Tid, op: &Op) -> Result<(), NoMemory> {
+        if let Some(reply) = reply_of(&mut self.servers, self.server, tid, op)? {
+            self.machine.serve(tid, op, &reply)?;
         }
         Ok(())
     }
@@ -76,8 +74,12 @@ impl Drill {
         self.calls
     }
 
-    /// Makes the calls, and at the end those that tell what is committed. Whether all were alike.
+    /// Makes the calls, and at the end those that tell what is committed. Whether all were alike. In one sequence of 64 a
+    /// transaction has nearly all operations that are served.
     pub(crate) fn run(&mut self, drawn: &mut Drawn, seen: &mut Seen) -> Result<bool, NoMemory> {
+        if drawn.one_of(64) {
+            self.tire(drawn)?;
+        }
         for _call in 0..40 + drawn.word() % 64 {
             self.calls = self.calls.saturating_add(1);
             if !self.call(drawn, seen)? {
@@ -161,11 +163,16 @@ impl Drill {
     fn restart(&mut self, tid: Tid) -> Result<bool, NoMemory> {
         let contents = self.servers.contents(self.server)?;
         let alike = self.machine.has_contents(&contents)?;
-        let changes = self.servers.changes(self.server, tid)?;
-        self.servers = open_servers(self.alloc, self.quota, self.server, &contents)?;
-        self.servers.keep(self.server, tid, &changes)?;
-        self.machine.restart(tid, changes)?;
+        self.reopen(tid, &contents)?;
         Ok(alike)
+    }
+
+    fn reopen(&mut self, tid: Tid, contents: &Changes) -> Result<(), NoMemory> {
+        let changes = self.servers.changes(self.server, tid)?;
+        let opened = open_servers(self.alloc, self.quota, self.server, contents)?;
+        drop(mem::replace(&mut self.servers, opened));
+        self.servers.keep(self.server, tid, &changes)?;
+        self.machine.restart(tid, changes)
     }
 
     fn has_same_changes(&self, tid: Tid) -> Result<bool, NoMemory> {
@@ -186,13 +193,17 @@ impl Drill {
             seq: 1,
         };
         for at in 0..NAME_COUNT {
-            let name = Bytes::from_slice(self.alloc, name_at(at).as_bytes())?;
-            let op = look_of(self.server, name, at == 0);
-            let mut seen = Seen::new();
-            if !self.serve(tid, &op, &mut seen)? {
+            if !self.looks_same(tid, at)? {
                 return Ok(false);
             }
         }
         self.has_same_contents()
+    }
+
+    fn looks_same(&mut self, tid: Tid, at: u32) -> Result<bool, NoMemory> {
+        let name = Bytes::from_slice(self.alloc, name_at(at).as_bytes())?;
+        let op = look_of(self.server, name, at == 0);
+        let mut seen = Seen::new();
+        self.serve(tid, &op, &mut seen)
     }
 }

@@ -3,7 +3,7 @@
 use crate::calls::{Called, is_voting, new_servers, reply_of};
 use crate::drawn::{change_of, read_of};
 use qs_base::{Bytes, Copied, NoMemory, NodeNo, ServerNo, Tid};
-use qs_ops::{Notice, Reply};
+use qs_ops::{Notice, Op, Reply};
 use std::alloc::Global;
 
 /// How many changes a transaction has where they are counted.
@@ -81,16 +81,26 @@ impl Growing {
     /// A change of the transaction under a name of that number, and a look at it where one tells no list.
     fn change(&mut self, transaction: u32, number: u32) -> Result<(), NoMemory> {
         let tid = numbered(transaction);
-        let text = format!(in self.alloc; "name{number}")?;
-        let name = Bytes::from_slice(self.alloc, text.as_bytes())?;
-        let change = change_of(self.server, name.copy()?, name.copy()?);
-        if let Some(Reply::Done) = reply_of(&mut self.servers, self.server, tid, &change)? {
+        let name = self.name_of(number)?;
+        let text = name.copy()?;
+        if self.is_done(tid, change_of(self.server, name, text))? {
             self.done = self.done.saturating_add(1);
         }
-        if let Some(read) = read_of(self.server, name) {
-            reply_of(&mut self.servers, self.server, tid, &read)?;
+        if let Some(read) = read_of(self.server, self.name_of(number)?) {
+            self.is_done(tid, read)?;
         }
         Ok(())
+    }
+
+    fn name_of(&self, number: u32) -> Result<Bytes, NoMemory> {
+        let text = format!(in self.alloc; "name{number}")?;
+        Bytes::from_slice(self.alloc, text.as_bytes())
+    }
+
+    /// Serves an operation. Whether the reply is that it is done.
+    fn is_done(&mut self, tid: Tid, op: Op) -> Result<bool, NoMemory> {
+        let reply = reply_of(&mut self.servers, self.server, tid, &op)?;
+        Ok(matches!(reply, Some(Reply::Done)))
     }
 
     /// The transaction votes, where the server does, and ends with commit.

@@ -101,14 +101,18 @@ impl Machine {
     /// The bytes of all files that the transaction sees.
     fn view_bytes(&self, tid: Tid) -> Result<u64, NoMemory> {
         let mut seen = Table::new(self.alloc);
+        let shown = self.show(tid, &mut seen);
+        let bytes = bytes_of(seen.contents().as_slice());
+        drop(seen);
+        shown?;
+        Ok(bytes)
+    }
+
+    /// The files that the transaction sees.
+    fn show(&self, tid: Tid, seen: &mut Table) -> Result<(), NoMemory> {
         let none = List::new(self.alloc);
         seen.restart(&puts(self.alloc, self.table.contents())?, &none)?;
-        seen.restart(&self.table.changes(tid)?, &none)?;
-        let mut bytes: u64 = 0;
-        for file in seen.contents().as_slice() {
-            bytes = bytes.saturating_add(file.content.len() as u64);
-        }
-        Ok(bytes)
+        seen.restart(&self.table.changes(tid)?, &none)
     }
 
     /// Takes in that the server voted.
@@ -172,19 +176,36 @@ impl Machine {
             return Ok(changes.is_empty());
         }
         let mut written = Table::new(self.alloc);
-        written.restart(changes, &List::new(self.alloc))?;
+        let taken = written.restart(changes, &List::new(self.alloc));
+        let alike = self.has_same(&written);
+        drop(written);
+        taken?;
+        Ok(alike)
+    }
+
+    /// Whether the same is committed in another table.
+    fn has_same(&self, other: &Table) -> bool {
         if self.server == AUDIT {
-            return Ok(*written.notes() == *self.table.notes());
+            return *other.notes() == *self.table.notes();
         }
-        Ok(are_same(
-            written.contents().as_slice(),
+        are_same(
+            other.contents().as_slice(),
             self.table.contents().as_slice(),
-        ))
+        )
     }
 
     pub(crate) fn is_logged(&self) -> bool {
         self.server == FILES || self.server == AUDIT
     }
+}
+
+/// The bytes of all files.
+fn bytes_of(files: &[File]) -> u64 {
+    let mut bytes: u64 = 0;
+    for file in files {
+        bytes = bytes.saturating_add(file.content.len() as u64);
+    }
+    bytes
 }
 
 /// Whether these files have the same names and contents, in the same order.

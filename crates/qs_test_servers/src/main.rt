@@ -9,7 +9,7 @@
 #![tactic(auto)]
 
 use anyhow::{Context, Error, bail};
-use qs_base::ServerNo;
+use qs_base::{NoMemory, ServerNo};
 use qs_ops::servers::{AUDIT, FILES, NAMES, SCRATCH, TIMERS, WINDOWS};
 use rand_pcg::Lcg64Xsh32;
 use std::alloc::Global;
@@ -47,19 +47,30 @@ fn make_all(
     seen: &mut Seen,
 ) -> Result<(), Error> {
     for number in 0..plan.sequences {
-        let mut drawn = Drawn::new(Lcg64Xsh32::new(plan.seed, number));
-        let Ok(mut drill) = Drill::new(alloc, server, &mut drawn) else {
+        let Ok(differing) = first_differing(alloc, server, plan.seed, number, seen) else {
             bail!("there is no memory");
         };
-        let Ok(alike) = drill.run(&mut drawn, seen) else {
-            bail!("there is no memory");
-        };
-        if !alike {
-            let call = drill.calls();
+        if let Some(call) = differing {
             bail!("{name} differ in sequence {number} at call {call}");
         }
     }
     Ok(())
+}
+
+/// Makes a sequence. The number of the call that the table answers otherwise, if any.
+fn first_differing(
+    alloc: Global,
+    server: ServerNo,
+    seed: u64,
+    number: u64,
+    seen: &mut Seen,
+) -> Result<Option<u32>, NoMemory> {
+    let mut drawn = Drawn::new(Lcg64Xsh32::new(seed, number));
+    let mut drill = Drill::new(alloc, server, &drawn);
+    let alike = drill.run(&mut drawn, seen);
+    let call = drill.calls();
+    drop(drill);
+    Ok(if alike? { None } else { Some(call) })
 }
 
 /// Makes the sequences of a server and tells that they were alike.
@@ -105,10 +116,13 @@ fn grow(alloc: Global, shape: &str, server: &str, count: u64) -> Result<u32, Err
     let server = server_named(server).context("a server is none")?;
     let count = u32::try_from(count).context("a count is too great")?;
     let mut growing = Growing::new(alloc, server);
-    let Ok(()) = growing.grow(shape, count) else {
+    let grown = growing.grow(shape, count);
+    let done = growing.done;
+    drop(growing);
+    let Ok(()) = grown else {
         bail!("there is no memory");
     };
-    Ok(growing.done)
+    Ok(done)
 }
 
 /// Makes the sequences of each server.

@@ -149,12 +149,15 @@ fn batches_are_sealed(rt: HostRuntime) -> Result<(), Fail> {
         let rec = record_of(rt.alloc(), bytes)?;
         assert!(rt; bytes.len() < 1000 && batch.bytes() < 1000);
         batch.add(&rec)?;
-        assert!(rt; (batch.len(), batch.bytes()) == size);
-        assert!(rt; !batch.is_empty());
-        let sealed = batch.seal();
-        assert!(rt; sealed.starts_with(part));
-        assert!(rt; sealed.last() == Some(&0));
-        assert!(rt; sealed.len() == part.len().wrapping_add(1));
+        assert!(rt; (batch.len(), batch.bytes()) == size && !batch.is_empty());
+        assert!(rt; is_sealed(batch.seal(), part));
     }
     Ok(())
+}
+
+// Whether a sealed batch is this, and a zero behind it.
+fn is_sealed(sealed: &[u8], part: &[u8]) -> bool {
+    sealed.starts_with(part)
+        && sealed.last() == Some(&0)
+        && sealed.len() == part.len().wrapping_add(1)
 }

@@ -13,20 +13,23 @@ const FIELDS: [u8; 27] = [
 fn fields_are_read_and_written(rt: HostRuntime) -> Result<(), Fail> {
     let mut reader = Reader::new(&FIELDS);
     assert!(rt; reader.left() == 27);
-    assert!(rt; reader.u8()? == 7);
-    assert!(rt; reader.u32()? == 258);
+    assert!(rt; reader.u8()? == 7 && reader.u32()? == 258);
     assert!(rt; reader.u64()? == 1_099_511_627_779);
     assert!(rt; reader.number()? == 2_305_843_009_213_693_952);
-    assert!(rt; reader.text(2)? == b"f!".as_slice());
-    assert!(rt; reader.left() == 0);
+    assert!(rt; reader.text(2)? == b"f!".as_slice() && reader.left() == 0);
 
     let mut out = List::new(rt.alloc());
-    put_u8(&mut out, 7)?;
-    put_u32(&mut out, 258)?;
-    put_u64(&mut out, 1_099_511_627_779)?;
-    put_u64(&mut out, 2_305_843_009_213_693_952)?;
-    put_text(&mut out, b"f!")?;
+    put_fields(&mut out)?;
     assert!(rt; out.as_slice() == FIELDS.as_slice());
+    Ok(())
+}
+
+fn put_fields(out: &mut List<u8>) -> Result<(), Fail> {
+    put_u8(out, 7)?;
+    put_u32(out, 258)?;
+    put_u64(out, 1_099_511_627_779)?;
+    put_u64(out, 2_305_843_009_213_693_952)?;
+    put_text(out, b"f!")?;
     Ok(())
 }
 

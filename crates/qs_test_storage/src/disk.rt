@@ -14,31 +14,47 @@ fn zeros(alloc: Global, seed: u64, fail: &[u64]) -> Result<MemDisk, NoMemory>
     MemDisk::new(alloc, 65_536, seed, fail)
 }
 
+fn ends_in_what_was_written(disk: &mut MemDisk) -> bool
+    requires size { length disk.old.disk.content ≡ 65536 }
+    requires still { IsStill disk.old.disk }
+    ensures { length disk.new.disk.content ≡ 65536 }
+{
+    let mut buf = [1; 4];
+    let is_written = write_through(disk, 65_533, b"end") == Ok(());
+    is_written && disk.read(65_532, &mut buf) == Ok(()) && buf.as_slice() == b"\0end".as_slice()
+}
+
 #[test]
 fn a_write_is_read_back(rt: HostRuntime) -> Result<(), Fail> {
     let mut disk = zeros(rt.alloc(), 1, &[])?;
-    assert!(rt; disk.size() == 65_536);
-    assert!(rt; write_through(&mut disk, 65_533, b"end") == Ok(()));
-    let mut buf = [1; 4];
-    assert!(rt; disk.read(65_532, &mut buf) == Ok(()));
-    assert!(rt; buf.as_slice() == b"\0end".as_slice());
-    assert!(rt; disk.power_cut() == Ok(()));
-    let again = MemDisk::from_bytes(rt.alloc(), disk.bytes(), 1, &[])?;
-    assert!(rt; again.bytes()[65_535] == b'd');
-    assert!(rt; again.faults() == 0);
+    let is_read = ends_in_what_was_written(&mut disk) && disk.power_cut() == Ok(());
+    let again = MemDisk::from_bytes(rt.alloc(), disk.bytes(), 1, &[]);
+    drop(disk);
+    let again = again?;
+    let is_left = again.bytes().ends_with(b"d") && again.faults() == 0;
+    drop(again);
+    assert!(rt; is_read && is_left);
     Ok(())
+}
+
+fn fails_as_planned(disk: &mut MemDisk) -> bool
+    requires { length disk.old.disk.content ≡ 65536 }
+{
+    let mut buf = [1; 1];
+    disk.write(7, b"x") == Ok(())
+        && disk.write(7, b"y") == Err(DiskFailed)
+        && disk.read(7, &mut buf) == Ok(())
+        && buf == *b"x"
+        && disk.power_cut() == Err(DiskFailed)
+        && disk.faults() == 2
 }
 
 #[test]
 fn the_planned_calls_fail(rt: HostRuntime) -> Result<(), Fail> {
     let mut disk = zeros(rt.alloc(), 1, &[2, 4])?;
-    let mut buf = [1; 1];
-    assert!(rt; disk.write(7, b"x") == Ok(()));
-    assert!(rt; disk.write(7, b"y") == Err(DiskFailed));
-    assert!(rt; disk.read(7, &mut buf) == Ok(()));
-    assert!(rt; buf.as_slice() == b"x".as_slice());
-    assert!(rt; disk.power_cut() == Err(DiskFailed));
-    assert!(rt; disk.faults() == 2);
+    let is_planned = fails_as_planned(&mut disk);
+    drop(disk);
+    assert!(rt; is_planned);
     Ok(())
 }
 
@@ -49,14 +65,9 @@ fn a_power_cut_leaves_old_bytes_and_new_ones(rt: HostRuntime) -> Result<(), Fail
     let mut saw_new = false;
     let mut saw_other = false;
     for seed in 0..64 {
-        let mut disk = zeros(rt.alloc(), seed, &[])?;
-        write_through(&mut disk, 99, b"abc")?;
-        disk.write(100, b"x")?;
-        disk.power_cut()?;
-        let bytes = disk.bytes();
-        assert!(rt; bytes[99] == b'a');
-        assert!(rt; bytes[101] == b'c');
-        match bytes[100] {
+        let [first, second, third] = left_by_a_cut(rt.alloc(), seed)?;
+        assert!(rt; first == b'a' && third == b'c');
+        match second {
             b'b' => saw_old = true,
             b'x' => saw_new = true,
             _ => saw_other = true,
@@ -66,39 +77,69 @@ fn a_power_cut_leaves_old_bytes_and_new_ones(rt: HostRuntime) -> Result<(), Fail
     Ok(())
 }
 
+fn left_by_a_cut(alloc: Global, seed: u64) -> Result<[u8; 3], Fail> {
+    let mut disk = zeros(alloc, seed, &[])?;
+    write_through(&mut disk, 99, b"abc")?;
+    disk.write(100, b"x")?;
+    disk.power_cut()?;
+    let bytes = disk.bytes();
+    Ok([bytes[99], bytes[100], bytes[101]])
+}
+
+// A disk whose second call fails, behind a fuse that trips at the first.
+fn trips(disk: &mut Fused<MemDisk>) -> bool
+    requires { length disk.old.disk.disk.content ≡ 65536 }
+{
+    let is_refused = disk.write(7, b"x") == Err(DiskFailed)
+        && disk.write(7, b"y") == Err(DiskFailed)
+        && disk.sync() == Err(DiskFailed);
+    let is_counted = disk.trips() == 3 && disk.own_faults() == 0;
+    is_refused && is_counted
+}
+
+// The cut is the disk's second call.
+fn is_cut(disk: &mut Fused<MemDisk>) -> bool {
+    disk.power_cut() == Err(DiskFailed)
+        && disk.own_faults() == 1
+        && disk.faults() == 4
+        && disk.sync() == Ok(())
+}
+
+fn plan_of(alloc: Global, call: u64) -> Result<List<u64>, Fail> {
+    let mut plan = List::new(alloc);
+    plan.push(call)?;
+    Ok(plan)
+}
+
 #[test]
 fn a_tripping_write_is_passed_on_and_a_sync_is_not(rt: HostRuntime) -> Result<(), Fail> {
-    let mut plan = List::new(rt.alloc());
-    plan.push(1)?;
+    let plan = plan_of(rt.alloc(), 1)?;
     let mut disk = Fused::new(zeros(rt.alloc(), 1, &[2])?);
     disk.arm(plan);
-    assert!(rt; disk.write(7, b"x") == Err(DiskFailed));
-    assert!(rt; disk.write(7, b"y") == Err(DiskFailed));
-    assert!(rt; disk.sync() == Err(DiskFailed));
-    assert!(rt; disk.trips() == 3);
-    assert!(rt; disk.own_faults() == 0);
-
-    // The disk's second call.
-    assert!(rt; disk.power_cut() == Err(DiskFailed));
-    assert!(rt; disk.own_faults() == 1);
-    assert!(rt; disk.faults() == 4);
-    assert!(rt; disk.sync() == Ok(()));
-    assert!(rt; disk.into_inner().bytes()[7] == b'x');
+    let is_right = trips(&mut disk) && is_cut(&mut disk);
+    let disk = disk.into_inner();
+    let has_written = disk.bytes().get(7) == Some(&b'x');
+    drop(disk);
+    assert!(rt; is_right && has_written);
     Ok(())
+}
+
+fn trips_second(disk: &mut Fused<MemDisk>, plan: List<u64>) -> bool
+    requires { length disk.old.disk.disk.content ≡ 65536 }
+{
+    let is_written = disk.write(7, b"x") == Ok(()) && disk.sync() == Ok(());
+    disk.arm(plan);
+    let has_tripped = disk.write(7, b"y") == Ok(()) && disk.sync() == Err(DiskFailed);
+    let is_over = disk.power_cut() == Ok(()) && disk.write(8, b"z") == Ok(());
+    is_written && has_tripped && is_over && disk.trips() == 1
 }
 
 #[test]
 fn nothing_trips_before_its_number(rt: HostRuntime) -> Result<(), Fail> {
-    let mut plan = List::new(rt.alloc());
-    plan.push(2)?;
+    let plan = plan_of(rt.alloc(), 2)?;
     let mut disk = Fused::new(zeros(rt.alloc(), 1, &[])?);
-    assert!(rt; disk.write(7, b"x") == Ok(()));
-    assert!(rt; disk.sync() == Ok(()));
-    disk.arm(plan);
-    assert!(rt; disk.write(7, b"y") == Ok(()));
-    assert!(rt; disk.sync() == Err(DiskFailed));
-    assert!(rt; disk.power_cut() == Ok(()));
-    assert!(rt; disk.write(8, b"z") == Ok(()));
-    assert!(rt; disk.trips() == 1);
+    let is_right = trips_second(&mut disk, plan);
+    drop(disk);
+    assert!(rt; is_right);
     Ok(())
 }

@@ -27,35 +27,50 @@ where
     disk.read(at, &mut buf).is_ok() && buf == bytes
 }
 
+fn keeps<R: Files>(disk: &mut FileDisk<R>) -> bool
+where
+    R::File: LockFile,
+{
+    has(disk, 0, [0; 3])
+        && disk.write(4096, b"abc").is_ok()
+        && disk.sync().is_ok()
+        && has(disk, 4096, *b"abc")
+        && has(disk, 4098, *b"c\0\0")
+        && has(disk, 4095, *b"\0ab")
+        && has(disk, 16_777_213, [0; 3])
+}
+
 #[test]
 fn what_was_written_is_read_again(rt: HostRuntime) -> Result<(), Fail> {
     let path = new_path(&rt, "written")?;
     let mut disk = FileDisk::new(rt, rt.alloc(), path.as_str())?;
     assert!(rt; !fs::exists(&rt, path.as_str())?);
-    assert!(rt; has(&mut disk, 0, [0; 3]));
-    assert!(rt; disk.write(4096, b"abc").is_ok());
-    assert!(rt; disk.sync().is_ok());
-    assert!(rt; has(&mut disk, 4096, *b"abc"));
-    assert!(rt; has(&mut disk, 4098, *b"c\0\0"));
-    assert!(rt; has(&mut disk, 4095, *b"\0ab"));
-    assert!(rt; has(&mut disk, 16_777_213, [0; 3]));
+    assert!(rt; keeps(&mut disk));
     fs::remove_file(&rt, path.as_str())?;
     Ok(())
+}
+
+// Whether another disk over the same file is refused, also through a power cut.
+fn refuses_another<R: Files>(disk: &mut FileDisk<R>, another: &mut FileDisk<R>) -> bool
+where
+    R::File: LockFile,
+{
+    disk.write(0, b"abc").is_ok()
+        && another.write(0, b"xyz").is_err()
+        && disk.power_cut().is_ok()
+        && another.write(0, b"xyz").is_err()
+        && matches!(another.trouble(), Some(Trouble::InUse))
+        && has(disk, 0, *b"abc")
 }
 
 #[test]
 fn a_file_is_one_disks_also_through_a_power_cut(rt: HostRuntime) -> Result<(), Fail> {
     let path = new_path(&rt, "cut")?;
-    let mut disk = FileDisk::new(rt, rt.alloc(), path.as_str())?;
-    assert!(rt; disk.write(0, b"abc").is_ok());
     let mut another = FileDisk::new(rt, rt.alloc(), path.as_str())?;
-    assert!(rt; another.write(0, b"xyz").is_err());
-    assert!(rt; disk.power_cut().is_ok());
-    assert!(rt; another.write(0, b"xyz").is_err());
-    assert!(rt; matches!(another.trouble(), Some(Trouble::InUse)));
-    assert!(rt; has(&mut disk, 0, *b"abc"));
+    let mut disk = FileDisk::new(rt, rt.alloc(), path.as_str())?;
+    let is_refused = refuses_another(&mut disk, &mut another);
     drop(disk);
-    assert!(rt; has(&mut another, 0, *b"abc"));
+    assert!(rt; is_refused && has(&mut another, 0, *b"abc"));
     fs::remove_file(&rt, path.as_str())?;
     Ok(())
 }
@@ -63,20 +78,27 @@ fn a_file_is_one_disks_also_through_a_power_cut(rt: HostRuntime) -> Result<(), F
 // Disks may be handed to threads.
 fn goes_to_a_thread<T: Send>(_value: &T) {}
 
+// Whether four calls are refused, and counted.
+fn counts_refusals<R: Files>(disk: &mut FileDisk<R>) -> bool
+where
+    R::File: LockFile,
+{
+    disk.write(0, b"abc").is_err()
+        && disk.sync().is_err()
+        && disk.power_cut().is_err()
+        && !has(disk, 0, [0; 3])
+        && disk.faults() == 4
+}
+
 #[test]
 fn what_the_system_refuses_is_counted(rt: HostRuntime) -> Result<(), Fail> {
     let folder = new_path(&rt, "refused")?;
     let path = format!(in rt.alloc(); "{folder}/disk")?;
     let mut disk = FileDisk::new(rt, rt.alloc(), path.as_str())?;
     goes_to_a_thread(&disk);
-    assert!(rt; disk.write(0, b"abc").is_err());
-    assert!(rt; disk.sync().is_err());
-    assert!(rt; disk.power_cut().is_err());
-    assert!(rt; !has(&mut disk, 0, [0; 3]));
-    assert!(rt; disk.faults() == 4);
+    assert!(rt; counts_refusals(&mut disk));
     fs::create_dir(&rt, folder.as_str())?;
-    assert!(rt; disk.write(0, b"abc").is_ok());
-    assert!(rt; disk.faults() == 4);
+    assert!(rt; disk.write(0, b"abc").is_ok() && disk.faults() == 4);
     fs::remove_dir_all(&rt, folder.as_str())?;
     Ok(())
 }

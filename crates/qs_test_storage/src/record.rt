@@ -1,34 +1,40 @@
 //! Records, operations and lists of nodes whose bytes were worked out by hand, both ways, and each
 //! fault at its place.
+ghost use Rattle.std.specs.Prelude.{IfOk};
+ghost use Rattle.qs_record.specs.Grammar.{AreNodes};
+
 use crate::samples::{COMMIT, PREPARE, TID, commit, prepare};
 use qs_base::{Bytes, ClientNo, List, Member, NodeNo, ServerNo};
 use qs_codec::{CodecFault, Reader};
 use qs_ops::Op;
 use qs_record::{
-    RecordFault, decode, decode_op, encode, encode_op, length, put_member, put_nodes, put_tid,
-    read_member, read_nodes, read_tid,
+    Record, RecordFault, decode, decode_op, encode, encode_op, length, put_member, put_nodes,
+    put_tid, read_member, read_nodes, read_tid,
 };
 use std::alloc::Global;
 use std::test::Fail;
 
 #[test]
-#[tactic(auto, using(qs_record::proofs::Fronts::record_valid))]
 fn records_go_both_ways(rt: HostRuntime) -> Result<(), Fail> {
     let alloc = rt.alloc();
-    for (bytes, wanted) in [
-        (PREPARE.as_slice(), &prepare(alloc, TID, 1, b"hello")?),
-        (COMMIT.as_slice(), &commit(alloc, TID, &[])?),
-    ] {
-        let mut reader = Reader::new(bytes);
-        let rec = decode(alloc, &mut reader)?;
-        assert!(rt; rec == *wanted);
-        assert!(rt; reader.left() == 0);
-        let mut out = List::new(alloc);
-        encode(&rec, &mut out)?;
-        assert!(rt; out.as_slice() == bytes);
-        assert!(rt; length(&rec) == bytes.len() as u64);
-    }
+    assert!(rt; is_spelled_so(alloc, &prepare(alloc, TID, 1, b"hello")?, &PREPARE)?);
+    assert!(rt; is_spelled_so(alloc, &commit(alloc, TID, &[])?, &COMMIT)?);
     Ok(())
+}
+
+// Whether these are the record's bytes, both ways.
+#[tactic(auto, using(qs_record::proofs::Fronts::record_valid))]
+fn is_spelled_so(alloc: Global, rec: &Record, bytes: &[u8]) -> Result<bool, Fail> {
+    let mut reader = Reader::new(bytes);
+    let read = decode(alloc, &mut reader)?;
+    let mut out = List::new(alloc);
+    encode(&read, &mut out)?;
+    Ok(
+        read == *rec
+            && reader.left() == 0
+            && out.as_slice() == bytes
+            && length(&read) == bytes.len() as u64,
+    )
 }
 
 /// The operation with this tag, of name `a`, text `bc`, 258 ticks, client 3 and code 7.
@@ -58,60 +64,83 @@ fn op_of(alloc: Global, tag: u8) -> Result<Op, Fail> {
     })
 }
 
+/// Tags, and the bytes of their operations.
+const OPERATIONS: [(u8, &[u8]); 17] = [
+    (1, b"\x01\0\0\0\x01a\0\0\0\x02bc"),
+    (2, b"\x02\0\0\0\x01a\0\0\0\x02bc"),
+    (3, b"\x03\0\0\0\x01a"),
+    (4, b"\x04\0\0\0\x01a"),
+    (5, b"\x05"),
+    (6, b"\x06\0\0\0\x02bc"),
+    (7, b"\x07"),
+    (8, b"\x08\0\0\0\x01a\0\0\0\x02bc"),
+    (9, b"\x09\0\0\0\x01a"),
+    (10, b"\x0a\0\0\0\x01a\0\0\x01\x02"),
+    (11, b"\x0b\0\0\0\x01a"),
+    (12, b"\x0c\0\0\0\x01a\0\0\0\x02bc"),
+    (13, b"\x0d\0\0\0\x01a"),
+    (14, b"\x0e\0\0\0\x01a\0\0\0\x02bc"),
+    (15, b"\x0f\0\0\0\x01a"),
+    (16, b"\x10\x03"),
+    (17, b"\x11\0\0\0\x07\0\0\0\x02bc"),
+];
+
 #[test]
 fn operations_go_both_ways(rt: HostRuntime) -> Result<(), Fail> {
-    let alloc = rt.alloc();
-    for (tag, bytes) in [
-        (1, b"\x01\0\0\0\x01a\0\0\0\x02bc".as_slice()),
-        (2, b"\x02\0\0\0\x01a\0\0\0\x02bc".as_slice()),
-        (3, b"\x03\0\0\0\x01a".as_slice()),
-        (4, b"\x04\0\0\0\x01a".as_slice()),
-        (5, b"\x05".as_slice()),
-        (6, b"\x06\0\0\0\x02bc".as_slice()),
-        (7, b"\x07".as_slice()),
-        (8, b"\x08\0\0\0\x01a\0\0\0\x02bc".as_slice()),
-        (9, b"\x09\0\0\0\x01a".as_slice()),
-        (10, b"\x0a\0\0\0\x01a\0\0\x01\x02".as_slice()),
-        (11, b"\x0b\0\0\0\x01a".as_slice()),
-        (12, b"\x0c\0\0\0\x01a\0\0\0\x02bc".as_slice()),
-        (13, b"\x0d\0\0\0\x01a".as_slice()),
-        (14, b"\x0e\0\0\0\x01a\0\0\0\x02bc".as_slice()),
-        (15, b"\x0f\0\0\0\x01a".as_slice()),
-        (16, b"\x10\x03".as_slice()),
-        (17, b"\x11\0\0\0\x07\0\0\0\x02bc".as_slice()),
-    ] {
-        let mut reader = Reader::new(bytes);
-        let op = decode_op(alloc, &mut reader)?;
-        assert!(rt; op == op_of(alloc, tag)?);
-        assert!(rt; reader.left() == 0);
-        let mut out = List::new(alloc);
-        encode_op(&op, &mut out)?;
-        assert!(rt; out.as_slice() == bytes);
+    for (tag, bytes) in OPERATIONS.iter() {
+        assert!(rt; is_spelled(rt.alloc(), &op_of(rt.alloc(), *tag)?, bytes)?);
     }
     Ok(())
 }
 
-#[test]
-fn small_values_go_both_ways(rt: HostRuntime) -> Result<(), Fail> {
-    let alloc = rt.alloc();
-    let member = Member {
-        node: NodeNo(15),
-        server: ServerNo(95),
-    };
+// Whether these are the operation's bytes, both ways.
+fn is_spelled(alloc: Global, op: &Op, bytes: &[u8]) -> Result<bool, Fail> {
+    let mut reader = Reader::new(bytes);
+    let read = decode_op(alloc, &mut reader)?;
+    let mut out = List::new(alloc);
+    encode_op(&read, &mut out)?;
+    Ok(read == *op && reader.left() == 0 && out.as_slice() == bytes)
+}
+
+/// `TID`, server 95 of node 15, and nodes 3 and 15.
+const SMALL: [u8; 18] = [0, 0, 0, 0, 0, 0, 0, 0, 1, 0, 0, 0, 1, 15, 95, 2, 3, 15];
+
+const MEMBER: Member = Member {
+    node: NodeNo(15),
+    server: ServerNo(95),
+};
+
+fn small_nodes(alloc: Global) -> Result<List<NodeNo>, Fail>
+    ensures { IfOk result AreNodes }
+{
     let mut nodes = List::new(alloc);
     nodes.push(NodeNo(3))?;
     nodes.push(NodeNo(15))?;
-    let mut out = List::new(alloc);
-    put_tid(&mut out, TID)?;
-    put_member(&mut out, member)?;
-    put_nodes(&mut out, &nodes)?;
-    let expected = [0, 0, 0, 0, 0, 0, 0, 0, 1, 0, 0, 0, 1, 15, 95, 2, 3, 15];
-    assert!(rt; out.as_slice() == expected.as_slice());
-    let mut reader = Reader::new(&expected);
-    assert!(rt; read_tid(&mut reader)? == TID);
-    assert!(rt; read_member(&mut reader)? == member);
-    assert!(rt; read_nodes(alloc, &mut reader)? == nodes);
-    assert!(rt; reader.left() == 0);
+    Ok(nodes)
+}
+
+fn put_small(out: &mut List<u8>, nodes: &List<NodeNo>) -> Result<(), Fail>
+    requires { AreNodes nodes.now }
+{
+    put_tid(out, TID)?;
+    put_member(out, MEMBER)?;
+    put_nodes(out, nodes)?;
+    Ok(())
+}
+
+fn is_small(alloc: Global, nodes: &List<NodeNo>) -> Result<bool, Fail> {
+    let mut reader = Reader::new(&SMALL);
+    let is_head = read_tid(&mut reader)? == TID && read_member(&mut reader)? == MEMBER;
+    Ok(is_head && read_nodes(alloc, &mut reader)? == *nodes && reader.left() == 0)
+}
+
+#[test]
+fn small_values_go_both_ways(rt: HostRuntime) -> Result<(), Fail> {
+    let nodes = small_nodes(rt.alloc())?;
+    assert!(rt; is_small(rt.alloc(), &nodes)?);
+    let mut out = List::new(rt.alloc());
+    put_small(&mut out, &nodes)?;
+    assert!(rt; out.as_slice() == SMALL.as_slice());
     Ok(())
 }
 

@@ -1,35 +1,64 @@
 //! A log whose recovery was worked out by hand from the rules of records.
 use crate::samples::{FILES, commit, prepare, put, tid};
-use qs_base::{List, NodeNo};
+use qs_base::{List, NodeNo, Tid};
 use qs_record::Record;
-use qs_restart::{OpenVote, recover};
+use qs_restart::{OpenVote, Recovered, recover};
 use std::alloc::Global;
 use std::test::Fail;
+
+// What a record says of a transaction.
+#[derive(Clone, Copy)]
+enum Says {
+    Votes { covers: u32, text: &'static [u8] },
+    Commits { told: &'static [NodeNo] },
+    Aborts,
+}
+
+fn record_of(alloc: Global, tid: Tid, says: Says) -> Result<Record, Fail> {
+    match says {
+        Says::Votes { covers, text } => prepare(alloc, tid, covers, text),
+        Says::Commits { told } => commit(alloc, tid, told),
+        Says::Aborts => Ok(Record::Aborted { tid }),
+    }
+}
+
+const fn votes(covers: u32, text: &'static [u8]) -> Says {
+    Says::Votes { covers, text }
+}
 
 // A commit without a list, one that node 1 is to be told and whose vote was made again, an abort,
 // and a vote whose outcome is not known.
 fn log(alloc: Global) -> Result<List<Record>, Fail> {
     let mut log = List::new(alloc);
-    log.push(prepare(alloc, tid(0, 1), 1, b"one")?)?;
-    log.push(commit(alloc, tid(0, 1), &[])?)?;
-    log.push(prepare(alloc, tid(0, 2), 1, b"old")?)?;
-    log.push(prepare(alloc, tid(0, 2), 2, b"two")?)?;
-    log.push(commit(alloc, tid(0, 2), &[NodeNo(1)])?)?;
-    log.push(prepare(alloc, tid(0, 3), 1, b"three")?)?;
-    log.push(Record::Aborted { tid: tid(0, 3) })?;
-    log.push(prepare(alloc, tid(1, 1), 4, b"four")?)?;
+    for (tid, says) in [
+        (tid(0, 1), votes(1, b"one")),
+        (tid(0, 1), Says::Commits { told: &[] }),
+        (tid(0, 2), votes(1, b"old")),
+        (tid(0, 2), votes(2, b"two")),
+        (tid(0, 2), Says::Commits { told: &[NodeNo(1)] }),
+        (tid(0, 3), votes(1, b"three")),
+        (tid(0, 3), Says::Aborts),
+        (tid(1, 1), votes(4, b"four")),
+    ] {
+        log.push(record_of(alloc, tid, says)?)?;
+    }
     Ok(log)
 }
 
-#[test]
-fn what_is_committed_and_what_stands_open_is_recovered(rt: HostRuntime) -> Result<(), Fail> {
-    let alloc = rt.alloc();
-    let found = recover(alloc, &log(alloc)?)?;
+fn has_files(alloc: Global, found: &Recovered) -> Result<bool, Fail> {
     let files = [put(alloc, b"one")?, put(alloc, b"two")?];
-    assert!(rt; found.files.as_slice() == files.as_slice());
-    assert!(rt; found.audit.len() == 0);
-    let committed = [tid(0, 1), tid(0, 2)];
-    assert!(rt; found.committed.as_slice() == committed.as_slice());
+    Ok(found.files.as_slice() == files.as_slice() && found.audit.len() == 0)
+}
+
+fn has_outcomes(alloc: Global, found: &Recovered) -> Result<bool, Fail> {
+    let untold = [commit(alloc, tid(0, 2), &[NodeNo(1)])?];
+    Ok(
+        found.committed.as_slice() == [tid(0, 1), tid(0, 2)].as_slice()
+            && found.untold.as_slice() == untold.as_slice(),
+    )
+}
+
+fn has_votes(alloc: Global, found: &Recovered) -> Result<bool, Fail> {
     let votes = [
         OpenVote {
             tid: tid(0, 2),
@@ -42,10 +71,22 @@ fn what_is_committed_and_what_stands_open_is_recovered(rt: HostRuntime) -> Resul
             covers: 4,
         },
     ];
-    assert!(rt; found.votes.as_slice() == votes.as_slice());
     let in_doubt = [prepare(alloc, tid(1, 1), 4, b"four")?];
-    assert!(rt; found.in_doubt.as_slice() == in_doubt.as_slice());
-    let untold = [commit(alloc, tid(0, 2), &[NodeNo(1)])?];
-    assert!(rt; found.untold.as_slice() == untold.as_slice());
+    Ok(
+        found.votes.as_slice() == votes.as_slice()
+            && found.in_doubt.as_slice() == in_doubt.as_slice(),
+    )
+}
+
+fn has_all(alloc: Global, found: &Recovered) -> Result<bool, Fail> {
+    Ok(has_files(alloc, found)? && has_outcomes(alloc, found)? && has_votes(alloc, found)?)
+}
+
+#[test]
+fn what_is_committed_and_what_stands_open_is_recovered(rt: HostRuntime) -> Result<(), Fail> {
+    let found = recover(rt.alloc(), &log(rt.alloc())?)?;
+    let is_all = has_all(rt.alloc(), &found);
+    drop(found);
+    assert!(rt; is_all?);
     Ok(())
 }
