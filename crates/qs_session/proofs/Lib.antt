@@ -1,2 +1,2 @@
-pub mod Posting
+pub mod Posts
 pub mod Spelling

@@ -14,7 +14,7 @@ use qs_base::{GrowFault, List, NoMemory, Stamp};
 use qs_packet::{Message, Packet};
 
 /// Sends a message: the packet to put on the link, where one goes, has a spelling.
-#[tactic(auto, using(crate::proofs::Posting::post_spelled, crate::proofs::Spelling::spelled_packet))]
+#[tactic(auto, using(crate::proofs::Posts::post_spelled, crate::proofs::Spelling::spelled_packet))]
 pub fn post(
     session: &mut Session,
     message: Message,
@@ -46,7 +46,7 @@ pub fn hear(session: &mut Session, packet: Packet) -> Taken
 }
 
 /// What is due at a tick has a spelling.
-#[tactic(auto, using(crate::proofs::Posting::tick_spelled, crate::proofs::Spelling::spelled_tick))]
+#[tactic(auto, using(crate::proofs::Posts::tick_spelled, crate::proofs::Spelling::spelled_tick))]
 pub fn tick(session: &mut Session, stamp: Stamp) -> Result<List<Packet>, NoMemory>
     requires spelled { IsSpelled session.old }
     requires stamp { stamp < 2 ^ 62 }
