@@ -4,6 +4,7 @@ ghost use Rattle.qs_disk.specs.Moments.{Keeps};
 ghost use Rattle.qs_disk.specs.Fuse.{FusedValue};
 ghost use Rattle.qs_node_host.specs.Host.{IsOldOrAfter, worked_node, effects_at};
 ghost use Rattle.qs_node_host.specs.Roomy.{HasRoomyLog, IsRoomyHost};
+ghost use Rattle.qs_node_host.specs.Spelled.{AreSpelled};
 ghost use Rattle.qs_node_host.specs.declared.fault.HostFault.TheVariants as faults;
 ghost use Rattle.qs_book_journal.specs.declared.entry.CrashCause.TheVariants as causes;
 ghost use Rattle.qs_log.specs.Log.{Stands};
@@ -56,7 +57,9 @@ impl<D: Disk, F: Server, X: Server> Running<D, F, X> {
     /// An event: it takes its number and the next stamp. Then, in this order: the last stamp or a line `crash` stops the
     /// node in place of it; a line `before` does, where the whole step would make the entry that it names; the force is cut
     /// off; the step stands; a line `after` stops the node behind it. Memory that is refused stops the node as well, and so does
-    /// a log with no room for a record, which over a roomy host never comes. Room for a crash is to be made before. Where the node is stopped only `into_stopped` is to be called.
+    /// a step with a record or a message that has no spelling, in place of the event, and a log with no room for a record, which
+    /// over a roomy host never comes. Room for a crash is to be made before. Where the node is stopped only `into_stopped` is to
+    /// be called.
     pub fn event(&mut self, occasion: Occasion) -> Fate
         requires stands { D.told → Stands self.old.host.log (D.state self.old.host.log.disk.disk) }
         requires room { HasRoom 1 1 self.old.carried.chronicle }
@@ -191,6 +194,7 @@ fn work_out<D: Disk, F: Server, X: Server>(
     host: &mut Host<Fused<D>, F, X>,
     occasion: &Occasion,
 ) -> Result<Effects, NoMemory>
+    ensures spelled { IfOk result AreSpelled }
     ensures effects { IfOk result (λ out. out ≡ effects_at (D.byte_count host.old.log.disk.disk) host.old (event_of occasion.now)) }
     ensures node { OnOk result (host.new.node ≡ worked_node (D.byte_count host.old.log.disk.disk) host.old (event_of occasion.now)) }
     ensures log { host.new.log ≡ host.old.log }
@@ -207,6 +211,7 @@ fn carried_out<D: Disk, F: Server, X: Server>(
     occasion: Occasion,
     out: Effects,
 ) -> Fate
+    requires spelled { AreSpelled out }
     requires stands { D.told → Stands host.old.log (D.state host.old.log.disk.disk) }
     requires room { HasRoom (length out.entries + 1) 2 carried.old.chronicle }
     ensures outcome { (size : ℕ) (old : Running D F X) → size ≡ D.byte_count host.old.log.disk.disk → IsWorkedOut size occasion old host.old carried.old out

@@ -2,9 +2,8 @@
 use Rattle.std.proofs.Common.{◌≡◌, ◌∙◌, ℕ, ◌+◌, ◌-◌, ◌≤◌, ◌<◌, arith, sym, subst, ap, refl, inl, inr, Bool, true, false, List, ◌∷◌, ◌++◌, length, get_or, take, drop, fold, suc}
 use Rattle.std.proofs.Math.Seq.{drop-cons}
 use Rattle.std.proofs.lemmas.List.{append-nil, take-append-drop}
-use Rattle.std.specs.Prelude.{◌↔◌, Result, Ok, Err, IfOk, IsErrAnd, IsErrOf, OnOk}
+use Rattle.std.specs.Prelude.{◌↔◌, Result, Ok, Err, IsErrAnd, IsErrOf}
 use Rattle.std.specs.Global.{Global}
-use Rattle.qs_base.specs.declared.memory.NoMemory.{NoMemory}
 use Rattle.qs_disk.specs.Disk.{DiskState}
 use Rattle.qs_disk.specs.Moments.{Keeps}
 use Rattle.qs_disk.proofs.Moments.{keeps_weaken}
@@ -183,13 +182,7 @@ module _ {D : Type 0} (keep : ℕ) (size : D → ℕ) (out : Effects) (host : Ho
       subst (λ (h : HostValue D). IsWorkedRoomy keep (size h.log.disk) h out → Keeps (HasRoomyLog keep (size h.log.disk)) (state h.log.disk) end) is
       (λ worked. images_roomy keep (size log.disk) (host_with node log) out (state log.disk) end worked keeps)
 
--- what the host worked out
-pub worked_by : {D : Type 0} (keep size : ℕ) (old new : HostValue D) (event : Event) (result : Result Effects NoMemory) → OnOk result (new.node ≡ worked_node size old event)
-    → new.log ≡ old.log → IfOk result (λ out. out ≡ effects_at size old event) → IsRoomyHost keep size old → BeginsNewAt size old event → IfOk result (IsWorkedRoomy keep size new)
-worked_by keep size old new event (Ok out) node log is roomy fresh = worked_roomy keep size old new event out roomy fresh node log is
-worked_by keep size old new event (Err fault) node log is roomy fresh = tt
-
--- and as it opens
+-- as it opens
 pub opens_roomy : {D : Type 0} (alloc : Global) (keep size : ℕ) (setting : Setting) (kept : Kept) (found : Recovered) (log mid : LogValue D) (node : NodeValue)
     → node ≡ opened_node alloc setting found kept → found ≡ recovered_of (records_of log) → mid ≡ log → OpensRoomy keep size setting log → IsRoomyHost keep size (host_with node mid)
 opens_roomy {D} alloc keep size setting kept found log mid node node_is found_is same opens =

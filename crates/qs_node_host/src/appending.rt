@@ -1,5 +1,5 @@
 //! How the records of a step go to the log.
-ghost use Rattle.std.specs.Prelude.{◌≡◌, ◌≢◌, ◌≤◌, ◌↔◌, true, [], OnOk, OnErr, fold, Err};
+ghost use Rattle.std.specs.Prelude.{◌≡◌, ◌≢◌, ◌≤◌, ◌↔◌, true, [], OnOk, OnErr, fold, Err, All};
 ghost use Rattle.qs_base.specs.Causes.{HasCause, Rose};
 ghost use Rattle.qs_disk.specs.Moments.{Keeps};
 ghost use Rattle.qs_log.specs.Log.{Stands, records_of};
@@ -8,20 +8,20 @@ ghost use Rattle.qs_node_room.specs.Room.{opened, ended, after_record};
 ghost use Rattle.qs_slot.specs.Slot.{SayTheSame};
 ghost use Rattle.qs_node_host.specs.Host.{AreUnended, HasBatch, IsLogAfter, IsOldOrAfter, HasEither, forced_if, with_record};
 ghost use Rattle.qs_node_host.specs.Roomy.{IsFullFor, LacksRoom};
+ghost use Rattle.qs_node_host.specs.Spelled.{AreSpelled};
 ghost use Rattle.qs_node_host.specs.declared.fault.HostFault.TheVariants.{Disk as OfDisk, NoRoom as OfRoom};
 
 use crate::fault::HostFault;
 use qs_base::Tid;
 use qs_disk::{Disk, DiskFailed};
 use qs_log::Log;
-use qs_node_room::{Boundary, Unended, boundary_of, is_record};
+use qs_node_room::{Boundary, Unended, boundary_of};
 use qs_node_step::Effects;
 use qs_record::Record;
 
-/// The record waits. `NoRoom` comes only where it has a spelling and the log has no room for it, `NoMemory` for want of memory
-/// and where it has no spelling. After a refusal all is as it was.
+/// The record waits. `NoRoom` comes only where the log has no room for it. After a refusal all is as it was.
 fn append<D: Disk>(log: &mut Log<D>, unended: &mut Unended, rec: &Record) -> Result<(), HostFault>
-    ensures spelled { result ≡ Err OfRoom → IsRecord rec.now }
+    requires { IsRecord rec.now }
     ensures full { result ≡ Err OfRoom → IsFullFor (D.byte_count log.old.disk) log.old rec.now }
     ensures no_call { result ≢ Err OfDisk }
     ensures log { OnOk result (log.new ≡ with_record log.old rec.now) }
@@ -31,9 +31,6 @@ fn append<D: Disk>(log: &mut Log<D>, unended: &mut Unended, rec: &Record) -> Res
     ensures disk { log.new.disk ≡ log.old.disk }
     ensures stands { D.told → Stands log.old (D.state log.old.disk) → Stands log.new (D.state log.new.disk) }
 {
-    if !is_record(rec) {
-        return Err(HostFault::NoMemory);
-    }
     match boundary_of(rec) {
         Boundary::Opens { tid } => append_open(log, unended, rec, tid),
         Boundary::Ends { tid } => append_end(log, unended, rec, tid),
@@ -100,6 +97,7 @@ fn append_all<D: Disk>(
     unended: &mut Unended,
     records: &[Record],
 ) -> Result<(), HostFault>
+    requires { All IsRecord records.now }
     ensures full { result ≡ Err OfRoom → LacksRoom (D.byte_count log.old.disk) log.old records.now }
     ensures no_call { result ≢ Err OfDisk }
     ensures log { OnOk result (log.new ≡ fold with_record log.old records.now) }
@@ -140,6 +138,7 @@ pub fn append_and_force<D: Disk>(
     unended: &mut Unended,
     out: &Effects,
 ) -> Result<(), HostFault>
+    requires spelled { AreSpelled out.now }
     requires stands { D.told → Stands log.old (D.state log.old.disk) }
     ensures log { OnOk result (IsLogAfter out.now log.old log.new) }
     ensures unended { AreUnended unended.old log.old → AreUnended unended.new log.new }

@@ -9,7 +9,7 @@ use qs_log::AppendFault;
 pub enum HostFault {
     /// A call of the disk failed within the force.
     Disk,
-    /// Memory was asked for and refused, or a record has no spelling.
+    /// Memory was asked for and refused.
     NoMemory,
     /// The log has no room for a record.
     NoRoom,

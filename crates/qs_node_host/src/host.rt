@@ -14,10 +14,12 @@ ghost use Rattle.qs_node_step.specs.Step.{accept};
 ghost use Rattle.qs_tm.specs.Manager as tm;
 ghost use Rattle.qs_node_host.specs.Host.{effects_at, worked_node, is_settled, opened_host, AreUnended, HasBatch, IsLogAfter, IsOldOrAfter};
 ghost use Rattle.qs_node_host.specs.Roomy.{BeginsNewAt, HasRoomyLog, IsRoomyHost, IsWorkedRoomy, LacksRoom, OpensRoomy};
+ghost use Rattle.qs_node_host.specs.Spelled.{AreSpelled};
 ghost use Rattle.qs_node_host.specs.declared.fault.HostFault.TheVariants.{Disk as OfDisk, NoRoom as OfRoom};
 
 use crate::appending::append_and_force;
 use crate::fault::HostFault;
+use crate::spelled::are_spelled;
 use qs_base::{NoMemory, ServerNo};
 use qs_disk::Disk;
 use qs_log::Log;
@@ -107,10 +109,14 @@ impl<D: Disk, F: Server, X: Server> Host<D, F, X> {
         }
     }
 
-    /// Works out what the event brings about. Nothing of it is done: the log stays as it is, and the node waits for
-    /// `carry_out`. After `NoMemory`, its only error, only `into_parts` is to be called. Over a roomy host the log has room for
-    /// what the event brings about.
+    /// Works out what the event brings about: each record and each message of it has a spelling. Nothing of it is done: the
+    /// log stays as it is, and the node waits for `carry_out`. Over a roomy host the log has room for what the event brings
+    /// about.
+    ///
+    /// After `NoMemory`, its only error, only `into_parts` is to be called. It comes for want of memory, and where a record or
+    /// a message has no spelling: that no step makes such a one is not proved, since it rests on how long a log can be.
     pub fn work_out(&mut self, event: Event) -> Result<Effects, NoMemory>
+        ensures spelled { IfOk result AreSpelled }
         ensures effects { IfOk result (λ out. out ≡ effects_at (D.byte_count self.old.log.disk) self.old event) }
         ensures node { OnOk result (self.new.node ≡ worked_node (D.byte_count self.old.log.disk) self.old event) }
         ensures room { (keep : ℕ) → IsRoomyHost keep (D.byte_count self.old.log.disk) self.old → BeginsNewAt (D.byte_count self.old.log.disk) self.old event
@@ -122,7 +128,11 @@ impl<D: Disk, F: Server, X: Server> Host<D, F, X> {
         let free = logged
             .unended
             .free_room(logged.log.room(), self.node.setting().keep);
-        self.node.step(event, free)
+        let out = self.node.step(event, free)?;
+        if !are_spelled(&out) {
+            return Err(NoMemory);
+        }
+        Ok(out)
     }
 
     /// Does with the log what was worked out: its records are appended, and forced where they are to be. Then the step
@@ -131,9 +141,9 @@ impl<D: Disk, F: Server, X: Server> Host<D, F, X> {
     ///
     /// `Disk` comes only where a force is due, something waits for it, and the disk's count of faults rose. `NoRoom` comes only
     /// where the log has no room for a record as its turn comes, which is never so of a step that a roomy host worked out; and
-    /// the host is roomy then after the step. `NoMemory` comes for want of memory, and where a record has no spelling: that no
-    /// step makes such a record is not proved yet.
+    /// the host is roomy then after the step.
     pub fn carry_out(&mut self, out: &Effects) -> Result<(), HostFault>
+        requires spelled { AreSpelled out.now }
         requires stands { D.told → Stands self.old.log (D.state self.old.log.disk) }
         ensures node { OnOk result (self.new.node ≡ accept self.old.node) }
         ensures log { OnOk result (IsLogAfter out.now self.old.log self.new.log) }
@@ -224,6 +234,7 @@ impl<D: Disk, F: Server, X: Server> Host<D, F, X> {
 
 /// The records wait, and are forced where they are to be. After a fault only the disk of the log is of use.
 fn log_out<D: Disk>(logged: &mut Logged<D>, out: &Effects) -> Result<(), HostFault>
+    requires spelled { AreSpelled out.now }
     requires stands { D.told → Stands logged.old.log (D.state logged.old.log.disk) }
     ensures log { OnOk result (IsLogAfter out.now logged.old.log logged.new.log) }
     ensures unended { AreUnended logged.old.unended logged.old.log → AreUnended logged.new.unended logged.new.log }

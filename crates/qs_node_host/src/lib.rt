@@ -5,6 +5,7 @@ mod appending;
 mod fault;
 mod host;
 mod laws;
+mod spelled;
 
 pub use fault::HostFault;
 pub use host::{Host, HostOpen};

@@ -7,14 +7,15 @@ use Rattle.std.proofs.lemmas.List.{length-append, length-drop, length-take}
 use Rattle.std.proofs.lemmas.List.Elements.{All-nil, All-cons, All-head, All-tail, All-push, All-drop}
 use Rattle.qs_base.specs.declared.identifiers.NodeNo.{NodeNo}
 use Rattle.qs_session_channels.specs.End
-use Rattle.qs_session_channels.specs.End.{End, Answer, OldPeer, NewPeer, OldSelf, Repeat, Early, fresh, sent, sent_packet, answer, left, received, tick_packets, idle_packets, packet, again}
+use Rattle.qs_session_channels.specs.End.{End, Answer, OldPeer, NewPeer, OldSelf, Repeat, Early, fresh, sent, sent_packet, answer, left, received, tick_packets, ticked, idle_packets, packet, again}
 use Rattle.qs_packet.specs.Grammar.{IsMessage, is_hello, IsPacket}
 use Rattle.qs_packet.specs.declared.message.Message.{Message}
 use Rattle.qs_packet.specs.declared.message.Message.TheVariants as messages
 use Rattle.qs_packet.specs.declared.packet.Packet.{Packet}
+use Rattle.qs_node_spelled.specs.Spelled.{IsSendable}
 use Rattle.qs_record.specs.Grammar.{is_node}
 use Rattle.qs_session.specs.Seen.{SessionValue, seen, IsFrom}
-use Rattle.qs_session.specs.Spelled.{IsSendable, IsSpelled}
+use Rattle.qs_session.specs.Spelled.{IsSpelled}
 
 pub spelled_new : (me peer : NodeNo) (mine : ℕ) → is_node me.0 ≡ true → is_node peer.0 ≡ true → mine < 2 ^ 62 → IsSpelled (record { me = me; peer = peer; end = fresh mine })
 spelled_new me peer mine a b below = record { me = a; peer = b; mine = below; known = omega arith; taken = omega arith; numbers = omega arith; kept = All-nil IsSendable }
@@ -135,3 +136,6 @@ spelled_tick s stamp ps o below is from = unmet (cases_eq s.end.known 0)
     unmet : (s.end.known ≡ 0) ⊎ (s.end.known ≢ 0) → All IsPacket ps
     unmet (inl zero) = hello_spelled s 0 stamp ps o below (omega arith) (is ∙ grind (arith, nat_tests, zero)) from
     unmet (inr met) = kept met (cases_eq (length s.end.kept) 0)
+
+pub spelled_ticked : (s : SessionValue) → IsSpelled s → IsSpelled (record s { end = ticked s.end })
+spelled_ticked s o = record { me = o.me; peer = o.peer; mine = o.mine; known = o.known; taken = o.taken; numbers = o.numbers; kept = o.kept }

@@ -1,14 +1,9 @@
 -- Which sessions put only packets that have a spelling.
-use Rattle.std.specs.Prelude.{◌≡◌, ◌+◌, ◌<◌, ◌^◌, true, false, length}
+use Rattle.std.specs.Prelude.{◌≡◌, ◌+◌, ◌<◌, ◌^◌, true, length}
 use Rattle.std.specs.List.{All}
-use Rattle.qs_packet.specs.Grammar.{IsMessage, is_hello}
-use Rattle.qs_packet.specs.declared.message.Message.{Message}
+use Rattle.qs_node_spelled.specs.Spelled.{IsSendable}
 use Rattle.qs_record.specs.Grammar.{is_node}
 use Rattle.qs_session.specs.Seen.{SessionValue}
-
--- a message that may be sent: any that has a spelling, but no Hello, which bears no number
-abbrev pub IsSendable : Message → Type 0
-IsSendable message = IsMessage message × (is_hello message ≡ false)
 
 -- all that goes into the session's packets has a spelling
 pub record IsSpelled (s : SessionValue) : Type 0 where

@@ -9,7 +9,8 @@ ghost use Rattle.qs_packet.specs.declared.message.Message.TheVariants.{Hello};
 ghost use Rattle.qs_packet.specs.declared.packet.Packet.{Packet};
 ghost use Rattle.qs_record.specs.Grammar.{is_node};
 ghost use Rattle.qs_session.specs.Seen.{SessionValue, seen, IsFrom};
-ghost use Rattle.qs_session.specs.Spelled.{IsSendable, IsSpelled};
+ghost use Rattle.qs_node_spelled.specs.Spelled.{IsSendable};
+ghost use Rattle.qs_session.specs.Spelled.{IsSpelled};
 
 /// The packets of a session between two nodes have a spelling, as long as it is given only messages, stamps and packets that have one.
 pub fn spelled()

@@ -2,8 +2,10 @@
 #![tactic(auto)]
 
 pub mod laws;
+mod posting;
 mod session;
 mod taken;
 
+pub use posting::{hear, post, tick};
 pub use session::Session;
 pub use taken::Taken;

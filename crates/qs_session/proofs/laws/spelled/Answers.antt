@@ -1,4 +1,4 @@
-use Rattle.qs_session.proofs.Spelling.{spelled_new, spelled_send, spelled_packet, spelled_receive, spelled_tick}
+use Rattle.qs_session.proofs.Spelling.{spelled_new, spelled_send, spelled_packet, spelled_receive, spelled_tick, spelled_ticked}
 use Rattle.qs_session.proofs.laws.spelled.Goals as goal
 
 pub returns-clause-new : goal.returns-clause-new
@@ -17,4 +17,4 @@ pub returns-clause-tick : goal.returns-clause-tick
 returns-clause-tick c = spelled_tick
 
 pub returns-clause-ticked : goal.returns-clause-ticked
-returns-clause-ticked c = λ s o. record { me = o.me; peer = o.peer; mine = o.mine; known = o.known; taken = o.taken; numbers = o.numbers; kept = o.kept }
+returns-clause-ticked c = spelled_ticked

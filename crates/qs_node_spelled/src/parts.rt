@@ -1,12 +1,11 @@
-//! Which records have a spelling in bytes.
-ghost use Rattle.std.specs.Prelude.{◌≡◌, ◌↔◌, true, ◌≤◌, All};
+//! Which parts of records and messages have a spelling in bytes.
+ghost use Rattle.std.specs.Prelude.{◌≡◌, ◌↔◌, true, ◌<◌, ◌^◌, All};
 ghost use Rattle.qs_base.specs.Printable.{IsPrintable};
-ghost use Rattle.qs_ops.specs.Spelled.{IsText, IsSpelled, IsChange, AreChanges};
-ghost use Rattle.qs_record.specs.Grammar.{IsTid, is_node, is_server, is_rising, AreNodes, IsRecord};
+ghost use Rattle.qs_ops.specs.Spelled.{IsText, IsSpelled};
+ghost use Rattle.qs_record.specs.Grammar.{IsTid, IsMember, is_node, is_server, is_rising, AreNodes};
 
-use qs_base::{Bytes, NodeNo, ServerNo, Tid};
-use qs_ops::{Changes, Op, is_change};
-use qs_record::Record;
+use qs_base::{Bytes, Member, NodeNo, ServerNo, Tid};
+use qs_ops::Op;
 
 /// How many nodes a run may have.
 const NODE_LIMIT: u8 = 16;
@@ -15,42 +14,46 @@ const NODE_LIMIT: u8 = 16;
 const INC_LIMIT: u64 = 1 << 62;
 
 /// The most characters of a name.
-const NAME_LIMIT: usize = 64;
+pub(crate) const NAME_LIMIT: usize = 64;
 
 /// The most characters of an operation's text.
 const TEXT_LIMIT: usize = 4096;
 
-/// Whether the record has a spelling: its identifier, server, nodes, names and texts keep their limits.
-pub fn is_record(rec: &Record) -> bool
-    ensures { (result ≡ true) ↔ IsRecord rec.now }
+/// A node that a run may have.
+pub(crate) fn is_node(node: NodeNo) -> bool
+    ensures { result ≡ is_node node.0 }
 {
-    match rec {
-        Record::Prepare {
-            tid,
-            server,
-            changes,
-            ..
-        } => is_tid(*tid) && is_server(*server) && are_changes(changes),
-        Record::Commit { tid, told } => is_tid(*tid) && are_nodes(told.as_slice()),
-        Record::Aborted { tid } | Record::End { tid } => is_tid(*tid),
-    }
+    node.0 < NODE_LIMIT
 }
 
-fn is_tid(tid: Tid) -> bool
+/// A number that its eight bytes spell, as an incarnation is.
+pub(crate) fn is_number(number: u64) -> bool
+    ensures { (result ≡ true) ↔ (number < 2 ^ 62) }
+{
+    number < INC_LIMIT
+}
+
+pub(crate) fn is_tid(tid: Tid) -> bool
     ensures { (result ≡ true) ↔ IsTid tid }
 {
-    tid.home.0 < NODE_LIMIT && tid.inc < INC_LIMIT
+    is_node(tid.home) && is_number(tid.inc)
+}
+
+pub(crate) fn is_member(member: Member) -> bool
+    ensures { (result ≡ true) ↔ IsMember member }
+{
+    is_node(member.node) && is_server(member.server)
 }
 
 /// A server of a node, or a borrower.
-fn is_server(server: ServerNo) -> bool
+pub(crate) fn is_server(server: ServerNo) -> bool
     ensures { result ≡ is_server server.0 }
 {
     matches!(server.0, 0..=6 | 32..=95)
 }
 
 /// They rise, each a node.
-fn are_nodes(nodes: &[NodeNo]) -> bool
+pub(crate) fn are_nodes(nodes: &[NodeNo]) -> bool
     ensures { (result ≡ true) ↔ AreNodes nodes.now }
 {
     let mut least = 0;
@@ -63,19 +66,8 @@ fn are_nodes(nodes: &[NodeNo]) -> bool
     true
 }
 
-fn are_changes(changes: &Changes) -> bool
-    ensures { (result ≡ true) ↔ AreChanges changes.now }
-{
-    changes.len() <= u32::MAX as usize && changes.as_slice().iter().all(is_spelled_change)
-}
-
-fn is_spelled_change(op: &Op) -> bool
-    ensures { (result ≡ true) ↔ IsChange op.now }
-{
-    is_change(op) && is_spelled(op)
-}
-
-fn is_spelled(op: &Op) -> bool
+/// An operation whose name and text keep their limits.
+pub(crate) fn is_spelled(op: &Op) -> bool
     ensures { (result ≡ true) ↔ IsSpelled op.now }
 {
     match op {
@@ -96,7 +88,7 @@ fn is_spelled(op: &Op) -> bool
 }
 
 /// At most so many printable characters.
-fn is_text(text: &Bytes, limit: usize) -> bool
+pub(crate) fn is_text(text: &Bytes, limit: usize) -> bool
     ensures { (result ≡ true) ↔ IsText limit text.now }
 {
     text.len() <= limit && text.as_slice().iter().all(|byte| is_printable(*byte))

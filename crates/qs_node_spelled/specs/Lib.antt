@@ -1,0 +1,2 @@
+-- Which messages can be sent.
+pub mod Spelled

@@ -1,0 +1,60 @@
+//! A session that is given only what has a spelling.
+ghost use Rattle.std.specs.Prelude.{◌≡◌, ◌<◌, ◌^◌, ◌+◌, ◌-◌, ◌↔◌, All, IfOk, IfSome, OnOk, OnErr, IsErrOf, length, option_map, map};
+ghost use Rattle.qs_base.specs.declared.memory.GrowFault.TheVariants.{Last};
+ghost use Rattle.qs_session_channels.specs.End.{sent, sent_packet, received, answer, tick_packets, ticked};
+ghost use Rattle.qs_packet.specs.Grammar.{IsPacket};
+ghost use Rattle.qs_packet.specs.declared.message.Message.TheVariants.{Hello};
+ghost use Rattle.qs_node_spelled.specs.Spelled.{IsSendable};
+ghost use Rattle.qs_session.specs.Seen.{seen, answer_of, IsFrom};
+ghost use Rattle.qs_session.specs.Spelled.{IsSpelled};
+
+use crate::session::Session;
+use crate::taken::Taken;
+use qs_base::{GrowFault, List, NoMemory, Stamp};
+use qs_packet::{Message, Packet};
+
+/// Sends a message: the packet to put on the link, where one goes, has a spelling.
+#[tactic(auto, using(crate::proofs::Posts::post_spelled, crate::proofs::Spelling::spelled_packet))]
+pub fn post(
+    session: &mut Session,
+    message: Message,
+    stamp: Stamp,
+) -> Result<Option<Packet>, GrowFault>
+    requires spelled { IsSpelled session.old }
+    requires message { IsSendable message }
+    requires stamp { stamp < 2 ^ 62 }
+    ensures spelled { IsSpelled session.new }
+    ensures packet { IfOk result (λ p. IfSome p IsPacket) }
+    ensures sent { IfOk result (λ p. option_map seen p ≡ sent_packet session.old.end message stamp) }
+    ensures end { OnOk result (session.new ≡ record session.old { end = sent session.old.end message }) }
+    ensures last { IsErrOf result (Last (2 ^ 62 - 1)) ↔ (session.old.end.acked + length session.old.end.kept ≡ 2 ^ 62 - 1) }
+    ensures err { OnErr result (session.new ≡ session.old) }
+{
+    session.send(message, stamp)
+}
+
+/// Takes a packet that came over a link.
+#[tactic(auto, using(crate::proofs::Spelling::spelled_receive))]
+pub fn hear(session: &mut Session, packet: Packet) -> Taken
+    requires spelled { IsSpelled session.old }
+    requires packet { IsPacket packet }
+    ensures spelled { IsSpelled session.new }
+    ensures answer { answer_of result ≡ answer session.old.end (seen packet) }
+    ensures end { session.new ≡ record session.old { end = received session.old.end (seen packet) } }
+{
+    session.receive(packet)
+}
+
+/// What is due at a tick has a spelling.
+#[tactic(auto, using(crate::proofs::Posts::tick_spelled, crate::proofs::Spelling::spelled_tick))]
+pub fn tick(session: &mut Session, stamp: Stamp) -> Result<List<Packet>, NoMemory>
+    requires spelled { IsSpelled session.old }
+    requires stamp { stamp < 2 ^ 62 }
+    ensures spelled { IsSpelled session.new }
+    ensures packets { IfOk result (All IsPacket) }
+    ensures due { IfOk result (λ ps. map seen ps ≡ tick_packets Hello session.old.end stamp) }
+    ensures end { OnOk result (session.new ≡ record session.old { end = ticked session.old.end }) }
+    ensures err { OnErr result (session.new ≡ session.old) }
+{
+    session.tick(stamp)
+}
