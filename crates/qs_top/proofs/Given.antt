@@ -17,10 +17,10 @@ use Rattle.qs_book_script.specs.declared.status.Status.TheVariants as statuses
 use Rattle.qs_node_step.specs.declared.trace.Step.{Step}
 use Rattle.qs_disk.specs.Moments.{Keeps}
 use Rattle.qs_log_start.specs.Incarnation.{IsTouched}
-use Rattle.qs_top.specs.Disks.{IsDamageOver, OfFirst, Leaves}
+use Rattle.qs_top.specs.Disks.{IsDamageOver, IsOnlyTouched, OfFirst, Leaves}
 use Rattle.qs_top.specs.Inner.Giving.{IsNoScript, IsGiven, IsGivenOf}
 use Rattle.qs_top.specs.Inner.Over.{IsOver, IsOutput}
-use Rattle.qs_top.specs.Run.{HasLawful, IsNothing, IsNotBegun, IsWhole, IsShort, IsRefused, machine_over, output_of}
+use Rattle.qs_top.specs.Run.{HasLawful, IsNothing, IsNotBegun, IsWhole, IsShort, IsRefused, RanOutOfMemory, machine_over, output_of}
 use Rattle.qs_top.specs.Statuses.{IfNot, IsEnd, IsOfRounds, Tells}
 use Rattle.qs_top.specs.Texts.{ReadWhole, OfScript}
 use Rattle.qs_top.specs.declared.outcome.Run.{Run}
@@ -65,7 +65,7 @@ first_alone P alone [] some = absurd (none some)
     none some = omega (arith, some)
 first_alone P alone (d ∷ rest) some = record { first = d; after = d; rest = rest; old_is = refl; new_is = refl; holds = alone d }
 
-touched_alone : (s : DiskState) → Keeps (IsTouched s) s s
+pub touched_alone : (s : DiskState) → Keeps (IsTouched s) s s
 touched_alone s = record { between = []; grows = sym (append-nil s.past); each = tt; here = λ image is. inl is }
 
 -- a run without a script leaves each disk as it was
@@ -186,6 +186,9 @@ module _ {D K : Type 0} (told : Type 0) (state : D → DiskState) (own size : D 
 
   pub given_refused : (line clause : ℕ) → run.status ≡ statuses.Unlawful line clause → IsRefused told state own size seed script line clause disk end
   given_refused line clause is = over.refused fits line clause (made_status (statuses.Unlawful line clause) is (λ same. absurd (cc (same))))
+
+  pub given_out_of_memory : run.status ≡ statuses.NoMemory → IsOnlyTouched told state disk end ⊎ RanOutOfMemory told state own size seed script disk end
+  given_out_of_memory is = over.out_of_memory fits (made_status statuses.NoMemory is (λ same. absurd (cc (same))))
 
   pub given_damaged : (node : NodeNo) (at : ℕ) → run.status ≡ statuses.Damaged node at → IsDamageOver told state node at disk end
   given_damaged node at is = over.damage node at (made_status (statuses.Damaged node at) is (λ same. absurd (cc (same))))

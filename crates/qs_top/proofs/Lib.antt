@@ -4,6 +4,8 @@ pub mod Coherent
 mod Given
 -- What the machine opens with.
 mod Held
+-- A script that was read has too few rounds for a restart that finds damage.
+mod Late
 -- What a run over one disk comes to.
 mod Overs
 -- What it comes to, whatever its rounds were answered.

@@ -121,6 +121,7 @@ module _ {D : Type 0} (told : Type 0) (state : D → DiskState) (own size : D �
       by_script = λ yes coherent. refused_by_script script (machine_over last.node.opened) (journal_of last.node) line clause (holds fits yes coherent).lawful (f.refused line clause is);
       lasts = λ yes coherent. lasting (journal_of last.node) refl yes (holds fits yes coherent);
     };
+    out_of_memory = λ fits is. inr (record { node = last.node; ran = elim ran [ inl ended ↦ inl ended | inr short ↦ inr (inl short) ]; left = left });
     leaves = λ fits. refusal_leaves told state disk after made.status f.refusal (over_untold (λ yes coherent. at_end_untold (holds fits yes coherent)));
     coherent = stays holds;
     roomy = stays_roomy holds;
@@ -147,6 +148,7 @@ module _ {D : Type 0} (told : Type 0) (state : D → DiskState) (own size : D �
     };
     short = λ fits node is. absurd (subst IsEnd is end);
     refused = λ fits line clause is. absurd (subst IsEnd is end);
+    out_of_memory = λ fits is. absurd (subst IsEnd is end);
     leaves = λ fits. end_leaves told state disk after made.status end over_kept;
     coherent = stays holds;
     roomy = stays_roomy holds;
@@ -178,6 +180,7 @@ module _ {D : Type 0} (told : Type 0) (state : D → DiskState) (own size : D �
       lasts = λ yes coherent. lasting made.journal j.passed.entries yes (holds fits yes coherent);
     });
     refused = λ fits line clause status. absurd (subst IsFaultStatus (sym j.status ∙ status) tt);
+    out_of_memory = λ fits status. absurd (subst IsFaultStatus (sym j.status ∙ status) tt);
     leaves = λ fits. subst (λ (status : Status). Leaves told state status disk after) (sym j.status) (inr over_kept);
     coherent = stays holds;
     roomy = stays_roomy holds;

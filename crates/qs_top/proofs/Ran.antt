@@ -1,10 +1,10 @@
 -- What a run over one disk comes to, whatever its rounds and the question what the machine opens with were answered.
-use Rattle.std.proofs.Common.{◌≡◌, inr, ℕ, Bool, List, Result, Ok, Err, IfOk, refl, sym, ap, subst, ◌∙◌}
+use Rattle.std.proofs.Common.{◌≡◌, ◌⊎◌, ◌<◌, ◌+◌, inl, inr, ℕ, Bool, List, Result, Ok, Err, IfOk, refl, sym, ap, subst, ◌∙◌}
 use Rattle.std.specs.Global.{Global}
 use Rattle.qs_base.specs.Causes.{Rose}
 use Rattle.qs_base.specs.declared.identifiers.NodeNo.{NodeNo}
 use Rattle.qs_base.specs.declared.memory.NoMemory.{NoMemory}
-use Rattle.qs_cell.specs.Logged.{HasLog}
+use Rattle.qs_cell.specs.Logged.{HasLog, most_rounds}
 use Rattle.qs_cell.specs.Starts.{CellValue, journal_of, trace_of}
 use Rattle.qs_cell.specs.State.{LogStands, disk_of}
 use Rattle.qs_disk.specs.Disk.{DiskState, EachImage, IsImage}
@@ -14,7 +14,8 @@ use Rattle.qs_book_machine.specs.declared.opened.Opened.{Opened}
 use Rattle.qs_world_opening.specs.Coherent.{IsCoherentDisk}
 use Rattle.qs_world_opening.specs.Scripts.{Fits}
 use Rattle.qs_world_rounds.specs.Endings.{IsEnding, IsCutShort, IsOutOfMemory}
-use Rattle.qs_world_rounds.specs.Rounds.{Cast, IsSameStart}
+use Rattle.qs_world_plans.specs.Budget.{most_budget}
+use Rattle.qs_world_rounds.specs.Rounds.{Cast, IsSameStart, visits_of}
 use Rattle.qs_world_rounds.specs.Seats.{HasBegun, first_node, node_count}
 use Rattle.qs_world_rounds.specs.declared.faults.RoundFault.{RoundFault}
 use Rattle.qs_world_rounds.specs.declared.faults.RoundFault.TheVariants as faults
@@ -27,8 +28,9 @@ use Rattle.qs_node_step.specs.declared.trace.Step.{Step}
 use Rattle.qs_book_script.specs.declared.status.Status.TheVariants as statuses
 use Rattle.qs_top.specs.Inner.Making.{IsJudgedEnd, IsJudgedShort, IsMadeOf, IsNothingMade}
 use Rattle.qs_top.specs.Inner.Over.{IsOver}
-use Rattle.qs_top.specs.Run.{IsLeftBy, machine_over}
+use Rattle.qs_top.specs.Run.{HasRun, HasRunOut, HasRunShort, IsLeftBy, machine_over}
 use Rattle.qs_top.specs.declared.whole.RunMade.{RunMade}
+use Rattle.qs_top.proofs.Late.{never_late}
 use Rattle.qs_top.proofs.Overs.{at_end_untold, over_end, over_short, over_untold}
 use Rattle.qs_top.proofs.Unopened.{over_refused}
 
@@ -93,25 +95,49 @@ module _ {D : Type 0} (told : Type 0) (state : D → DiskState) (own size : D �
   at_cut_so : IsCutShort told state own size seed first last → LeftUntold
   at_cut_so cut fits is_told coherent = at_end_untold told state own size seed script shown alloc disk after first last begins room start logged left_by made (at_cut cut fits is_told coherent)
 
-  refused_so : IsNothingMade made → made.status ≡ statuses.NoMemory → LeftUntold → IsOver told state own size seed script shown made disk after
-  refused_so nothing is holds = over_refused told state own size seed script shown disk after made nothing
+  abbrev HowRan : Type 0
+  HowRan = ((ending : Ending) × HasRun told state own size seed script disk last.node ending) ⊎ (HasRunShort told state own size seed script disk last.node ⊎ HasRunOut told state own size seed script disk last.node)
+
+  ran_all : (ending : Ending) → IsEnding told state own size script seed first last ending → HowRan
+  ran_all ending ends = inl (ending, record { alloc = alloc; first = first; last = last; begins = begins; ends = ends; node_is = refl })
+
+  ran_short : IsCutShort told state own size seed first last → HowRan
+  ran_short cut = inr (inl (record { alloc = alloc; first = first; last = last; begins = begins; ends = cut; node_is = refl }))
+
+  ran_out : IsOutOfMemory told state own size seed first last → HowRan
+  ran_out out = inr (inr (record { alloc = alloc; first = first; last = last; begins = begins; ends = out; node_is = refl }))
+
+  refused_so : IsNothingMade made → made.status ≡ statuses.NoMemory → HowRan → LeftUntold → IsOver told state own size seed script shown made disk after
+  refused_so nothing is ran holds = over_refused told state own size seed script shown disk after made nothing
+      (λ fits. inr (record { node = last.node; ran = ran; left = left_by }))
       (λ fits. inr (over_untold told state own size seed script shown alloc disk after first last begins room start logged left_by made (holds fits)))
       (λ fits yes coherent. left_coherent (holds fits yes coherent).coherent)
       (λ fits yes coherent roomy. left_roomy ((holds fits yes coherent).roomy (room yes roomy))) is
 
+  -- a restart found its log damaged, which it never does where the disk tells
+  damaged_so : IsNothingMade made → made.status ≡ statuses.NoMemory → (told → most_rounds < visits_of first + most_budget script) → IsOver told state own size seed script shown made disk after
+  damaged_so nothing is late = over_refused told state own size seed script shown disk after made nothing
+      (λ fits. inl (λ yes. absurd (never fits yes))) (λ fits. inl (λ yes. absurd (never fits yes))) (λ fits yes coherent. absurd (never fits yes)) (λ fits yes coherent roomy. absurd (never fits yes)) is
+    where
+      never : Fits node_count script → told → ⊥
+      never fits yes = never_late told state own alloc script disk first begins fits (late yes)
+
   pub over_ran : (ending : Result Ending RoundFault) (opened : Result Opened NoMemory) → IfOk ending (IsEnding told state own size script seed first last) → ((n : NodeNo) → ending ≡ Err (faults.DiskFault n) → IsCutShort told state own size seed first last)
       → (ending ≡ Err faults.NoMemory → IsOutOfMemory told state own size seed first last)
+      → (told → ending ≡ Err faults.Damaged → most_rounds < visits_of first + most_budget script)
       → ((n : NodeNo) → ending ≡ Err (faults.DiskFault n) → n ≡ first_node) → IfOk opened (λ found. found ≡ node.opened) → IsMadeOf script shown ending opened journal trace made → IsOver told state own size seed script shown made disk after
-  over_ran (Ok ending) (Ok opened) ends cut out named is j = over_end told state own size seed script shown alloc disk after first last begins room start logged left_by made (at_end ending ends) ending ends
+  over_ran (Ok ending) (Ok opened) ends cut out late named is j = over_end told state own size seed script shown alloc disk after first last begins room start logged left_by made (at_end ending ends) ending ends
       (subst (λ (steps : List Step). IsJudgedEnd script shown ending last.node.opened (journal_of last.node) steps made) trace_is
       (subst (λ (entries : List Entry). IsJudgedEnd script shown ending last.node.opened entries trace made) journal_is
       (subst (λ (found : Opened). IsJudgedEnd script shown ending found journal trace made) (is ∙ ap (λ (cell : CellValue D). cell.opened) left.node_is) j)))
-  over_ran (Err (faults.DiskFault n)) (Ok opened) ends cut out named is j = over_short told state own size seed script shown alloc disk after first last begins room start logged left_by made (at_cut (cut n refl)) n (named n refl)
+  over_ran (Err (faults.DiskFault n)) (Ok opened) ends cut out late named is j = over_short told state own size seed script shown alloc disk after first last begins room start logged left_by made (at_cut (cut n refl)) n (named n refl)
       (subst (λ (d : D). Rose (own disk) (own d)) (sym after_is) (subst (λ (before : ℕ). Rose before (own (disk_of last.node.seat.node).disk)) begins.faults (cut n refl).rose)) (cut n refl)
       (subst (λ (steps : List Step). IsJudgedShort script n last.node.opened (journal_of last.node) steps made) trace_is
       (subst (λ (entries : List Entry). IsJudgedShort script n last.node.opened entries trace made) journal_is
       (subst (λ (found : Opened). IsJudgedShort script n found journal trace made) (is ∙ ap (λ (cell : CellValue D). cell.opened) left.node_is) j)))
-  over_ran (Err faults.NoMemory) (Ok opened) ends cut out named is j = refused_so j.nothing j.status (at_refusal (out refl))
-  over_ran (Ok ending) (Err fault) ends cut out named is j = refused_so j.nothing j.status (at_end_so ending ends)
-  over_ran (Err (faults.DiskFault n)) (Err other) ends cut out named is j = refused_so j.nothing j.status (at_cut_so (cut n refl))
-  over_ran (Err faults.NoMemory) (Err other) ends cut out named is j = refused_so j.nothing j.status (at_refusal (out refl))
+  over_ran (Err faults.Damaged) (Ok opened) ends cut out late named is j = damaged_so j.nothing j.status (λ yes. late yes refl)
+  over_ran (Err faults.NoMemory) (Ok opened) ends cut out late named is j = refused_so j.nothing j.status (ran_out (out refl)) (at_refusal (out refl))
+  over_ran (Ok ending) (Err fault) ends cut out late named is j = refused_so j.nothing j.status (ran_all ending ends) (at_end_so ending ends)
+  over_ran (Err (faults.DiskFault n)) (Err other) ends cut out late named is j = refused_so j.nothing j.status (ran_short (cut n refl)) (at_cut_so (cut n refl))
+  over_ran (Err faults.Damaged) (Err other) ends cut out late named is j = damaged_so j.nothing j.status (λ yes. late yes refl)
+  over_ran (Err faults.NoMemory) (Err other) ends cut out late named is j = refused_so j.nothing j.status (ran_out (out refl)) (at_refusal (out refl))

@@ -21,6 +21,7 @@ use Rattle.qs_world.specs.Histories.{opened_with}
 use Rattle.qs_top.specs.Disks.{IsFaultOver, IsDamageOver, IsOnlyTouched, IsUntold, Leaves, StaysCoherent, StaysRoomy}
 use Rattle.qs_top.specs.Inner.Making.{IsNothingMade, not_opened}
 use Rattle.qs_top.specs.Inner.Over.{IsOver}
+use Rattle.qs_top.specs.Run.{RanOutOfMemory}
 use Rattle.qs_top.specs.Statuses.{IsEnd, IsOfRounds}
 use Rattle.qs_top.specs.declared.whole.RunMade.{RunMade}
 use Rattle.qs_top.proofs.Coherent.{Later, touched_coherent, touched_roomy}
@@ -85,15 +86,16 @@ pub nothing_opened : Opened
 nothing_opened = opened_with (setting_of (record { seats = []; quotas = []; audit = None; faults = []; lines = []; count = 0 }) node_count first_node 1) (recovered_of [])
 
 module _ {D : Type 0} (told : Type 0) (state : D → DiskState) (own size : D → ℕ) (seed : ℕ) (script : Script) (shown : Bool) (disk after : D) (made : RunMade) (nothing : IsNothingMade made) where
-  over_unopened : IsUnopened made.status → (Fits node_count script → Leaves told state made.status disk after) → (Fits node_count script → StaysCoherent told state disk after) → (Fits node_count script → StaysRoomy told state size disk after) → ((node : NodeNo) → made.status ≡ statuses.DiskFault node → IsOnlyTouched told state disk after × (told → MayLeaveUnraised (state disk) (state after))) → ((node : NodeNo) → made.status ≡ statuses.DiskFault node → IsFaultOver own node disk after) → ((node : NodeNo) (at : ℕ) → made.status ≡ statuses.Damaged node at → IsDamageOver told state node at disk after)
+  over_unopened : IsUnopened made.status → (Fits node_count script → IsOnlyTouched told state disk after ⊎ RanOutOfMemory told state own size seed script disk after) → (Fits node_count script → Leaves told state made.status disk after) → (Fits node_count script → StaysCoherent told state disk after) → (Fits node_count script → StaysRoomy told state size disk after) → ((node : NodeNo) → made.status ≡ statuses.DiskFault node → IsOnlyTouched told state disk after × (told → MayLeaveUnraised (state disk) (state after))) → ((node : NodeNo) → made.status ≡ statuses.DiskFault node → IsFaultOver own node disk after) → ((node : NodeNo) (at : ℕ) → made.status ≡ statuses.Damaged node at → IsDamageOver told state node at disk after)
       → IsOver told state own size seed script shown made disk after
-  over_unopened unopened leaves stays spacious touched fault damage = record {
+  over_unopened unopened ran leaves stays spacious touched fault damage = record {
     lawful = nothing_lawful told state script disk nothing_opened made.journal nothing.nothing.entries;
     fault = fault;
     damage = damage;
     whole = λ fits e. absurd (unopened_ends made.status unopened e);
     short = λ fits node is. inl (record { nothing = nothing.nothing; touched = (touched node is).0; kept = (touched node is).1 });
     refused = λ fits line clause is. absurd (subst IsUnopened is unopened);
+    out_of_memory = λ fits is. ran fits;
     leaves = leaves;
     coherent = stays;
     roomy = spacious;
@@ -106,8 +108,8 @@ module _ {D : Type 0} (told : Type 0) (state : D → DiskState) (own size : D �
   leaves_as status is leaves = subst (λ (s : Status). Leaves told state s disk after) (sym is) leaves
 
   -- memory was refused
-  pub over_refused : (Fits node_count script → IsOnlyTouched told state disk after ⊎ IsUntold told state disk after) → (Fits node_count script → StaysCoherent told state disk after) → (Fits node_count script → StaysRoomy told state size disk after) → made.status ≡ statuses.NoMemory → IsOver told state own size seed script shown made disk after
-  over_refused left stays spacious is = over_unopened (subst IsUnopened (sym is) tt) (λ fits. leaves_as statuses.NoMemory is (left fits)) stays spacious
+  pub over_refused : (Fits node_count script → IsOnlyTouched told state disk after ⊎ RanOutOfMemory told state own size seed script disk after) → (Fits node_count script → IsOnlyTouched told state disk after ⊎ IsUntold told state disk after) → (Fits node_count script → StaysCoherent told state disk after) → (Fits node_count script → StaysRoomy told state size disk after) → made.status ≡ statuses.NoMemory → IsOver told state own size seed script shown made disk after
+  over_refused ran left stays spacious is = over_unopened (subst IsUnopened (sym is) tt) ran (λ fits. leaves_as statuses.NoMemory is (left fits)) stays spacious
       (λ node fault. absurd (subst IsRefusedMemory (sym is ∙ fault) tt))
       (λ node fault. absurd (subst IsRefusedMemory (sym is ∙ fault) tt))
       (λ node at damage. absurd (subst IsRefusedMemory (sym is ∙ damage) tt))
@@ -119,12 +121,12 @@ module _ {D : Type 0} (told : Type 0) (state : D → DiskState) (own size : D �
   -- the log was not opened
   pub over_closed : Later → (told → IsImage (state disk).now (state disk).content) → (why : OpenFault) → made.status ≡ not_opened why → IsOnlyTouched told state disk after → (told → (at : ℕ) → why ≡ faults.Damaged at → IsDamaged (2 ^ 61) (state disk).content at) → (why ≡ faults.DiskFailed → Rose (own disk) (own after)) → (told → why ≡ faults.DiskFailed → MayLeaveUnraised (state disk) (state after)) → size after ≡ size disk
       → IsOver told state own size seed script shown made disk after
-  over_closed stay image faults.NoMemory is touched damaged failed kept bytes = over_refused (λ fits. inl touched) (λ fits yes. touched_coherent stay (state disk) (state after) (image yes) (touched yes)) (λ fits. touched_spacious image touched bytes) is
-  over_closed stay image faults.DiskFailed is touched damaged failed kept bytes = over_unopened (subst IsUnopened (sym is) tt) (λ fits. leaves_as (statuses.DiskFault first_node) is (inl touched))
+  over_closed stay image faults.NoMemory is touched damaged failed kept bytes = over_refused (λ fits. inl touched) (λ fits. inl touched) (λ fits yes. touched_coherent stay (state disk) (state after) (image yes) (touched yes)) (λ fits. touched_spacious image touched bytes) is
+  over_closed stay image faults.DiskFailed is touched damaged failed kept bytes = over_unopened (subst IsUnopened (sym is) tt) (λ fits. inl touched) (λ fits. leaves_as (statuses.DiskFault first_node) is (inl touched))
       (λ fits yes. touched_coherent stay (state disk) (state after) (image yes) (touched yes)) (λ fits. touched_spacious image touched bytes) (λ node fault. (touched, λ yes. kept yes refl))
       (λ node fault. record { node_is = sym (same_node (sym is ∙ fault)); rose = failed refl })
       (λ node at damage. absurd (subst IsFaultStatus (sym is ∙ damage) tt))
-  over_closed stay image (faults.Damaged at) is touched damaged failed kept bytes = over_unopened (subst IsUnopened (sym is) tt) (λ fits. leaves_as (statuses.Damaged first_node at) is touched)
+  over_closed stay image (faults.Damaged at) is touched damaged failed kept bytes = over_unopened (subst IsUnopened (sym is) tt) (λ fits. inl touched) (λ fits. leaves_as (statuses.Damaged first_node at) is touched)
       (λ fits yes. touched_coherent stay (state disk) (state after) (image yes) (touched yes)) (λ fits. touched_spacious image touched bytes) (λ node fault. absurd (subst IsDamageStatus (sym is ∙ fault) tt))
       (λ node fault. absurd (subst IsDamageStatus (sym is ∙ fault) tt))
       (λ node place damage. by (sym is ∙ damage))

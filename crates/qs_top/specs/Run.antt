@@ -15,7 +15,7 @@ use Rattle.qs_book_machine.specs.declared.opened.Opened.{Opened}
 use Rattle.qs_world_opening.specs.Coherent.{IsCoherentDisk}
 use Rattle.qs_world_opening.specs.Scripts.{opening_by}
 use Rattle.qs_world_plans.specs.Waiting.{waiting_of}
-use Rattle.qs_world_rounds.specs.Endings.{IsEnding, IsCutShort}
+use Rattle.qs_world_rounds.specs.Endings.{IsEnding, IsCutShort, IsOutOfMemory}
 use Rattle.qs_world_rounds.specs.Rounds.{Cast}
 use Rattle.qs_record.specs.declared.record.Record.{Record}
 use Rattle.qs_world_rounds.specs.Seats.{HasBegun, node_count}
@@ -50,6 +50,15 @@ pub record HasRunShort {D : Type 0} (told : Type 0) (state : D → DiskState) (o
   pub last : Cast D
   pub begins : HasBegun told state own alloc script disk first
   pub ends : IsCutShort told state own size seed first last
+  pub node_is : last.node ≡ node
+
+-- so it stood as memory was refused, in the last of these rounds; no restart told that its log was damaged
+pub record HasRunOut {D : Type 0} (told : Type 0) (state : D → DiskState) (own size : D → ℕ) (seed : ℕ) (script : Script) (disk : D) (node : CellValue D) : Type 0 where
+  pub alloc : Global
+  pub first : Cast D
+  pub last : Cast D
+  pub begins : HasBegun told state own alloc script disk first
+  pub ends : IsOutOfMemory told state own size seed first last
   pub node_is : last.node ≡ node
 
 -- it leaves this disk, on which the log of a node that is up stands
@@ -125,6 +134,12 @@ pub record IsNotBegun {D : Type 0} (told : Type 0) (state : D → DiskState) (jo
   pub nothing : IsNothing journal trace
   pub touched : IsOnlyTouched told state disk after
   pub kept : told → MayLeaveUnraised (state disk) (state after)
+
+-- the node began, and memory was refused in its rounds, or behind them as what it made was judged or told
+pub record RanOutOfMemory {D : Type 0} (told : Type 0) (state : D → DiskState) (own size : D → ℕ) (seed : ℕ) (script : Script) (disk after : D) : Type 0 where
+  pub node : CellValue D
+  pub ran : ((ending : Ending) × HasRun told state own size seed script disk node ending) ⊎ (HasRunShort told state own size seed script disk node ⊎ HasRunOut told state own size seed script disk node)
+  pub left : IsLeftBy told state node after
 
 -- the judge refused the node's journal, at this line for this clause. Where the log was coherent, each entry is a lawful step, and it is for a rule of the
 -- script; and what is left on the disk lasts, as of a run that is told

@@ -11,10 +11,10 @@ ghost use Rattle.qs_text_script.specs.Words.{form_of};
 ghost use Rattle.qs_text_script.specs.declared.reading.ScriptFailed.TheVariants.{Fault};
 ghost use Rattle.qs_book_script.specs.declared.status.ScriptFault.{ScriptFault};
 ghost use Rattle.qs_top.specs.Asking.{asked_by};
-ghost use Rattle.qs_top.specs.Disks.{OfFirst, IsFaultOver, IsDamageOver, Leaves, StaysCoherent, StaysRoomy, AreBesides};
+ghost use Rattle.qs_top.specs.Disks.{OfFirst, IsFaultOver, IsDamageOver, IsOnlyTouched, Leaves, StaysCoherent, StaysRoomy, AreBesides};
 ghost use Rattle.qs_top.specs.Inner.Giving.{IsGiven, IsGivenOf, IsNoScript};
 ghost use Rattle.qs_top.specs.Inner.Over.{IsOver};
-ghost use Rattle.qs_top.specs.Run.{HasLawful, IsNothing, IsNotBegun, IsWhole, IsShort, IsRefused};
+ghost use Rattle.qs_top.specs.Run.{HasLawful, IsNothing, IsNotBegun, IsWhole, IsShort, IsRefused, RanOutOfMemory};
 ghost use Rattle.qs_top.specs.Statuses.{IfNot, IsEnd, IsPastScript, IsOfRun, Gives, Tells};
 ghost use Rattle.qs_top.specs.Texts.{ReadWhole, OfScript};
 ghost use Rattle.qs_top.specs.Verdict.{IsUnlawfulText, IsVerdict, IsOfCheck};
@@ -171,6 +171,10 @@ fn run_source<S: Source, K: Sink, D: Disk>(
     ensures refused { (line clause : ℕ) → result.status ≡ Status.Unlawful line clause
         → ReadWhole 1048576 (S.left source.old) (S.left source.new) (OfScript (λ script. OfFirst
         (IsRefused D.told D.state D.fault_count D.byte_count seed script line clause) disks.old.items disks.new.items)) }
+    ensures out_of_memory { result.status ≡ Status.NoMemory
+        → OfFirst (IsOnlyTouched D.told D.state) disks.old.items disks.new.items
+        ⊎ ReadWhole 1048576 (S.left source.old) (S.left source.new) (OfScript (λ script. OfFirst
+        (RanOutOfMemory D.told D.state D.fault_count D.byte_count seed script) disks.old.items disks.new.items)) }
     ensures silent { IfNot (Gives result.status) (K.given sink.new ≡ K.given sink.old) }
     ensures empty { IfNot (Tells result.status) (IsNothing result.journal result.trace) }
     ensures bound { TakesAtMost 1048577 (S.left source.old) (S.left source.new) }
@@ -263,6 +267,14 @@ pub fn run<R: Threads + Sync, S: Source, K: Sink, D: Disk>(
         → (line clause : ℕ) → result.status ≡ Status.Unlawful line clause
         → ReadWhole 1048576 (S.left source.old) (S.left source.new) (OfScript (λ script. OfFirst
         (IsRefused D.told D.state D.fault_count D.byte_count seed script line clause) disks.old.items disks.new.items)) }
+
+    // Where memory was refused the node did not begin, and the disk was changed at most by the raise; or it began, and memory was
+    // refused in its rounds, or behind them as what it made was judged or told. A restart within a run never finds its log
+    // damaged, over a disk that tells: each was answered, but for the last one where its disk failed or memory was refused in it.
+    ensures out_of_memory { (seed : ℕ) (shown : Bool) → asked_by (form_of words.now) ≡ Some (Asked.Serial seed shown) → result.status ≡ Status.NoMemory
+        → OfFirst (IsOnlyTouched D.told D.state) disks.old.items disks.new.items
+        ⊎ ReadWhole 1048576 (S.left source.old) (S.left source.new) (OfScript (λ script. OfFirst
+        (RanOutOfMemory D.told D.state D.fault_count D.byte_count seed script) disks.old.items disks.new.items)) }
 
     // Else nothing is given, and nothing told.
     ensures silent { IfNot (Gives result.status) (K.given sink.new ≡ K.given sink.old) }

@@ -103,6 +103,8 @@ fn made_of(
         Err(RoundFault::DiskFault { node }) => {
             cut_short(alloc, script, node, opened, journal, trace)
         }
+        // (over a disk that tells it never comes)
+        Err(RoundFault::Damaged) => nothing_made(alloc, Status::NoMemory),
         Err(RoundFault::NoMemory) => nothing_made(alloc, Status::NoMemory),
     }
 }

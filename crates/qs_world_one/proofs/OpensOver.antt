@@ -51,7 +51,7 @@ module _ {D : Type 0} (may : (o : Opening) → MayBegin o) (told : Type 0) (stat
   inc_is = ap (λ (p : Present). p.value.inc) raised.raised
 
   fit : IsFit o
-  fit = fits alloc (λ n. inc_of log) (λ n. log.forced) (λ n low. some (inc_of log) raised.present.value.inc inc_is)
+  fit = fits.opens alloc (λ n. inc_of log) (λ n. log.forced) (λ n low. some (inc_of log) raised.present.value.inc inc_is)
 
   -- who has a seat has it at the only node
   at_first : (client : ClientCell) → Among cast.clients client → place_of script.seats client.client.0 ≡ 0

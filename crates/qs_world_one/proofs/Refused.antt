@@ -180,11 +180,8 @@ module _ {D : Type 0} (told : Type 0) (state : D â†’ DiskState) (own size : D â†
       (inl (each_visit_begins told state size began start old.seat.node breaks.begun old.seat.ends clients breaks.round was))
   node_leaves t true old new (inr (visits, refused)) all was = shown_of new.seat (turns_stand (sources_of old.seat.ends) (record { node = visits.begun; ends = old.seat.ends }) new.seat visits.turns
       (its_turns old.seat.ends all) (inl (each_visit_begins told state size began start old.seat.node visits.begun old.seat.ends clients visits.round was)))
-  node_leaves t false old new (inl starts) all was = itself new.seat.node old.seat.ends
+  node_leaves t false old new starts all was = itself new.seat.node old.seat.ends
       (starts_on told state own size began start old (record new { seat = record { node = new.seat.node; ends = old.seat.ends } }) (Err restart_faults.NoMemory) clients t starts refl was)
-  node_leaves t false old new (inr damaged) all was = itself new.seat.node old.seat.ends
-      (starts_on told state own size began start old (record new { seat = record { node = new.seat.node; ends = old.seat.ends } }) (Err (restart_faults.Damaged damaged.at)) clients t
-      damaged.starts refl was)
 
 -- ---- the round
 

@@ -1,5 +1,5 @@
 -- Each script that is read fits: what holds of the lines so far goes on line by line, and so to each client.
-use Rattle.std.proofs.Common.{◌≡◌, ℕ, ◌+◌, ◌≤◌, ◌<◌, ◌==◌, ◌&&◌, ◌++◌, not, nat_le, nat_lt, Bool, true, false, List, [], ◌∷◌, length, Option, Some, None, Result, Ok, Err, append-nil, refl, sym, ap, subst, ◌∙◌, arith, if◌then◌else◌}
+use Rattle.std.proofs.Common.{◌≡◌, ℕ, ◌+◌, ◌≤◌, ◌<◌, ◌==◌, ◌&&◌, ◌++◌, not, nat_le, nat_lt, Bool, true, false, List, [], ◌∷◌, Option, Some, None, append-nil, refl, sym, ap, subst, ◌∙◌, arith, if◌then◌else◌}
 use Rattle.std.specs.Prelude.{find}
 use Rattle.std.specs.List.{list_all}
 use Rattle.std.proofs.lemmas.Bool.Decides.{nat_tests}
@@ -12,23 +12,19 @@ use Rattle.qs_book_journal.specs.declared.script_line.Command.TheVariants as com
 use Rattle.qs_ops.specs.Operations.{server_of}
 use Rattle.qs_ops.specs.declared.operation.Op.{Op}
 use Rattle.qs_ops.specs.declared.operation.Op.TheVariants as ops
-use Rattle.qs_text_script.specs.Rules.{empty_script, fault_of, fits, is_again, is_begun, is_client, is_known, is_node, is_owner, loan_line, may_use, names_order, sits, with_line}
-use Rattle.qs_text_script.specs.Script.{after_fault, closed_script, left_open, line_past_limit, read_from, script_of, unless_open}
-use Rattle.qs_text_script.specs.declared.reading.ScriptFailed.{ScriptFailed}
-use Rattle.qs_text_script.specs.declared.reading.ScriptFailed.TheVariants.{Fault}
-use Rattle.qs_book_script.specs.Lines.{lines_of}
+use Rattle.qs_text_script.specs.Rules.{is_again, is_begun, is_client, is_known, is_node, is_owner, loan_line, may_use, names_order, sits, with_line}
 use Rattle.qs_book_script.specs.Statements.{line_states}
 use Rattle.qs_book_script.specs.declared.script.Script.{Script}
 use Rattle.qs_book_script.specs.declared.script.Seat.{Seat}
 use Rattle.qs_book_script.specs.declared.statement.Statement.{Statement}
 use Rattle.qs_book_script.specs.declared.statement.Statement.TheVariants as states
-use Rattle.qs_book_script.specs.declared.status.ScriptFault.{ScriptFault}
-use Rattle.qs_book_script.specs.declared.status.ScriptFault.TheVariants as faults
 use Rattle.qs_world.specs.Moves.{client_count}
 use Rattle.qs_world.specs.Openings.{is_audit, is_in_run}
 use Rattle.qs_world_opening.specs.Scripts.{ScriptFits, node_of, place_of}
+use Rattle.qs_world_opening.proofs.FewRounds.{few_rounds}
 use Rattle.qs_world_opening.proofs.FitLines.{AreFit, client_fit, none_fit, one_more, same_fit}
 use Rattle.qs_world_opening.proofs.Labels.{apart_clients}
+use Rattle.qs_world_opening.proofs.Reading.{read_all}
 use Rattle.qs_world_opening.proofs.Stated.{is_own, lines_own}
 use Rattle.qs_world_opening.proofs.Tests.{both, each_so, itself, parts}
 
@@ -111,58 +107,6 @@ module _ (nodes : ℕ) (script : Script) (holds : Holds nodes script) where
   one_line (states.Lend client label to) own known once = lend client to label
   one_line (states.Unreadable fault) own known once = record { seats = holds.seats; audit = holds.audit; lines = same }
 
--- ---- all lines
-
-unbroken : (known again fit : Bool) → (if not known then Some faults.Unknown else if again then Some faults.Twice else if not fit then Some faults.Limit else None) ≡ None → (known ≡ true) × (again ≡ false)
-unbroken false again fit is = absurd (cc is)
-unbroken true true fit is = absurd (cc is)
-unbroken true false fit is = (refl, refl)
-
-allowed : (nodes : ℕ) (script : Script) (s : Statement) → fault_of nodes script s ≡ None → (is_known nodes script s ≡ true) × (is_again script s ≡ false)
-allowed nodes script states.Nothing is = (refl, refl)
-allowed nodes script (states.Seated seat) is = unbroken (is_known nodes script (states.Seated seat)) (is_again script (states.Seated seat)) (fits script (states.Seated seat)) is
-allowed nodes script (states.Limited quota) is = unbroken (is_known nodes script (states.Limited quota)) (is_again script (states.Limited quota)) (fits script (states.Limited quota)) is
-allowed nodes script (states.Audited node) is = unbroken (is_known nodes script (states.Audited node)) (is_again script (states.Audited node)) (fits script (states.Audited node)) is
-allowed nodes script (states.Fault planned) is = unbroken (is_known nodes script (states.Fault planned)) (is_again script (states.Fault planned)) (fits script (states.Fault planned)) is
-allowed nodes script (states.Order client label command) is =
-    unbroken (is_known nodes script (states.Order client label command)) (is_again script (states.Order client label command)) (fits script (states.Order client label command)) is
-allowed nodes script (states.Lend client label to) is = unbroken (is_known nodes script (states.Lend client label to)) (is_again script (states.Lend client label to)) (fits script (states.Lend client label to)) is
-allowed nodes script (states.Unreadable fault) is = (refl, refl)
-
-abbrev or_else : Script → Result Script ScriptFailed → Script
-or_else script (Ok other) = other
-or_else script (Err failed) = script
-
-abbrev read : Script → Result Script ScriptFailed
-read script = Ok script
-
-its_value : (script other : Script) → read script ≡ Ok other → script ≡ other
-its_value script other is = ap (or_else script) is
-
-all_lines : (nodes : ℕ) (lines : List (List ℕ)) (script result : Script) → Holds nodes script → read_from nodes script lines ≡ Ok result → Holds nodes result
-all_lines nodes [] script result holds is = subst (Holds nodes) (its_value script result is) holds
-all_lines nodes (line ∷ lines) script result holds is = by (fault_of nodes script (line_states line)) refl is (λ next. all_lines nodes lines (with_line script (line_states line)) result next)
-  where
-    by : (fault : Option ScriptFault) → fault_of nodes script (line_states line) ≡ fault → after_fault script fault (read_from nodes (with_line script (line_states line)) lines) ≡ Ok result
-        → (Holds nodes (with_line script (line_states line)) → read_from nodes (with_line script (line_states line)) lines ≡ Ok result → Holds nodes result) → Holds nodes result
-    by None none is rest = let p = allowed nodes script (line_states line) none in rest (one_line nodes script holds (line_states line) (lines_own line) p.0 p.1) is
-    by (Some fault) some is rest = absurd (cc is)
-
-read_whole : (nodes : ℕ) (text : List ℕ) (script : Script) → script_of nodes text ≡ Ok script → read_from nodes empty_script (lines_of text) ≡ Ok script
-read_whole nodes text script is = by (nat_lt 1048576 (length text)) is
-  where
-    unopened : (other : Script) (open_line : Option ℕ) → unless_open other open_line ≡ Ok script → read other ≡ Ok script
-    unopened other None is = is
-    unopened other (Some line) is = absurd (cc is)
-
-    closed : (result : Result Script ScriptFailed) → closed_script result ≡ Ok script → result ≡ Ok script
-    closed (Err failed) is = absurd (cc is)
-    closed (Ok other) is = unopened other (left_open other.lines) is
-
-    by : (b : Bool) → (if b then Err (Fault (line_past_limit text) faults.TooLarge) else closed_script (read_from nodes empty_script (lines_of text))) ≡ Ok script → read_from nodes empty_script (lines_of text) ≡ Ok script
-    by true is = absurd (cc is)
-    by false is = closed (read_from nodes empty_script (lines_of text)) is
-
 -- ---- the opening
 
 place_low : (nodes : ℕ) (client : ℕ) (seats : List Seat) → nat_lt 0 nodes ≡ true → list_all (is_seat nodes) seats ≡ true → nat_lt (place_of seats client) nodes ≡ true
@@ -173,15 +117,19 @@ place_low nodes client seats some all = by (find (sits client) seats) refl
     by (Some seat) found = seat_low nodes (sits client) seats seat all found
 
 pub script_fits : (nodes : ℕ) (text : List ℕ) (script : Script) → ScriptFits nodes text script
-script_fits nodes text script least most is alloc incs logs begun = record {
-  size = both (nat_le 1 nodes) (nat_le nodes 16) (at_most 1 nodes least) (at_most nodes 16 most);
-  settings = each_so nodes _ (λ n low. both _ _ (both (n == n) (nodes == nodes) (itself n) (itself nodes)) (both (nat_lt 0 (incs n)) _ (above 0 (incs n) (begun n low)) holds.audit));
-  scripts = each_so client_count _ (λ k low. client_fit nodes script.count (place_of script.seats k) (record { 0 = k }) script.lines holds.lines (place_low nodes k script.seats (above 0 nodes (some nodes least)) holds.seats));
-  labels = apart_clients client_count script.lines holds.lines.apart;
+script_fits nodes text script least most is = record {
+  opens = λ alloc incs logs begun. record {
+    size = both (nat_le 1 nodes) (nat_le nodes 16) (at_most 1 nodes least) (at_most nodes 16 most);
+    settings = each_so nodes _ (λ n low. both _ _ (both (n == n) (nodes == nodes) (itself n) (itself nodes)) (both (nat_lt 0 (incs n)) _ (above 0 (incs n) (begun n low)) holds.audit));
+    scripts = each_so client_count _ (λ k low. client_fit nodes script.count (place_of script.seats k) (record { 0 = k }) script.lines holds.lines (place_low nodes k script.seats (above 0 nodes (some nodes least)) holds.seats));
+    labels = apart_clients client_count script.lines holds.lines.apart;
+  };
+  few = few_rounds nodes text script is;
 }
   where
     holds : Holds nodes script
-    holds = all_lines nodes (lines_of text) empty_script script (record { seats = refl; audit = refl; lines = none_fit nodes }) (read_whole nodes text script is)
+    holds = read_all nodes (Holds nodes) (λ before line right was. one_line nodes before was (line_states line) (lines_own line) right.known right.once) text script
+        (record { seats = refl; audit = refl; lines = none_fit nodes }) is
 
     at_most : (a b : ℕ) → a ≤ b → nat_le a b ≡ true
     at_most a b le = grind (arith, nat_tests, le)

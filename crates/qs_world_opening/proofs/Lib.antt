@@ -1,7 +1,9 @@
+pub mod FewRounds
 pub mod FitLines
 pub mod FitScripts
 pub mod Fresh
 pub mod Labels
+pub mod Reading
 pub mod Rising
 pub mod Stated
 pub mod StaysCoherent

@@ -1,6 +1,7 @@
 -- A run that a script begins, and when the script fits.
-use Rattle.std.specs.Prelude.{◌≡◌, ℕ, ◌<◌, ◌≤◌, ◌&&◌, List, Option, Some, None, Ok, find, true, nat_le}
+use Rattle.std.specs.Prelude.{◌≡◌, ℕ, ◌<◌, ◌≤◌, ◌^◌, ◌&&◌, List, Option, Some, None, Ok, find, true, nat_le}
 use Rattle.std.specs.Global.{Global}
+use Rattle.qs_world_plans.specs.Budget.{most_budget}
 use Rattle.qs_world_plans.specs.Plan.{commands_of, setting_of}
 use Rattle.qs_record.specs.declared.record.Record.{Record}
 use Rattle.qs_text_script.specs.Rules.{sits}
@@ -40,9 +41,10 @@ pub record IsFit (o : Opening) : Type 0 where
   pub scripts : each_below client_count (λ k. is_script o.size k (o.clients k)) ≡ true
   pub labels : are_apart (all_labels o) ≡ true
 
--- over whatever logs, in whatever incarnations
-abbrev pub Fits : ℕ → Script → Type 0
-Fits nodes script = (alloc : Global) (incs : ℕ → ℕ) (logs : ℕ → List Record) → ((n : ℕ) → n < nodes → 0 < incs n) → IsFit (opening_by alloc script nodes incs logs)
+-- over whatever logs, in whatever incarnations; and a run of it has few rounds
+pub record Fits (nodes : ℕ) (script : Script) : Type 0 where
+  pub opens : (alloc : Global) (incs : ℕ → ℕ) (logs : ℕ → List Record) → ((n : ℕ) → n < nodes → 0 < incs n) → IsFit (opening_by alloc script nodes incs logs)
+  pub few : most_budget script ≤ 2 ^ 32
 
 -- ---- the laws
 

@@ -41,3 +41,7 @@ budget_of commands faults crashes = capped (capped (rounds_each * capped (comman
 
 abbrev pub budget : Script → List Entry → ℕ
 budget script journal = budget_of (length script.lines) (length script.faults) (disk_crashes journal)
+
+-- as many as it has where all faults of disks that are counted came
+abbrev pub most_budget : Script → ℕ
+most_budget script = budget_of (length script.lines) (length script.faults) most_disk_crashes

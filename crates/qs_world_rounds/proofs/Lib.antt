@@ -1,5 +1,7 @@
 -- The rounds that a script has.
 pub mod Spending
+-- How often the node is visited.
+pub mod Counting
 -- What carrying and visits leave joined.
 pub mod Joining
 -- The visits of a round.

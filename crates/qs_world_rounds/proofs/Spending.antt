@@ -1,11 +1,11 @@
--- The rounds that a script has are one at least, and no fewer once more entries were made.
+-- The rounds that a script has are one at least, no fewer once more entries were made, and at most those with all faults of disks that are counted.
 use Rattle.std.proofs.Common.{◌≡◌, ◌≤◌, ◌<◌, ◌+◌, ◌*◌, subst, sym, ℕ, List, ◌++◌, length, arith}
 use Rattle.std.specs.List.{count_by}
 use Rattle.std.proofs.lemmas.List.Sums.{sum_by-append}
 use Rattle.std.proofs.lemmas.Nat.{mul-le}
 use Rattle.qs_cell.specs.Visits.{Grows}
 use Rattle.qs_book_journal.specs.declared.entry.Entry.{Entry}
-use Rattle.qs_world_plans.specs.Budget.{capped, budget, budget_of, disk_crashes, rounds_each, tells_disk_crash}
+use Rattle.qs_world_plans.specs.Budget.{capped, budget, budget_of, disk_crashes, most_budget, most_disk_crashes, rounds_each, tells_disk_crash}
 use Rattle.qs_book_script.specs.declared.script.Script.{Script}
 
 capped_more : (a b : ℕ) → a ≤ b → capped a ≤ capped b
@@ -38,6 +38,9 @@ pub budget_more : (script : Script) (old new : List Entry) → Grows old new →
 budget_more script old new grows =
     subst (λ (journal : List Entry). budget script old ≤ budget script journal) (sym grows.is)
     (budget_of_more (length script.lines) (length script.faults) (disk_crashes old) (disk_crashes (old ++ grows.made)) (crashes_more old grows.made))
+
+pub budget_most : (script : Script) (journal : List Entry) → budget script journal ≤ most_budget script
+budget_most script journal = budget_of_more (length script.lines) (length script.faults) (disk_crashes journal) most_disk_crashes (omega arith)
 
 le_on : (a b c : ℕ) → a ≤ b → b ≤ c → a ≤ c
 le_on a b c first second = omega arith

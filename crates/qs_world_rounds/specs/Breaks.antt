@@ -1,9 +1,8 @@
 -- A round that is cut short: the disk of the node failed as the node was started again, or memory was refused.
-use Rattle.std.specs.Prelude.{◌≡◌, ◌⊎◌, ◌<◌, ℕ, zero, suc, Bool, true, false, List, [], ◌∷◌, Err}
+use Rattle.std.specs.Prelude.{◌≡◌, ◌⊎◌, ℕ, zero, suc, Bool, true, false, List, [], ◌∷◌, Err}
 use Rattle.qs_base.specs.Causes.{Rose}
 use Rattle.qs_cell.specs.Starts.{CellValue}
-use Rattle.qs_cell.specs.Logged.{most_rounds}
-use Rattle.qs_cell.specs.State.{StartsAgain, cause_of, disk_of, rounds_of}
+use Rattle.qs_cell.specs.State.{StartsAgain, cause_of, disk_of}
 use Rattle.qs_cell.specs.Visits.{Breaks, Visits}
 use Rattle.qs_cell.specs.declared.state.RestartFault.TheVariants as restart_faults
 use Rattle.qs_disk.specs.Disk.{DiskState}
@@ -44,19 +43,12 @@ pub record BreaksRound {D : Type 0} (told : Type 0) (state : D → DiskState) (o
 
 -- ---- memory was refused
 
--- the log of a node that is down opened as damaged, which over a disk that tells it never does within so many rounds
-pub record NodeDamaged {D : Type 0} (told : Type 0) (state : D → DiskState) (own size : D → ℕ) (old new : CellValue D) : Type 0 where
-  pub at : ℕ
-  pub starts : StartsAgain told state own size old.alloc old.seat.node new.seat.node (Err (restart_faults.Damaged at))
-  pub late : told → most_rounds < rounds_of old.seat.node
-
--- within the visit of a node that is up, be it within a step, which is then cut off or not made; or as one that is down was started again, where
--- damage counts as want of memory
+-- within the visit of a node that is up, be it within a step, which is then cut off or not made; or as one that is down was started again
 abbrev pub NodeRefusedIf : {D : Type 0} → Bool → Type 0 → (D → DiskState) → (D → ℕ) → (D → ℕ) → CellValue D → CellValue D → Type 0
 NodeRefusedIf true told state own size old new =
     Breaks told state own size old.seat new.seat ⊎ (Visits told state own size old.seat new.seat × (is_refused (cause_of new.seat.node) ≡ true))
 NodeRefusedIf false told state own size old new =
-    StartsAgain told state own size old.alloc old.seat.node new.seat.node (Err restart_faults.NoMemory) ⊎ NodeDamaged told state own size old new
+    StartsAgain told state own size old.alloc old.seat.node new.seat.node (Err restart_faults.NoMemory)
 
 -- at the place of the node, or at that of a client, where the node is as it was
 abbrev pub RefusedAt : {D : Type 0} → Type 0 → (D → DiskState) → (D → ℕ) → (D → ℕ) → ℕ → Cast D → Cast D → Type 0

@@ -1,8 +1,8 @@
 -- The actors of a run of one node, and its rounds: what is carried, who is visited, and when a round is quiet.
-use Rattle.std.specs.Prelude.{◌≡◌, ◌↔◌, ℕ, zero, suc, ◌+◌, Bool, true, false, not, ◌&&◌, ◌||◌, List, [], ◌∷◌, length, is_none, Option, Some, None, Ok, slice_get, slice_set}
-use Rattle.std.specs.List.{list_all}
+use Rattle.std.specs.Prelude.{◌≡◌, ◌↔◌, ℕ, zero, suc, ◌+◌, ◌==◌, Bool, true, false, not, ◌&&◌, ◌||◌, List, [], ◌∷◌, length, is_none, Option, Some, None, Ok, slice_get, slice_set}
+use Rattle.std.specs.List.{count_by, list_all}
 use Rattle.qs_cell.specs.Starts.{CellValue, journal_of}
-use Rattle.qs_cell.specs.State.{StartsAgain, cause_of, is_settled_node}
+use Rattle.qs_cell.specs.State.{StartsAgain, cause_of, is_settled_node, rounds_of}
 use Rattle.qs_cell.specs.Visits.{Visits, has_noted}
 use Rattle.qs_client.specs.Progress.{number_at, to_send}
 use Rattle.qs_client.specs.Turns.{Turns}
@@ -120,6 +120,16 @@ Rounds told state own size rng zero old new later = (new ≡ old) × (later ≡ 
 Rounds told state own size rng (suc n) old new later =
     (mid : Cast _) × ((quiet : Bool) × (IsRound told state own size (drawn_order (count_of old) rng).0 old mid quiet
     × Rounds told state own size (drawn_order (count_of old) rng).1 n mid new later))
+
+-- ---- how often the node is visited
+
+-- the visits and restarts of the node so far
+abbrev pub visits_of : {D : Type 0} → Cast D → ℕ
+visits_of cast = rounds_of cast.node.seat.node
+
+-- how often the node stands in an order
+abbrev pub node_turns : List ℕ → ℕ
+node_turns order = count_by (λ place. place == 0) order
 
 -- ---- where the actors stand
 

@@ -1,12 +1,13 @@
 //! The actors of a run of one node: the node and its clients. In a round each is visited once.
-ghost use Rattle.std.specs.Prelude.{◌≡◌, ◌&&◌, ◌||◌, not, IfOk, OnOk, Err};
+ghost use Rattle.std.specs.Prelude.{◌≡◌, ◌<◌, ◌+◌, ◌&&◌, ◌||◌, not, IfOk, OnOk, Err};
 ghost use Rattle.qs_base.specs.declared.identifiers.NodeNo.{NodeNo};
+ghost use Rattle.qs_cell.specs.Logged.{most_rounds};
 ghost use Rattle.qs_cell.specs.Starts.{journal_of};
 ghost use Rattle.qs_cell.specs.Visits.{Grows};
 ghost use Rattle.qs_world_rounds.specs.Breaks.{BreaksRound, FailsAt, RefusedAt, RefusesRound, VisitSome, VisitsUntil};
 ghost use Rattle.qs_world_rounds.specs.Lanes.{AreJoined};
 ghost use Rattle.std.specs.List.{list_all};
-ghost use Rattle.qs_world_rounds.specs.Rounds.{IsRound, has_ended, IsSameStart, VisitAt, VisitAll, CarriesAll, all_ended, are_settled, count_of};
+ghost use Rattle.qs_world_rounds.specs.Rounds.{IsRound, has_ended, IsSameStart, VisitAt, VisitAll, CarriesAll, all_ended, are_settled, count_of, node_turns, visits_of};
 ghost use Rattle.qs_world_rounds.specs.Seats.{first_node};
 ghost use Rattle.qs_world_rounds.specs.declared.faults.RoundFault.TheVariants as faults;
 
@@ -78,11 +79,13 @@ impl<D: Disk> Actors<D> {
     /// What stands in the lanes is carried to their ends, and each actor is visited once, in the order of these places. A
     /// fault of the disk is told where the node was down and could not be started again for it; it comes only where the
     /// disk's own count of faults rose since it was handed in. `NoMemory` comes where memory was refused, be it within a step
-    /// of the node; each visit before that was made.
+    /// of the node; each visit before that was made. `Damaged` comes where the log opened as damaged as the node was started
+    /// again, which over a disk that tells it never does within 2^61 - 2 visits and restarts.
     pub fn round(&mut self, order: &[usize]) -> Result<RoundEnd, RoundFault>
         ensures round { IfOk result (λ end. IsRound D.told D.state D.fault_count D.byte_count order.now self.old self.new end.quiet) }
         ensures broken { (node : NodeNo) → result ≡ Err (faults.DiskFault node) → BreaksRound D.told D.state D.fault_count D.byte_count order.now self.old self.new }
         ensures refused { result ≡ Err faults.NoMemory → RefusesRound D.told D.state D.fault_count D.byte_count order.now self.old self.new }
+        ensures damaged { D.told → result ≡ Err faults.Damaged → most_rounds < visits_of self.old + node_turns order.now }
         ensures named { (node : NodeNo) → result ≡ Err (faults.DiskFault node) → node ≡ first_node }
         ensures start { IsSameStart self.old.node self.new.node }
         ensures grows { Grows (journal_of self.old.node) (journal_of self.new.node) }
@@ -109,6 +112,7 @@ impl<D: Disk> Actors<D> {
         ensures visits { IfOk result (VisitAll D.told D.state D.fault_count D.byte_count order.now self.old self.new) }
         ensures broken { (node : NodeNo) → result ≡ Err (faults.DiskFault node) → VisitSome D.told D.state D.fault_count D.byte_count order.now self.old self.new }
         ensures refused { result ≡ Err faults.NoMemory → VisitsUntil D.told D.state D.fault_count D.byte_count (RefusedAt D.told D.state D.fault_count D.byte_count) order.now self.old self.new }
+        ensures damaged { D.told → result ≡ Err faults.Damaged → most_rounds < visits_of self.old + node_turns order.now }
         ensures named { (node : NodeNo) → result ≡ Err (faults.DiskFault node) → node ≡ first_node }
         ensures start { IsSameStart self.old.node self.new.node }
         ensures grows { Grows (journal_of self.old.node) (journal_of self.new.node) }
@@ -126,6 +130,7 @@ impl<D: Disk> Actors<D> {
         ensures visits { IfOk result (VisitAt D.told D.state D.fault_count D.byte_count place self.old self.new) }
         ensures broken { (node : NodeNo) → result ≡ Err (faults.DiskFault node) → FailsAt D.told D.state D.fault_count D.byte_count place self.old self.new }
         ensures refused { result ≡ Err faults.NoMemory → RefusedAt D.told D.state D.fault_count D.byte_count place self.old self.new }
+        ensures damaged { D.told → result ≡ Err faults.Damaged → most_rounds < visits_of self.old }
         ensures named { (node : NodeNo) → result ≡ Err (faults.DiskFault node) → node ≡ first_node }
         ensures start { IsSameStart self.old.node self.new.node }
         ensures grows { Grows (journal_of self.old.node) (journal_of self.new.node) }

@@ -7,6 +7,8 @@ use qs_base::{NoMemory, NodeNo};
 pub enum RoundFault {
     /// The disk of that node failed as the node was started again.
     DiskFault { node: NodeNo },
+    /// The log of a node opened as damaged as the node was started again.
+    Damaged,
     /// Memory was refused, be it within a step of a node.
     NoMemory,
 }

@@ -1,13 +1,14 @@
 //! The rounds of a run, up to its end.
-ghost use Rattle.std.specs.Prelude.{◌≡◌, ◌≤◌, ◌<◌, ◌&&◌, not, None, Err, IfOk, OnOk, IfSome};
+ghost use Rattle.std.specs.Prelude.{◌≡◌, ◌≤◌, ◌<◌, ◌+◌, ◌&&◌, not, None, Err, IfOk, OnOk, IfSome};
 ghost use Rattle.qs_base.specs.declared.identifiers.NodeNo.{NodeNo};
+ghost use Rattle.qs_cell.specs.Logged.{most_rounds};
 ghost use Rattle.qs_cell.specs.Starts.{journal_of};
 ghost use Rattle.qs_cell.specs.Visits.{Grows};
-ghost use Rattle.qs_world_plans.specs.Budget.{budget};
+ghost use Rattle.qs_world_plans.specs.Budget.{budget, most_budget};
 ghost use Rattle.qs_world_plans.specs.Order.{drawn_order};
 ghost use Rattle.qs_world_rounds.specs.Breaks.{BreaksRound, RefusesRound};
 ghost use Rattle.qs_world_rounds.specs.Endings.{IsEnding, IsCutShort, IsOutOfMemory, IsOver};
-ghost use Rattle.qs_world_rounds.specs.Rounds.{IsRound, IsSameStart, all_ended, are_settled, count_of};
+ghost use Rattle.qs_world_rounds.specs.Rounds.{IsRound, IsSameStart, all_ended, are_settled, count_of, visits_of};
 ghost use Rattle.qs_world_rounds.specs.Seats.{first_node};
 ghost use Rattle.qs_world_rounds.specs.declared.faults.RoundFault.TheVariants as faults;
 
@@ -28,7 +29,8 @@ pub struct Ending {
 }
 
 /// Round after round, in orders that are drawn from the seed, until a quiet round has passed with a script that has not ended,
-/// or with nothing left to do, or until all rounds that the script has are spent.
+/// or with nothing left to do, or until all rounds that the script has are spent. `Damaged` comes where the log opened as damaged
+/// as the node was started again, which over a disk that tells it does only with more than 2^61 - 2 visits and restarts.
 pub fn rounds_of<D: Disk>(
     alloc: Global,
     script: &Script,
@@ -38,6 +40,7 @@ pub fn rounds_of<D: Disk>(
     ensures ending { IfOk result (IsEnding D.told D.state D.fault_count D.byte_count script.now seed actors.old actors.new) }
     ensures cut { (node : NodeNo) → result ≡ Err (faults.DiskFault node) → IsCutShort D.told D.state D.fault_count D.byte_count seed actors.old actors.new }
     ensures refused { result ≡ Err faults.NoMemory → IsOutOfMemory D.told D.state D.fault_count D.byte_count seed actors.old actors.new }
+    ensures damaged { D.told → result ≡ Err faults.Damaged → most_rounds < visits_of actors.old + most_budget script.now }
     ensures named { (node : NodeNo) → result ≡ Err (faults.DiskFault node) → node ≡ first_node }
     ensures start { IsSameStart actors.old.node actors.new.node }
     ensures grows { Grows (journal_of actors.old.node) (journal_of actors.new.node) }
@@ -68,6 +71,7 @@ fn next_round<D: Disk>(
         → BreaksRound D.told D.state D.fault_count D.byte_count (drawn_order (count_of actors.old) orders.old.rng).0 actors.old actors.new }
     ensures refused { result ≡ Err faults.NoMemory
         → RefusesRound D.told D.state D.fault_count D.byte_count (drawn_order (count_of actors.old) orders.old.rng).0 actors.old actors.new }
+    ensures damaged { D.told → result ≡ Err faults.Damaged → most_rounds < visits_of actors.old + 1 }
     ensures named { (node : NodeNo) → result ≡ Err (faults.DiskFault node) → node ≡ first_node }
     ensures start { IsSameStart actors.old.node actors.new.node }
     ensures grows { Grows (journal_of actors.old.node) (journal_of actors.new.node) }

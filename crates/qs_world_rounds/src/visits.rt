@@ -1,8 +1,10 @@
 //! The visits of a round: of the node, and of a client.
-ghost use Rattle.std.specs.Prelude.{◌≡◌, false, true, List, length, slice_get, Err, IfOk, OnErr};
+ghost use Rattle.std.specs.Prelude.{◌≡◌, ◌<◌, false, true, List, length, slice_get, Err, IfOk, OnErr};
 ghost use Rattle.qs_base.specs.declared.identifiers.NodeNo.{NodeNo};
 ghost use Rattle.qs_cell.specs.Joined.{StayJoined};
+ghost use Rattle.qs_cell.specs.Logged.{most_rounds};
 ghost use Rattle.qs_cell.specs.Starts.{journal_of};
+ghost use Rattle.qs_cell.specs.State.{rounds_of};
 ghost use Rattle.qs_cell.specs.Visits.{Grows};
 ghost use Rattle.qs_link.specs.declared.ends.NodeEnds.{NodeEnds};
 ghost use Rattle.qs_world_rounds.specs.Breaks.{NodeFails, NodeRefusedIf};
@@ -19,11 +21,13 @@ use qs_client::ClientCell;
 use qs_disk::Disk;
 use qs_world_plans::NODE;
 
-/// A node that is up makes its events; one that is down is started again. It answers whether anything was done.
+/// A node that is up makes its events; one that is down is started again. It answers whether anything was done. `Damaged` comes
+/// where its log opened as damaged, which over a disk that tells it never does within 2^61 - 2 visits and restarts.
 pub fn visit_node<D: Disk>(node: &mut NodeCell<D>) -> Result<bool, RoundFault>
     ensures visits { IfOk result (NodeVisit D.told D.state D.fault_count D.byte_count node.old node.new) }
     ensures broken { (at : NodeNo) → result ≡ Err (faults.DiskFault at) → NodeFails D.told D.state D.fault_count D.byte_count node.old node.new }
     ensures refused { result ≡ Err faults.NoMemory → NodeRefusedIf (is_up node.old) D.told D.state D.fault_count D.byte_count node.old node.new }
+    ensures damaged { D.told → result ≡ Err faults.Damaged → most_rounds < rounds_of node.old.seat.node }
     ensures named { (at : NodeNo) → result ≡ Err (faults.DiskFault at) → at ≡ first_node }
     ensures start { IsSameStart node.old node.new }
     ensures grows { Grows (journal_of node.old) (journal_of node.new) }
@@ -65,6 +69,7 @@ fn restart<D: Disk>(node: &mut NodeCell<D>) -> Result<bool, RoundFault>
     ensures starts { IfOk result (NodeStarts D.told D.state D.fault_count D.byte_count node.old node.new) }
     ensures broken { (at : NodeNo) → result ≡ Err (faults.DiskFault at) → NodeFails D.told D.state D.fault_count D.byte_count node.old node.new }
     ensures refused { result ≡ Err faults.NoMemory → NodeRefusedIf false D.told D.state D.fault_count D.byte_count node.old node.new }
+    ensures damaged { D.told → result ≡ Err faults.Damaged → most_rounds < rounds_of node.old.seat.node }
     ensures named { (at : NodeNo) → result ≡ Err (faults.DiskFault at) → at ≡ first_node }
     ensures start { IsSameStart node.old node.new }
     ensures grows { Grows (journal_of node.old) (journal_of node.new) }
@@ -73,7 +78,7 @@ fn restart<D: Disk>(node: &mut NodeCell<D>) -> Result<bool, RoundFault>
     match node.restart() {
         Ok(up) => Ok(up),
         Err(RestartFault::DiskFailed) => Err(RoundFault::DiskFault { node: NODE }),
-        Err(RestartFault::Damaged { .. }) => Err(RoundFault::NoMemory),
+        Err(RestartFault::Damaged { .. }) => Err(RoundFault::Damaged),
         Err(RestartFault::NoMemory) => Err(RoundFault::NoMemory),
     }
 }

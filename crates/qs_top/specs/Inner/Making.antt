@@ -64,7 +64,7 @@ IsJudgedShort script node opened journal trace made = IsPassedShort script node 
 
 -- ---- what came of the rounds
 
--- memory was refused: nothing is told
+-- memory was refused, or a restart found its log damaged, which counts as that: nothing is told
 pub record IsOutOfMemory (made : RunMade) : Type 0 where
   pub nothing : IsNothingMade made
   pub status : made.status ≡ statuses.NoMemory
@@ -72,5 +72,6 @@ pub record IsOutOfMemory (made : RunMade) : Type 0 where
 abbrev pub IsMadeOf : Script → Bool → Result Ending RoundFault → Result Opened NoMemory → List Entry → List Step → RunMade → Type 0
 IsMadeOf script shown (Ok ending) (Ok opened) journal trace made = IsJudgedEnd script shown ending opened journal trace made
 IsMadeOf script shown (Err (round_faults.DiskFault node)) (Ok opened) journal trace made = IsJudgedShort script node opened journal trace made
+IsMadeOf script shown (Err round_faults.Damaged) (Ok opened) journal trace made = IsOutOfMemory made
 IsMadeOf script shown (Err round_faults.NoMemory) (Ok opened) journal trace made = IsOutOfMemory made
 IsMadeOf script shown ending (Err fault) journal trace made = IsOutOfMemory made

@@ -9,8 +9,8 @@ use Rattle.qs_world_opening.specs.Scripts.{Fits}
 use Rattle.qs_world_rounds.specs.Seats.{node_count}
 use Rattle.qs_book_script.specs.declared.script.Script.{Script}
 use Rattle.qs_book_script.specs.declared.status.Status.TheVariants as statuses
-use Rattle.qs_top.specs.Disks.{IsHeldIn, IsFaultOver, IsDamageOver, Leaves, StaysCoherent, StaysRoomy}
-use Rattle.qs_top.specs.Run.{machine_over, IsNothing, IsNotBegun, IsWhole, IsShort, IsRefused}
+use Rattle.qs_top.specs.Disks.{IsHeldIn, IsFaultOver, IsDamageOver, IsOnlyTouched, Leaves, StaysCoherent, StaysRoomy}
+use Rattle.qs_top.specs.Run.{machine_over, IsNothing, IsNotBegun, IsWhole, IsShort, IsRefused, RanOutOfMemory}
 use Rattle.qs_top.specs.Statuses.{IfNot, IsEnd, Tells, IsOfRounds}
 use Rattle.qs_top.specs.declared.whole.RunMade.{RunMade}
 
@@ -31,6 +31,7 @@ pub record IsOver {D : Type 0} (told : Type 0) (state : D → DiskState) (own si
   pub whole : Fits node_count script → IsEnd made.status → IsWhole told state own size seed script shown (λ status. made.status ≡ status) (IsOutput made.output) made.journal made.trace disk after
   pub short : Fits node_count script → (node : NodeNo) → made.status ≡ statuses.DiskFault node → IsNotBegun told state made.journal made.trace disk after ⊎ IsShort told state own size seed script made.journal made.trace disk after
   pub refused : Fits node_count script → (line clause : ℕ) → made.status ≡ statuses.Unlawful line clause → IsRefused told state own size seed script line clause disk after
+  pub out_of_memory : Fits node_count script → made.status ≡ statuses.NoMemory → IsOnlyTouched told state disk after ⊎ RanOutOfMemory told state own size seed script disk after
   pub leaves : Fits node_count script → Leaves told state made.status disk after
   pub coherent : Fits node_count script → StaysCoherent told state disk after
   pub roomy : Fits node_count script → StaysRoomy told state size disk after

@@ -1,7 +1,7 @@
 use Rattle.std.proofs.Common.{◌≡◌, ◌⊎◌, ℕ, refl, subst, sym}
 use Rattle.qs_book_script.specs.declared.status.Status.{Status}
-use Rattle.qs_top.specs.Disks.{OfFirst, Leaves, StaysCoherent, StaysRoomy}
-use Rattle.qs_top.specs.Run.{IsNotBegun, IsShort, IsRefused}
+use Rattle.qs_top.specs.Disks.{IsOnlyTouched, OfFirst, Leaves, StaysCoherent, StaysRoomy}
+use Rattle.qs_top.specs.Run.{IsNotBegun, IsShort, IsRefused, RanOutOfMemory}
 use Rattle.qs_top.specs.Texts.{ReadWhole, OfScript}
 use Rattle.qs_top.proofs.Given.{first_alone, nothing_lawful}
 use Rattle.qs_top.proofs.Unopened.{nothing_opened}
@@ -14,6 +14,14 @@ returns-in-Some-Serial-clause-cut_short g c = λ seed shown asked node is.
     subst (λ (s : ℕ). OfFirst (IsNotBegun g.D.Disk.told g.D.Disk.state c.run_source.result.journal c.run_source.result.trace) c.args.disks.now.items c.run_source.new.disks.items
     ⊎ ReadWhole 1048576 (g.S.Source.left c.args.source.now) (g.S.Source.left c.run_source.new.source) (OfScript (λ script. OfFirst (IsShort g.D.Disk.told g.D.Disk.state g.D.Disk.fault_count g.D.Disk.byte_count s script c.run_source.result.journal c.run_source.result.trace) c.args.disks.now.items c.run_source.new.disks.items)))
     same (c.run_source.ensures.cut_short node is)
+
+-- src/running.rt:206:1
+pub returns-in-Some-Serial-clause-out_of_memory : goal.returns-in-Some-Serial-clause-out_of_memory
+returns-in-Some-Serial-clause-out_of_memory g c = λ seed shown asked is.
+    let same : c.in-Some-Serial.seed ≡ seed = cc (c.asked_by.ensures, c.in-Some-Serial.is, c.in-Some-Serial.field-0-is, asked) in
+    subst (λ (s : ℕ). OfFirst (IsOnlyTouched g.D.Disk.told g.D.Disk.state) c.args.disks.now.items c.run_source.new.disks.items
+    ⊎ ReadWhole 1048576 (g.S.Source.left c.args.source.now) (g.S.Source.left c.run_source.new.source) (OfScript (λ script. OfFirst (RanOutOfMemory g.D.Disk.told g.D.Disk.state g.D.Disk.fault_count g.D.Disk.byte_count s script) c.args.disks.now.items c.run_source.new.disks.items)))
+    same (c.run_source.ensures.out_of_memory is)
 
 -- src/running.rt:206:1
 pub returns-in-Some-Serial-clause-refused : goal.returns-in-Some-Serial-clause-refused

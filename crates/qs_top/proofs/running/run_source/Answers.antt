@@ -1,7 +1,7 @@
-use Rattle.std.proofs.Common.{subst, sym}
-use Rattle.qs_top.specs.Disks.{Leaves, StaysCoherent, StaysRoomy}
+use Rattle.std.proofs.Common.{inl, subst, sym}
+use Rattle.qs_top.specs.Disks.{IsOnlyTouched, Leaves, StaysCoherent, StaysRoomy}
 use Rattle.qs_top.specs.Inner.Giving.{IsNoScript}
-use Rattle.qs_top.proofs.Given.{fit, map_both, of_script, nothing_lawful, first_alone, unread_leaves, given_lawful, given_ended, given_cut_off, given_short, given_refused, given_damaged, given_script, given_empty, given_leaves}
+use Rattle.qs_top.proofs.Given.{fit, map_both, of_script, nothing_lawful, first_alone, touched_alone, unread_leaves, given_lawful, given_ended, given_cut_off, given_short, given_out_of_memory, given_refused, given_damaged, given_script, given_empty, given_leaves}
 use Rattle.qs_top.proofs.Unopened.{nothing_opened}
 use Rattle.qs_top.proofs.running.run_source.Goals as goal
 
@@ -42,6 +42,19 @@ pub returns-clause-refused : goal.returns-clause-refused
 returns-clause-refused g c =
     let first = c.run_first-made.ensures.over in
     λ line clause is. of_script c.in-Ok.script _ c.in-Ok.ensures.read (record { first = first.first; after = first.after; rest = first.rest; old_is = first.old_is; new_is = first.new_is; holds = given_refused g.D.Disk.told g.D.Disk.state g.D.Disk.fault_count g.D.Disk.byte_count c.args.seed c.in-Ok.script c.args.shown g.K.Sink.faults g.K.Sink.given c.args.sink.now c.give.new.sink c.run_first-made.result c.give.result first.first first.after first.holds c.give.ensures (fit c.in-Ok.script c.scripts_fit.ensures c.in-Ok.ensures.read) line clause is })
+
+-- src/running.rt:183:24
+pub returns-in-Err-clause-out_of_memory : goal.returns-in-Err-clause-out_of_memory
+returns-in-Err-clause-out_of_memory g c = λ is. inl (first_alone (IsOnlyTouched g.D.Disk.told g.D.Disk.state) (λ d yes. touched_alone (g.D.Disk.state d)) c.args.disks.now.items c.requires.disks)
+
+-- src/running.rt:137:1
+pub returns-clause-out_of_memory : goal.returns-clause-out_of_memory
+returns-clause-out_of_memory g c =
+    let first = c.run_first-made.ensures.over in
+    λ is. map_both
+    (λ touched. record { first = first.first; after = first.after; rest = first.rest; old_is = first.old_is; new_is = first.new_is; holds = touched })
+    (λ ran. of_script c.in-Ok.script _ c.in-Ok.ensures.read (record { first = first.first; after = first.after; rest = first.rest; old_is = first.old_is; new_is = first.new_is; holds = ran }))
+    (given_out_of_memory g.D.Disk.told g.D.Disk.state g.D.Disk.fault_count g.D.Disk.byte_count c.args.seed c.in-Ok.script c.args.shown g.K.Sink.faults g.K.Sink.given c.args.sink.now c.give.new.sink c.run_first-made.result c.give.result first.first first.after first.holds c.give.ensures (fit c.in-Ok.script c.scripts_fit.ensures c.in-Ok.ensures.read) is)
 
 -- src/running.rt:137:1
 pub returns-clause-damaged : goal.returns-clause-damaged

@@ -27,5 +27,5 @@ returns g c = record {
   over = over_ran g.D.Disk.told g.D.Disk.state g.D.Disk.fault_count g.D.Disk.byte_count c.args.seed c.args.script.now c.args.shown c.args.alloc c.args.disk c.into_inner-2.result c.in-Ok.actors c.rounds_of-ending.new.actors (search rules) (search rules) c.rounds_of-ending.ensures.start c.made_of.result
       c.into_node-node.result c.into_parts-disk.result.1 c.into_parts-disk.result.2 (record { node_is = search rules; entries = search rules; steps = search rules; disk = search rules; stands = λ told. c.into_parts-disk.ensures.stands told; logged = λ told. subst (λ disk. EachImage (HasLog c.into_node-node.result.opened) (g.D.Disk.state disk).now) (sym c.into_inner-2.ensures) (c.into_parts-disk.ensures.logged told) })
       (record { ends = c.runs_end_lawful.ensures.ends; cut_short = c.runs_end_lawful.ensures.cut_short; refused = c.refused_runs_leave_coherent_logs.ensures }) (λ told. c.size.ensures.image told)
-      c.rounds_of-ending.result c.opened-opened.result c.rounds_of-ending.ensures.ending c.rounds_of-ending.ensures.cut c.rounds_of-ending.ensures.refused c.rounds_of-ending.ensures.named (search rules) c.made_of.ensures;
+      c.rounds_of-ending.result c.opened-opened.result c.rounds_of-ending.ensures.ending c.rounds_of-ending.ensures.cut c.rounds_of-ending.ensures.refused c.rounds_of-ending.ensures.damaged c.rounds_of-ending.ensures.named (search rules) c.made_of.ensures;
 }

@@ -1,9 +1,10 @@
 use Rattle.std.proofs.Common.{◌+◌, rules}
 use Rattle.qs_cell.specs.Starts.{journal_of}
-use Rattle.qs_world_plans.specs.Budget.{budget}
+use Rattle.qs_world_plans.specs.Budget.{budget, most_budget}
 use Rattle.qs_world_plans.specs.Order.{seeded}
+use Rattle.qs_world_rounds.proofs.Counting.{late_after}
 use Rattle.qs_world_rounds.proofs.Repeating.{rounds_more, ending_with, cut_at, refused_at, same_start}
-use Rattle.qs_world_rounds.proofs.Spending.{lt_le_on, more_on, most_on}
+use Rattle.qs_world_rounds.proofs.Spending.{budget_most, lt_le_on, more_on, most_on}
 use Rattle.qs_world_rounds.proofs.Turning.{grows_on}
 use Rattle.qs_world_rounds.proofs.rounds.rounds_of.Goals as goal
 
@@ -16,6 +17,13 @@ pub returns-in_err-end-clause-refused : goal.returns-in_err-end-clause-refused
 returns-in_err-end-clause-refused g c = λ is.
     refused_at g.D.Disk.told g.D.Disk.state g.D.Disk.fault_count g.D.Disk.byte_count c.args.seed c.loop-rounds.rounds c.args.actors.now c.loop-rounds.actors
     c.next_round.new.actors c.loop-rounds.orders.rng c.loop-rounds.invariant.made (c.in_err-end.ensures.refused (search rules))
+
+pub returns-in_err-end-clause-damaged : goal.returns-in_err-end-clause-damaged
+returns-in_err-end-clause-damaged g c = λ told is.
+    late_after g.D.Disk.told g.D.Disk.state g.D.Disk.fault_count g.D.Disk.byte_count (seeded c.args.seed) c.loop-rounds.rounds (most_budget c.args.script.now) c.args.actors.now
+    c.loop-rounds.actors c.loop-rounds.orders.rng c.loop-rounds.invariant.made
+    (lt_le_on c.loop-rounds.rounds (budget c.args.script.now (journal_of c.loop-rounds.actors.node)) (most_budget c.args.script.now) c.loop-rounds.invariant.more
+    (budget_most c.args.script.now (journal_of c.loop-rounds.actors.node))) (c.in_err-end.ensures.damaged told (search rules))
 
 pub ending_of-requires : goal.ending_of-requires
 ending_of-requires g c =

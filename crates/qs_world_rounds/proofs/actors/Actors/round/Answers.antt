@@ -1,6 +1,8 @@
-use Rattle.std.proofs.Common.{◌∙◌, ap, inr, rules, ◌&&◌, not}
+use Rattle.std.proofs.Common.{◌∙◌, ◌<◌, ◌+◌, ap, inr, rules, subst, ◌&&◌, not}
+use Rattle.qs_cell.specs.Logged.{most_rounds}
+use Rattle.qs_cell.specs.State.{rounds_of}
 use Rattle.qs_world_rounds.specs.Breaks.{RefusedAt, VisitSome, VisitsUntil}
-use Rattle.qs_world_rounds.specs.Rounds.{is_up}
+use Rattle.qs_world_rounds.specs.Rounds.{is_up, node_turns}
 use Rattle.qs_world_rounds.proofs.Turning.{breaks}
 use Rattle.qs_world_rounds.proofs.actors.Actors.round.Goals as goal
 
@@ -15,6 +17,10 @@ returns-in_err-did-clause-refused g c = λ is.
     let until : VisitsUntil g.D.Disk.told g.D.Disk.state g.D.Disk.fault_count g.D.Disk.byte_count (RefusedAt g.D.Disk.told g.D.Disk.state g.D.Disk.fault_count g.D.Disk.byte_count)
     c.args.order.now c.carry.new.self c.visit_all.new.self = search rules in
     inr (c.carry.new.self, (c.in_ok-carry.ensures.carries, until))
+
+pub returns-in_err-did-clause-damaged : goal.returns-in_err-did-clause-damaged
+returns-in_err-did-clause-damaged g c = λ told is.
+    subst (λ node. most_rounds < rounds_of node + node_turns c.args.order.now) c.carry.ensures.node (c.in_err-did.ensures.damaged told (search rules))
 
 pub returns-clause-round : goal.returns-clause-round
 returns-clause-round g c = record {

@@ -2,6 +2,7 @@ use Rattle.std.proofs.Common.{refl, subst, sym, rules, take, ◌+◌}
 use Rattle.qs_cell.specs.Starts.{journal_of}
 use Rattle.qs_world_rounds.specs.Breaks.{FailsAt, RefusedAt}
 use Rattle.qs_world_rounds.specs.Rounds.{VisitAll}
+use Rattle.qs_world_rounds.proofs.Counting.{late_at}
 use Rattle.qs_world_rounds.proofs.Repeating.{same_start}
 use Rattle.qs_world_rounds.proofs.Turning.{visits_more, visits_until, grows_on, grows_none}
 use Rattle.qs_world_rounds.proofs.actors.Actors.visit_all.Goals as goal
@@ -34,6 +35,11 @@ returns-in_err-more-clause-refused g c = λ is.
     let comes = c.in_err-more.ensures.refused (search rules) in
     visits_until g.D.Disk.told g.D.Disk.state g.D.Disk.fault_count g.D.Disk.byte_count (RefusedAt g.D.Disk.told g.D.Disk.state g.D.Disk.fault_count g.D.Disk.byte_count) c.args.order.now
     c.loop-place.place-index _ _ c.args.self.now c.loop-place.self c.visit.new.self c.loop-place.did c.loop-place-test.true refl c.loop-place.invariant.visits comes
+
+pub returns-in_err-more-clause-damaged : goal.returns-in_err-more-clause-damaged
+returns-in_err-more-clause-damaged g c = λ told is.
+    late_at g.D.Disk.told g.D.Disk.state g.D.Disk.fault_count g.D.Disk.byte_count c.args.order.now c.loop-place.place-index c.args.self.now c.loop-place.self c.loop-place.did
+    c.loop-place.invariant.visits (c.in_err-more.ensures.damaged told (search rules))
 
 pub returns-in_err-more-clause-start : goal.returns-in_err-more-clause-start
 returns-in_err-more-clause-start g c = same_start c.args.self.now c.loop-place.self c.visit.new.self c.loop-place.invariant.start c.visit.ensures.start
