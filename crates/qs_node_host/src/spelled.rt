@@ -5,12 +5,20 @@ ghost use Rattle.qs_node_host.specs.Spelled.{AreSpelled, IsSent};
 
 use qs_node_spelled::{is_record, is_sendable};
 use qs_node_step::{Effects, Sending};
+use qs_record::Record;
 
 /// Whether each record and each message has a spelling.
 pub fn are_spelled(out: &Effects) -> bool
     ensures { (result ≡ true) ↔ AreSpelled out.now }
 {
-    out.records.as_slice().iter().all(is_record) && out.messages.as_slice().iter().all(is_sent)
+    out.records.as_slice().iter().all(is_written) && out.messages.as_slice().iter().all(is_sent)
+}
+
+// (a function of this crate, as what is handed to `all` has to be)
+fn is_written(rec: &Record) -> bool
+    ensures { (result ≡ true) ↔ IsRecord rec.now }
+{
+    is_record(rec)
 }
 
 fn is_sent(sending: &Sending) -> bool
