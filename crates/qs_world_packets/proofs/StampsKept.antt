@@ -73,7 +73,7 @@ hello_sent e stamp to_inc p is = rw (sym is) (record { inc = refl; at = refl; me
 idle_is : (e : End Parcel) (stamp : ℕ) (p : Packet Parcel) → Among (idle_packets hello e stamp) p → (packet e e.known 0 stamp hello ≡ p) ⊎ (packet e 0 0 stamp hello ≡ p)
 idle_is e stamp p h = grind (arith, h)
 
-tick_sent : (e : End Parcel) (stamp : ℕ) (p : Packet Parcel) → Among (tick_packets hello e stamp) p → IsSent e stamp p
+pub tick_sent : (e : End Parcel) (stamp : ℕ) (p : Packet Parcel) → Among (tick_packets hello e stamp) p → IsSent e stamp p
 tick_sent e stamp p h = unmet (cases_eq e.known 0)
   where
     idle : (packet e e.known 0 stamp hello ≡ p) ⊎ (packet e 0 0 stamp hello ≡ p) → IsSent e stamp p
@@ -134,7 +134,7 @@ sent_kept e x y h = by (among_append e.kept (x ∷ []) y (plain (e.known == 0) h
     by (inr (inl is)) = inr is
     by (inr (inr none)) = absurd none
 
-message_sent : (e : End Parcel) (x : Parcel) (stamp : ℕ) (p : Packet Parcel) → Among (option_to_list (sent_packet e x stamp)) p → (p.inc ≡ e.mine) × (p.stamp ≡ stamp) × (p.message ≡ x)
+pub message_sent : (e : End Parcel) (x : Parcel) (stamp : ℕ) (p : Packet Parcel) → Among (option_to_list (sent_packet e x stamp)) p → (p.inc ≡ e.mine) × (p.stamp ≡ stamp) × (p.message ≡ x)
 message_sent e x stamp p h = by (e.known == 0) h
   where
     by : (b : Bool) → Among (option_to_list (if b then None else Some (packet e e.known (e.acked + length e.kept + 1) stamp x))) p → (p.inc ≡ e.mine) × (p.stamp ≡ stamp) × (p.message ≡ x)

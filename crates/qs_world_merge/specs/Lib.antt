@@ -1,0 +1,9 @@
+pub mod LocalRuns
+pub mod SameAt
+pub mod MergedByKey
+pub mod MergedRuns
+pub mod PlainPackets
+pub mod StepMoves
+pub mod Observed
+pub mod Reaching
+pub mod SplitRuns
