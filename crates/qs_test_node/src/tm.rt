@@ -171,13 +171,19 @@ fn a_log_brings_back_a_vote(rt: HostRuntime) -> Result<(), Fail> {
         covers: 1,
         changes: List::new(rt.alloc()),
     };
-    let mut manager = Manager::new(rt.alloc(), OTHER, 2, 0, 128);
-    let is_in_doubt = is_in_doubt(&mut manager, &vote);
-    drop(manager);
-    let mut home = Manager::new(rt.alloc(), HOME, 2, 0, 128);
-    let is_unknown = is_unknown(&mut home, &vote);
-    drop(home);
-    drop(vote);
-    assert!(rt; is_in_doubt? && is_unknown?);
+    assert!(rt; is_taken_up(rt.alloc(), &vote)?);
     Ok(())
+}
+
+fn is_taken_up(alloc: Global, vote: &Record) -> Result<bool, Fail> {
+    let mut manager = Manager::new(alloc, OTHER, 2, 0, 128);
+    let is_in_doubt = is_in_doubt(&mut manager, vote);
+    drop(manager);
+    if !is_in_doubt? {
+        return Ok(false);
+    }
+    let mut home = Manager::new(alloc, HOME, 2, 0, 128);
+    let is_unknown = is_unknown(&mut home, vote);
+    drop(home);
+    is_unknown
 }
