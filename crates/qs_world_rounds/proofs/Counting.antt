@@ -1,6 +1,6 @@
 -- How often the node is visited: each visit and each restart is one, an event is none, and the node stands in an order once; so its visits are no more
 -- than the rounds.
-use Rattle.std.proofs.Common.{◌≡◌, ◌∙◌, ◌≤◌, ◌<◌, ◌+◌, ◌-◌, ◌%◌, ◌==◌, ap, subst, sym, refl, ℕ, zero, suc, Bool, true, false, List, [], ◌∷◌, ◌++◌, length, take, Option, Some, None, Ok, arith}
+use Rattle.std.proofs.Common.{◌≡◌, ◌∙◌, ◌≤◌, ◌<◌, ◌+◌, ◌-◌, ◌%◌, ◌==◌, ap, refl, ℕ, zero, suc, Bool, true, false, List, [], ◌∷◌, ◌++◌, length, take, Option, Some, None, Ok, arith}
 use Rattle.std.proofs.lemmas.Bool.Decides.{nat_tests}
 use Rattle.std.proofs.lemmas.List.{length-append}
 use Rattle.std.proofs.lemmas.List.Edits.{length-swap}
@@ -17,7 +17,6 @@ use Rattle.qs_cell.specs.Restart.{IsRestarted, in_round_as}
 use Rattle.qs_cell.specs.Starts.{CellValue}
 use Rattle.qs_cell.specs.State.{IsSeenAs, StartsAgain, Up, carried_of, rounds_of, state_after, state_of}
 use Rattle.qs_cell.specs.Visits.{MakesIn, Seat, TakesTurn, TurnsAll, Visits, due, left_by, sources_of}
-use Rattle.qs_cell.specs.declared.cell.EventSource.{EventSource}
 use Rattle.qs_cell.specs.declared.state.CellState.{CellState}
 use Rattle.qs_cell.specs.declared.state.CellState.TheVariants as states
 use Rattle.qs_cell.specs.declared.state.RestartFault.{RestartFault}
@@ -31,6 +30,7 @@ use Rattle.qs_client.specs.declared.cell.ClientCell.{ClientCell}
 use Rattle.qs_disk.specs.Disk.{DiskState}
 use Rattle.qs_files.specs.declared.files.Files.{Files}
 use Rattle.qs_link.specs.declared.ends.NodeEnds.{NodeEnds}
+use Rattle.qs_node_step.specs.declared.event.ClientAnswer.{ClientAnswer}
 use Rattle.qs_ops.specs.declared.no_server.NoServer.{NoServer}
 use Rattle.qs_world_plans.specs.Order.{drawn_order, places_below, shuffled}
 use Rattle.qs_world_rounds.specs.Rounds.{Cast, CarriesAll, IsRound, NodeVisitIf, Rounds, VisitAll, VisitAt, count_of, is_up, node_turns, visits_of}
@@ -116,7 +116,7 @@ seen_rounds f (states.Down old) (states.Up new) same = absurd same
 -- ---- a visit and a restart are one
 
 module _ {D : Type 0} (told : Type 0) (state : D → DiskState) (own size : D → ℕ) where
-  made_rounds : (occasion : Occasion) (old new : CellState D) (answers : List _) → MakesIn told state own size occasion old new answers → rounds_of new ≡ rounds_of old
+  made_rounds : (occasion : Occasion) (old new : CellState D) (answers : List ClientAnswer) → MakesIn told state own size occasion old new answers → rounds_of new ≡ rounds_of old
   made_rounds occasion (states.Up old) new answers makes = ap (λ (n : CellState D). rounds_of n) makes.node ∙ outcome_rounds own (size old.host.log.disk.disk) occasion old makes.outcome makes.is
   made_rounds occasion (states.Down old) new answers makes = ap (λ (n : CellState D). rounds_of n) makes.0
 
@@ -124,7 +124,7 @@ module _ {D : Type 0} (told : Type 0) (state : D → DiskState) (own size : D �
   turn_rounds None left old new taken = ap (λ (s : Seat D). rounds_of s.node) taken
   turn_rounds (Some occasion) left old new (answers, (makes, ends)) = made_rounds occasion old.node new.node answers makes
 
-  turns_rounds : (sources : List EventSource) (old new : Seat D) → TurnsAll told state own size sources old new → rounds_of new.node ≡ rounds_of old.node
+  turns_rounds : (sources : List _) (old new : Seat D) → TurnsAll told state own size sources old new → rounds_of new.node ≡ rounds_of old.node
   turns_rounds [] old new turns = ap (λ (s : Seat D). rounds_of s.node) turns
   turns_rounds (source ∷ sources) old new (mid, (turn, rest)) =
       turns_rounds sources mid new rest
@@ -157,7 +157,9 @@ module _ {D : Type 0} (told : Type 0) (state : D → DiskState) (own size : D �
   -- ---- a round has as many as the node stands in its order
 
   at_rounds : (place : ℕ) (old new : Cast D) (did : Bool) → VisitAt told state own size place old new did → visits_of new ≤ visits_of old + node_turns (place ∷ [])
-  at_rounds zero old new did visit = node_rounds (is_up old.node) old.node new.node did visit.0
+  at_rounds zero old new did visit =
+      let one : visits_of new ≤ visits_of old + 1 = node_rounds (is_up old.node) old.node new.node did visit.0 in
+      omega (arith, one)
   at_rounds (suc at) old new did visit =
       let same : visits_of new ≡ visits_of old = ap (λ (c : CellValue D). rounds_of c.seat.node) visit.0 in
       omega (arith, same)
