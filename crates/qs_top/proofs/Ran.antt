@@ -120,7 +120,7 @@ module _ {D : Type 0} (told : Type 0) (state : D → DiskState) (own size : D �
       (λ fits. inl (λ yes. absurd (never fits yes))) (λ fits. inl (λ yes. absurd (never fits yes))) (λ fits yes coherent. absurd (never fits yes)) (λ fits yes coherent roomy. absurd (never fits yes)) is
     where
       never : Fits node_count script → told → ⊥
-      never fits yes = never_late told state own alloc script disk first begins fits (late yes)
+      never fits t = never_late told state own alloc script disk first begins fits (late t)
 
   pub over_ran : (ending : Result Ending RoundFault) (opened : Result Opened NoMemory) → IfOk ending (IsEnding told state own size script seed first last) → ((n : NodeNo) → ending ≡ Err (faults.DiskFault n) → IsCutShort told state own size seed first last)
       → (ending ≡ Err faults.NoMemory → IsOutOfMemory told state own size seed first last)
