@@ -17,7 +17,7 @@ use Rattle.qs_book_script.specs.declared.status.Status.TheVariants as statuses
 use Rattle.qs_node_step.specs.declared.trace.Step.{Step}
 use Rattle.qs_disk.specs.Moments.{Keeps}
 use Rattle.qs_log_start.specs.Incarnation.{IsTouched}
-use Rattle.qs_top.specs.Disks.{IsDamageOver, IsOnlyTouched, OfFirst, Leaves}
+use Rattle.qs_top.specs.Disks.{IsDamageOver, IsFaultOver, IsOnlyTouched, OfFirst, Leaves}
 use Rattle.qs_top.specs.Inner.Giving.{IsNoScript, IsGiven, IsGivenOf}
 use Rattle.qs_top.specs.Inner.Over.{IsOver, IsOutput}
 use Rattle.qs_top.specs.Run.{HasLawful, IsNothing, IsNotBegun, IsWhole, IsShort, IsRefused, RanOutOfMemory, machine_over, output_of}
@@ -189,6 +189,9 @@ module _ {D K : Type 0} (told : Type 0) (state : D → DiskState) (own size : D 
 
   pub given_out_of_memory : run.status ≡ statuses.NoMemory → IsOnlyTouched told state disk end ⊎ RanOutOfMemory told state own size seed script disk end
   given_out_of_memory is = over.out_of_memory fits (made_status statuses.NoMemory is (λ same. absurd (cc (same))))
+
+  pub given_disk_fault : (node : NodeNo) → run.status ≡ statuses.DiskFault node → IsFaultOver own node disk end
+  given_disk_fault node is = over.fault node (made_status (statuses.DiskFault node) is (λ same. absurd (cc (same))))
 
   pub given_damaged : (node : NodeNo) (at : ℕ) → run.status ≡ statuses.Damaged node at → IsDamageOver told state node at disk end
   given_damaged node at is = over.damage node at (made_status (statuses.Damaged node at) is (λ same. absurd (cc (same))))

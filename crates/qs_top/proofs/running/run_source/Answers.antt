@@ -1,7 +1,7 @@
 use Rattle.std.proofs.Common.{inl, subst, sym}
 use Rattle.qs_top.specs.Disks.{IsOnlyTouched, Leaves, StaysCoherent, StaysRoomy}
 use Rattle.qs_top.specs.Inner.Giving.{IsNoScript}
-use Rattle.qs_top.proofs.Given.{fit, map_both, of_script, nothing_lawful, first_alone, touched_alone, unread_leaves, given_lawful, given_ended, given_cut_off, given_short, given_out_of_memory, given_refused, given_damaged, given_script, given_empty, given_leaves}
+use Rattle.qs_top.proofs.Given.{fit, map_both, of_script, nothing_lawful, first_alone, touched_alone, unread_leaves, given_lawful, given_ended, given_cut_off, given_short, given_disk_fault, given_out_of_memory, given_refused, given_damaged, given_script, given_empty, given_leaves}
 use Rattle.qs_top.proofs.Unopened.{nothing_opened}
 use Rattle.qs_top.proofs.running.run_source.Goals as goal
 
@@ -55,6 +55,12 @@ returns-clause-out_of_memory g c =
     (λ touched. record { first = first.first; after = first.after; rest = first.rest; old_is = first.old_is; new_is = first.new_is; holds = touched })
     (λ ran. of_script c.in-Ok.script _ c.in-Ok.ensures.read (record { first = first.first; after = first.after; rest = first.rest; old_is = first.old_is; new_is = first.new_is; holds = ran }))
     (given_out_of_memory g.D.Disk.told g.D.Disk.state g.D.Disk.fault_count g.D.Disk.byte_count c.args.seed c.in-Ok.script c.args.shown g.K.Sink.faults g.K.Sink.given c.args.sink.now c.give.new.sink c.run_first-made.result c.give.result first.first first.after first.holds c.give.ensures (fit c.in-Ok.script c.scripts_fit.ensures c.in-Ok.ensures.read) is)
+
+-- src/running.rt:138:1
+pub returns-clause-disk_fault : goal.returns-clause-disk_fault
+returns-clause-disk_fault g c =
+    let first = c.run_first-made.ensures.over in
+    λ node is. record { first = first.first; after = first.after; rest = first.rest; old_is = first.old_is; new_is = first.new_is; holds = given_disk_fault g.D.Disk.told g.D.Disk.state g.D.Disk.fault_count g.D.Disk.byte_count c.args.seed c.in-Ok.script c.args.shown g.K.Sink.faults g.K.Sink.given c.args.sink.now c.give.new.sink c.run_first-made.result c.give.result first.first first.after first.holds c.give.ensures (fit c.in-Ok.script c.scripts_fit.ensures c.in-Ok.ensures.read) node is }
 
 -- src/running.rt:137:1
 pub returns-clause-damaged : goal.returns-clause-damaged
