@@ -79,7 +79,10 @@ impl Rows {
 }
 
 /// Reads all rows.
-fn read_all(rt: &HostRuntime, rows: &mut Rows) -> Result<(), Error> {
+fn read_all<R>(rt: &R, rows: &mut Rows) -> Result<(), Error>
+where
+    R: AllocGlobal + Input + Print + Threads + Sync,
+{
     for line in BufReader::new(rt.alloc(), rt.reader())?.lines(rt.alloc()) {
         rows.read(rt, line?.as_str())?;
     }
