@@ -26,7 +26,7 @@ use Rattle.qs_cell_chronicle.specs.Chronicle.{crashed}
 use Rattle.qs_cell_chronicle.specs.Occasions.{did_of, event_of}
 use Rattle.qs_cell_chronicle.specs.declared.carried.Carried.{Carried}
 use Rattle.qs_cell_chronicle.specs.declared.occasion.Occasion.{Occasion}
-use Rattle.qs_cell.specs.Cell.{IfStands, IsCutOff, IsFaulted, IsRefused, StandsAfter, disk_after, fault_cause, ordered, planned, planned_after, out_of}
+use Rattle.qs_cell.specs.Cell.{IfStands, IsCutOff, IsFaulted, IsRefused, StandsAfter, disk_after, fault_cause, held_back, ordered, planned, planned_after, out_of, IsUnplanned}
 use Rattle.qs_cell.specs.Within.{HasBegun, HasCrashed, IsWorkedOut, HasStepped, running_with}
 use Rattle.qs_cell.specs.Outcomes.{Outcome, outcome_of, stopped_of}
 use Rattle.qs_cell.specs.Outcomes as outcomes
@@ -59,10 +59,10 @@ disk_of_log {D} left mid old is same = is ∙ ap (λ (l : LogValue (FusedValue D
 
 -- ---- the step is worked out
 
-pub unplanned_by : (out out_as : Effects) (s : Seen) (entries : List Act) (points : List Watched) (stops : Bool) → ordered s ≡ None → out ≡ out_as → entries ≡ out.entries
-    → points ≡ s.points → stops ≡ list_any (stops_before entries) points → stops ≡ false → planned out_as s ≡ None
-unplanned_by out out_as s entries points stops none same is_entries is_points is false_is =
-    ap (planned_after out_as s) none ∙ ap (λ (b : Bool). if b then Some causes.Plan else None) never
+pub unplanned_by : (may : Bool) (out out_as : Effects) (s : Seen) (entries : List Act) (points : List Watched) (stops : Bool) → may ≡ true → ordered s ≡ None → out ≡ out_as → entries ≡ out.entries
+    → points ≡ s.points → stops ≡ list_any (stops_before entries) points → stops ≡ false → planned may out_as s ≡ None
+unplanned_by may out out_as s entries points stops may_is none same is_entries is_points is false_is =
+    ap (planned_after may out_as s) none ∙ (ap (λ (b : Bool). held_back b (list_any (stops_before out_as.entries) s.points)) may_is ∙ ap (λ (b : Bool). held_back true b) never)
   where
     never : list_any (stops_before out_as.entries) s.points ≡ false
     never = sym (ap (λ (es : List Act). list_any (stops_before es) s.points) (is_entries ∙ ap (λ (e : Effects). e.entries) same))
@@ -80,7 +80,7 @@ begun_on occasion old mid new begun told commands crashes points setting = recor
 
 pub worked : {D F X : Type 0} (size : ℕ) (occasion : Occasion) (old : Running D F X) (host new : HostValue (FusedValue D)) (carried ready : Carried) (out : Effects)
     → host ≡ old.host → new.node ≡ worked_node size host (event_of occasion) → new.node.kept.saved ≡ host.node.kept.saved → new.log ≡ host.log
-    → out ≡ effects_at size host (event_of occasion) → HasBegun occasion old.carried ready → planned (out_of size occasion old) (seen old.carried) ≡ None
+    → out ≡ effects_at size host (event_of occasion) → HasBegun occasion old.carried ready → IsUnplanned size occasion old
     → IsWorkedOut size occasion old new ready out
 worked {D} size occasion old host new carried ready out same node saved log is begun unplanned = record {
   node = node ∙ ap (λ (h : HostValue (FusedValue D)). worked_node size h (event_of occasion)) same;

@@ -4,16 +4,20 @@ use Rattle.std.specs.List.{list_any}
 use Rattle.qs_base.specs.Causes.{Rose}
 use Rattle.qs_disk.specs.Disk.{DiskState}
 use Rattle.qs_disk.specs.Fuse.{FusedValue, GoesOn, fused_count}
+use Rattle.qs_engage.specs.Engage.{last_number}
 use Rattle.qs_node_host.specs.Host.{effects_at, node_after, log_after, IsLogAfter}
 use Rattle.qs_node_host.specs.Roomy.{LacksRoom}
 use Rattle.qs_book_journal.specs.declared.entry.CrashCause.{CrashCause}
 use Rattle.qs_book_journal.specs.declared.entry.CrashCause.TheVariants as causes
 use Rattle.qs_log.specs.Log.{LogValue, Stands}
 use Rattle.qs_book_machine.specs.Clauses.{is_crash}
+use Rattle.qs_node_step.specs.Counted.{is_all_counted}
+use Rattle.qs_node_step.specs.State.{NodeValue}
 use Rattle.qs_node_step.specs.declared.event.ClientAnswer.{ClientAnswer}
 use Rattle.qs_node_step.specs.declared.event.Effects.{Effects}
 use Rattle.qs_node_step.specs.declared.trace.Did.TheVariants as dids
 use Rattle.qs_cell_chronicle.specs.declared.occasion.Occasion.{Occasion}
+use Rattle.qs_cell_chronicle.specs.declared.occasion.Occasion.TheVariants as occasions
 use Rattle.qs_cell_chronicle.specs.declared.points.Watched.{Watched}
 use Rattle.qs_cell.specs.Outcomes.{Outcome}
 use Rattle.qs_cell.specs.Outcomes as outcomes
@@ -47,18 +51,27 @@ why_not at_last replaced = if at_last then Some (causes.Last last_stamp) else if
 abbrev pub ordered : Seen → Option CrashCause
 ordered s = why_not (is_last s.told) (is_replaced (counted s.told.events) s.crashes)
 
--- or a line names the first entry of its kind, and the whole step would make it
-abbrev pub planned_after : Effects → Seen → Option CrashCause → Option CrashCause
-planned_after out s (Some cause) = Some cause
-planned_after out s None = if list_any (stops_before out.entries) s.points then Some causes.Plan else None
+-- what waits is served where all of it can be counted
+abbrev pub may_make : NodeValue → Occasion → Bool
+may_make node (occasions.Command line) = true
+may_make node occasions.Queues = is_all_counted node
+may_make node occasions.Clock = true
 
-abbrev pub planned : Effects → Seen → Option CrashCause
-planned out s = planned_after out s (ordered s)
+-- or it would raise a count past its last value; or a line names the first entry of its kind, and the whole step would make it
+abbrev pub held_back : Bool → Bool → Option CrashCause
+held_back may stops = if may then (if stops then Some causes.Plan else None) else Some (causes.Last last_number)
+
+abbrev pub planned_after : Bool → Effects → Seen → Option CrashCause → Option CrashCause
+planned_after may out s (Some cause) = Some cause
+planned_after may out s None = held_back may (list_any (stops_before out.entries) s.points)
+
+abbrev pub planned : Bool → Effects → Seen → Option CrashCause
+planned may out s = planned_after may out s (ordered s)
 
 -- that line stops the node once
-abbrev pub spent_after : Effects → Seen → Option CrashCause → List Watched
-spent_after out s (Some cause) = s.points
-spent_after out s None = spent out.entries s.points
+abbrev pub spent_after : Bool → Effects → Seen → Option CrashCause → List Watched
+spent_after may out s (Some cause) = s.points
+spent_after may out s None = if may then spent out.entries s.points else s.points
 
 -- a fault of the disk is by plan where the fuse before it tripped, and else the disk's own, whose count of faults rose or stands at its last value;
 -- where neither count tells it, as that of trips stands at its last value, the fuse tripped
@@ -74,7 +87,7 @@ out_of size occasion old = effects_at size old.host (event_of occasion)
 
 -- no crash is to stand in place of it
 abbrev pub IsUnplanned : {D F X : Type 0} → ℕ → Occasion → Running D F X → Type 0
-IsUnplanned size occasion old = planned (out_of size occasion old) (seen old.carried) ≡ None
+IsUnplanned size occasion old = planned (may_make old.host.node occasion) (out_of size occasion old) (seen old.carried) ≡ None
 
 -- a line stops the node right behind it
 abbrev pub is_followed : {D F X : Type 0} → ℕ → Occasion → Running D F X → Bool
@@ -107,11 +120,11 @@ pub record IsFollowed {D F X : Type 0} (size : ℕ) (occasion : Occasion) (old :
   pub full : new.is_full ≡ false
   pub goes : GoesOn old.host.log.disk.fuse new.disk.fuse
 
--- as the script or the last stamp has it
+-- as the script has it, or the last value of the stamp or of a count
 pub record IsAsPlanned {D F X : Type 0} (size : ℕ) (occasion : Occasion) (old : Running D F X) (new : Stopped D) : Type 0 where
-  pub cause : planned (out_of size occasion old) (seen old.carried) ≡ Some new.cause
+  pub cause : planned (may_make old.host.node occasion) (out_of size occasion old) (seen old.carried) ≡ Some new.cause
   pub commands : new.carried.commands ≡ taken occasion old.carried.setting.inc old.carried.commands
-  pub points : new.carried.points.items ≡ spent_after (out_of size occasion old) (seen old.carried) (ordered (seen old.carried))
+  pub points : new.carried.points.items ≡ spent_after (may_make old.host.node occasion) (out_of size occasion old) (seen old.carried) (ordered (seen old.carried))
 
 -- a crash in place of the event: nothing of it is done, and the disk is as it was
 pub record IsReplaced {D F X : Type 0} (size : ℕ) (occasion : Occasion) (old : Running D F X) (new : Stopped D) : Type 0 where

@@ -14,7 +14,7 @@ ghost use Rattle.qs_cell_chronicle.specs.Carried.{seen, answered};
 ghost use Rattle.qs_cell_chronicle.specs.Occasions.{taken, event_of, did_of};
 ghost use Rattle.qs_cell_chronicle.specs.Points.{after_entries};
 ghost use Rattle.qs_slot.specs.Slot.{SayTheSame};
-ghost use Rattle.qs_cell.specs.Cell.{begun, ordered, why_not, fault_cause, out_of, IsOutcome, IfStands, StandsAfter};
+ghost use Rattle.qs_cell.specs.Cell.{begun, ordered, why_not, may_make, fault_cause, out_of, IsOutcome, IfStands, StandsAfter};
 ghost use Rattle.qs_cell.specs.Outcomes.{stopped_of, outcome_of};
 ghost use Rattle.qs_cell.specs.Roomy.{ComesNew, IsRoomyOutcome};
 ghost use Rattle.qs_cell.specs.Within.{HasBegun, HasCrashed, IsWorkedOut, HasStepped, running_with};
@@ -32,6 +32,9 @@ use qs_disk::{Disk, Fused};
 use qs_node_host::{Host, HostFault};
 use qs_node_step::{ClientAnswer, Did, Effects};
 use qs_ops::Server;
+
+/// A server can count as many requests of a transaction.
+const LAST_NUMBER: u64 = 4_294_967_295;
 
 /// A node that is up, over the log of a disk behind a fuse, and what its cell carries.
 #[derive(Drop)]
@@ -55,7 +58,7 @@ pub enum Fate {
 
 impl<D: Disk, F: Server, X: Server> Running<D, F, X> {
     /// An event: it takes its number and the next stamp. Then, in this order: the last stamp or a line `crash` stops the
-    /// node in place of it; a line `before` does, where the whole step would make the entry that it names; the force is cut
+    /// node in place of it; what waits at the servers does, where not all of it can be counted; a line `before` does, where the whole step would make the entry that it names; the force is cut
     /// off; the step stands; a line `after` stops the node behind it. Memory that is refused stops the node as well, and so does
     /// a step with a record or a message that has no spelling, in place of the event, and a log with no room for a record, which
     /// over a roomy host never comes. Room for a crash is to be made before. Where the node is stopped only `into_stopped` is to
@@ -156,7 +159,8 @@ fn take(
     }
 }
 
-/// What the event brings about is worked out; a line of the script may stop the node in place of it.
+/// What the event brings about is worked out, unless a count would rise past its last value; a line of the script may stop the
+/// node in place of it.
 fn worked_out<D: Disk, F: Server, X: Server>(
     host: &mut Host<Fused<D>, F, X>,
     carried: &mut Carried,
@@ -172,6 +176,9 @@ fn worked_out<D: Disk, F: Server, X: Server>(
     ensures header { D.told → Keeps (SayTheSame (D.state host.old.log.disk.disk).content) (D.state host.old.log.disk.disk) (D.state host.new.log.disk.disk) }
     ensures size { D.byte_count host.new.log.disk.disk ≡ D.byte_count host.old.log.disk.disk }
 {
+    if !may_make(host, &occasion) {
+        return replaced(carried, occasion, CrashCause::Last { value: LAST_NUMBER });
+    }
     let Ok(out) = work_out(host, &occasion) else {
         return replaced(carried, occasion, CrashCause::Memory);
     };
@@ -187,6 +194,16 @@ fn worked_out<D: Disk, F: Server, X: Server>(
         return replaced(carried, occasion, CrashCause::Memory);
     }
     carried_out(host, carried, occasion, out)
+}
+
+/// Whether no count would rise past its last value: what waits is served where all of it can be counted.
+fn may_make<D: Disk, F: Server, X: Server>(host: &Host<Fused<D>, F, X>, occasion: &Occasion) -> bool
+    ensures { result ≡ may_make host.now.node occasion.now }
+{
+    match occasion {
+        Occasion::Queues => host.may_serve(),
+        Occasion::Command { .. } | Occasion::Clock => true,
+    }
 }
 
 /// What the event brings about.

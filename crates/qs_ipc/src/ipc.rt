@@ -1,5 +1,6 @@
 //! The queues of a node.
 ghost use Rattle.std.specs.Prelude.{◌≡◌, ◌↔◌, true, false, [], OnOk, OnErr, IfOk, IfErr};
+ghost use Rattle.std.specs.Map.Iter.{ShowsInOrder, deref_pair};
 ghost use Rattle.std.specs.BTreeMap.{is_at, IsOrdered};
 ghost use Rattle.qs_ipc.specs.declared.delivery.Why.TheVariants as whys;
 ghost use Rattle.qs_ipc.specs.Queue.{is_for, is_full_at, changed_entry, forgotten};
@@ -10,6 +11,7 @@ use crate::queue::Queue;
 use qs_base::{List, NoMemory, NodeNo, ServerNo, Tid};
 use std::alloc::Global;
 use std::collections::BTreeMap;
+use std::collections::btree_map::Iter;
 use std::marker::Model;
 
 /// How many server numbers there are.
@@ -101,6 +103,14 @@ impl Ipc {
         ensures { result ≡ queued self.now }
     {
         self.queues.iter().any(|entry| entry.1.has_some())
+    }
+
+    /// What waits at each server, in order of their numbers.
+    pub fn iter(&self) -> Iter<'_, ServerNo, Queue>
+        ensures rest { result ≡ self.now }
+        ensures runs { ShowsInOrder (deref_pair {K = ServerNo} {X = Queue}) }
+    {
+        self.queues.iter()
     }
 
     /// How many requests of the transaction the server has served since it was last forgotten.

@@ -7,3 +7,4 @@ mod queue;
 
 pub use delivery::{Delivery, Refused, Why};
 pub use ipc::Ipc;
+pub use queue::Queue;

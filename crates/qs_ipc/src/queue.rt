@@ -1,15 +1,18 @@
 //! What waits at one server, first in, first out.
 ghost use Rattle.std.specs.Prelude.{◌≡◌, ◌≤◌, ◌<◌, ◌++◌, OnOk, OnErr, IfErr, is_some, false, map};
+ghost use Rattle.std.specs.Iterator.Runs.{YieldsRefsInOrder};
+ghost use Rattle.std.specs.VecDeque.Iter.{deque_iter_steps, deque_iter_rest};
 ghost use Rattle.std.specs.Map.{lookup};
 ghost use Rattle.std.specs.BTreeMap.{is_at};
 ghost use Rattle.qs_base.specs.Order.{tid_cmp};
 ghost use Rattle.qs_ipc.specs.Ipc.{turns_at};
-ghost use Rattle.qs_ipc.specs.Queue.{no_queue, counts_at, is_full_at, added, first, after_first, forgotten, waits_at, has_some, changed_entry, served_more, mark_stale, marked};
+ghost use Rattle.qs_ipc.specs.Queue.{no_queue, counts_at, count_of, is_full_at, added, first, after_first, forgotten, waits_at, has_some, changed_entry, served_more, mark_stale, marked};
 
 use crate::delivery::Delivery;
 use qs_base::{List, NoMemory, NodeNo, ServerNo, Tid};
 use qs_base_map::newest_first;
 use std::alloc::Global;
+use std::collections::vec_deque::Iter;
 use std::collections::{BTreeMap, VecDeque};
 use std::marker::Model;
 
@@ -53,6 +56,21 @@ impl Queue {
         ensures { result ≡ counts_at self.now.counts tid }
     {
         counts_at(&self.counts, tid)
+    }
+
+    /// How many requests of the transaction wait here.
+    pub fn waiting(&self, tid: Tid) -> u32
+        ensures { result ≡ count_of tid self.now.waiting }
+    {
+        counts_at(&self.counts, tid).waiting
+    }
+
+    /// The requests that wait here, the first to be served first.
+    pub fn iter(&self) -> Iter<'_, Delivery>
+        ensures rest { deque_iter_rest result ≡ self.now.waiting }
+        ensures runs { YieldsRefsInOrder (deque_iter_steps {X = Delivery}) deque_iter_rest }
+    {
+        self.waiting.iter()
     }
 
     /// Whether a request of the transaction came here since it was last forgotten.

@@ -11,6 +11,7 @@ mod beginning;
 mod borrowing;
 mod closing;
 mod commanding;
+mod counting;
 mod happening;
 mod node;
 mod owning;

@@ -8,6 +8,7 @@ ghost use Rattle.qs_tm.specs.Manager as tm;
 ghost use Rattle.qs_node_servers.specs.Kinds.{empty_server, new_servers};
 ghost use Rattle.qs_node_servers.specs.Servers.{server_at};
 ghost use Rattle.qs_node.specs.Pending.{has_holders, is_pending};
+ghost use Rattle.qs_node_step.specs.Counted.{is_all_counted};
 ghost use Rattle.qs_node_step.specs.State.{no_effects, work_on};
 ghost use Rattle.qs_node_step.specs.Opening.{opened_manager, keep_changes, opened_servers, closed_kept, opened_node};
 ghost use Rattle.qs_node_step.specs.Restarts.{begin_incarnation};
@@ -15,6 +16,7 @@ ghost use Rattle.qs_node_step.specs.Settling.{settle};
 ghost use Rattle.qs_node_step.specs.Step.{happen, answer_waiting, step_work, effects_of, accept};
 
 use crate::closing::close_kept;
+use crate::counting::is_all_counted;
 use crate::happening::happen;
 use crate::resuming::begin_incarnation;
 use crate::taking_up::{open_servers, opened_manager};
@@ -162,6 +164,14 @@ impl<F: Server, X: Server> Node<F, X> {
         ensures { result ≡ ipc.queued self.now.queues }
     {
         self.work.node.queues.queued()
+    }
+
+    /// Whether all that waits at its servers can be counted as it is served: no server is to have served more than
+    /// 4,294,967,295 requests of a transaction.
+    pub fn may_serve(&self) -> bool
+        ensures { result ≡ is_all_counted self.now }
+    {
+        is_all_counted(&self.work.node)
     }
 
     /// Whether this node is the home of a transaction that it has not decided.

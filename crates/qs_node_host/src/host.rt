@@ -9,6 +9,7 @@ ghost use Rattle.qs_ops.specs.declared.server.ServerKind.TheVariants as kinds;
 ghost use Rattle.qs_node_servers.specs.Kinds.{empty_server};
 ghost use Rattle.qs_node_servers.specs.Servers.{server_at};
 ghost use Rattle.qs_slot.specs.Slot.{SayTheSame};
+ghost use Rattle.qs_node_step.specs.Counted.{is_all_counted};
 ghost use Rattle.qs_node_step.specs.Opening.{recovered_of};
 ghost use Rattle.qs_node_step.specs.Step.{accept};
 ghost use Rattle.qs_tm.specs.Manager as tm;
@@ -207,6 +208,13 @@ impl<D: Disk, F: Server, X: Server> Host<D, F, X> {
         ensures { result ≡ ipc.queued self.now.node.queues }
     {
         self.node.queued()
+    }
+
+    /// Whether all that waits at the node's servers can be counted as it is served.
+    pub fn may_serve(&self) -> bool
+        ensures { result ≡ is_all_counted self.now.node }
+    {
+        self.node.may_serve()
     }
 
     /// Whether the node is the home of a transaction that it has not decided.

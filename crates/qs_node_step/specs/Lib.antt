@@ -3,6 +3,7 @@ pub mod Asking
 pub mod Borrowing
 pub mod Bringing
 pub mod Commands
+pub mod Counted
 pub mod Deciding
 pub mod Opening
 pub mod Requests

@@ -1,14 +1,9 @@
 -- What happens in the world, one step of one node at a time, and in which order. Each move is a list of moves of the channels.
 use Rattle.std.specs.Prelude.{ℕ, ◌==◌, ◌^◌, ◌+◌, Bool, true, false, not, ◌&&◌, ◌||◌, List, [], ◌∷◌, ◌++◌, map, Option, Some, None, is_some, nat_lt, nat_le, if◌then◌else◌}
-use Rattle.std.specs.List.{list_all}
 use Rattle.qs_base.specs.declared.identifiers.NodeNo.{NodeNo}
-use Rattle.qs_base.specs.declared.identifiers.ServerNo.{ServerNo}
 use Rattle.qs_session_channels.specs.Channels as channel
 use Rattle.qs_session_channels.specs.Channels.{Channels}
 use Rattle.qs_session_channels.specs.Network.{with_at}
-use Rattle.qs_engage.specs.Engage.{last_number}
-use Rattle.qs_ipc.specs.Queue.{QueueValue, count_of}
-use Rattle.qs_ipc.specs.declared.delivery.Delivery.{Delivery}
 use Rattle.qs_book_journal.specs.declared.entry.Act.TheVariants as acts
 use Rattle.qs_book_journal.specs.declared.entry.CrashCause.{CrashCause}
 use Rattle.qs_book_journal.specs.declared.entry.Found.{Found}
@@ -17,14 +12,13 @@ use Rattle.qs_book_machine.specs.Clauses.{is_crash}
 use Rattle.qs_record.specs.declared.record.Record.{Record}
 use Rattle.qs_restart.specs.declared.recovered.OpenVote.{OpenVote}
 use Rattle.qs_restart.specs.declared.recovered.Recovered.{Recovered}
+use Rattle.qs_node_step.specs.Counted.{is_all_counted}
 use Rattle.qs_node_step.specs.declared.event.Effects.{Effects}
 use Rattle.qs_node_step.specs.declared.event.Event.{Event}
 use Rattle.qs_node_step.specs.declared.event.Event.TheVariants as events
 use Rattle.qs_node_step.specs.Opening.{recovered_of, opened_node}
 use Rattle.qs_node_step.specs.State.{NodeValue}
 use Rattle.qs_node_step.specs.Step.{after_step, effects_of}
-use Rattle.qs_tm.specs.Manager as tm
-use Rattle.qs_tm.specs.Participant.{member_of}
 use Rattle.qs_world.specs.World.{Host, Parcel, Client, World, with_host, inc_of, known_of}
 use Rattle.qs_world.specs.Posting.{post_all, next_parcel, entries_of, clients_after, handed, handed_back, next_line}
 
@@ -198,19 +192,9 @@ is_in_order world n stamp =
 abbrev pub is_later : World → ℕ → ℕ → Bool
 is_later world n stamp = is_in_order world n stamp && nat_lt (world.hosts n).stamp stamp
 
--- a request that waits can be counted, and those of its transaction that wait beside it, behind those that the server served of it
-abbrev pub is_counted : NodeValue → ServerNo × QueueValue → Delivery → Bool
-is_counted node queue delivery = elim (tm.part_of delivery.tid node.manager) [
-  | None ↦ true
-  | Some part ↦ nat_le ((member_of part queue.0).served + count_of delivery.tid queue.1.waiting) last_number
-]
-
-abbrev pub are_counted : NodeValue → ServerNo × QueueValue → Bool
-are_counted node queue = list_all (is_counted node queue) queue.1.waiting
-
 -- what waits is served where all of it can be counted
 abbrev pub may_serve : NodeValue → Source → Bool
-may_serve node Queues = list_all (are_counted node) node.queues
+may_serve node Queues = is_all_counted node
 may_serve node source = true
 
 abbrev pub may_step : World → ℕ → ℕ → Source → Bool

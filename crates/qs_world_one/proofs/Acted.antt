@@ -17,7 +17,7 @@ use Rattle.qs_link.specs.declared.ends.NodeEnds.{NodeEnds}
 use Rattle.qs_world_rounds.specs.Rounds.{is_refused}
 use Rattle.qs_world.specs.World.{World}
 use Rattle.qs_world_one.specs.Acting.{AreOfClients, StartsGoOn, TellsHistory, VisitsGoOn}
-use Rattle.qs_world_one.specs.Reached.{IsInWorld, ServesAll}
+use Rattle.qs_world_one.specs.Reached.{IsInWorld}
 use Rattle.qs_world_one.specs.Seats.{HasCell, OfClient, OfNode}
 use Rattle.qs_world_one.specs.Visiting.{IsOwn, IsTurnOf}
 use Rattle.qs_world_one.specs.Rooms.{Began}
@@ -93,24 +93,24 @@ module _ {D : Type 0} (told : Type 0) (state : D → DiskState) (own size : D �
       by (states.Up running) is = refl
       by (states.Down stopped) is = ap is_refused (sym (stays_down stopped sources mid new rest is)) ∙ granted
 
-  own_turns : (sources : List _) (old new : Seat D) → TurnsAll told state own size sources old new → is_refused (cause_of new.node) ≡ false → AreOwn due left_by sources → ServesAll start
+  own_turns : (sources : List _) (old new : Seat D) → TurnsAll told state own size sources old new → is_refused (cause_of new.node) ≡ false → AreOwn due left_by sources
       → IsInWorld told state size began start old.node old.ends clients → IsInWorld told state size began start new.node new.ends clients
-  own_turns [] old new turns granted all serves was = subst (λ (s : Seat D). IsInWorld told state size began start s.node s.ends clients) (sym turns) was
-  own_turns (source ∷ sources) old new (mid, (turn, rest)) granted all serves was = own_turns sources mid new rest granted all.1 serves
-      (each_turn_goes told state own size began start OfNode turn.ready old.ends mid clients (due source turn.ready old.ends) (left_by source turn.ready old.ends) (all.0 turn.ready old.ends) turn.turn (was_granted sources mid new rest granted) serves
+  own_turns [] old new turns granted all was = subst (λ (s : Seat D). IsInWorld told state size began start s.node s.ends clients) (sym turns) was
+  own_turns (source ∷ sources) old new (mid, (turn, rest)) granted all was = own_turns sources mid new rest granted all.1
+      (each_turn_goes told state own size began start OfNode turn.ready old.ends mid clients (due source turn.ready old.ends) (left_by source turn.ready old.ends) (all.0 turn.ready old.ends) turn.turn (was_granted sources mid new rest granted)
       (each_room told state size began start old.node turn.ready old.ends clients turn.same was))
 
   all_turns : (ends : List NodeEnds) (old new : Seat D) → TurnsAll told state own size (map client_source ends ++ sources_of []) old new → is_refused (cause_of new.node) ≡ false → AreOfClients ends clients
-      → ServesAll start → IsInWorld told state size began start old.node old.ends clients → IsInWorld told state size began start new.node new.ends clients
-  all_turns [] old new turns granted all serves was = own_turns (sources_of []) old new turns granted its_own serves was
-  all_turns (end ∷ ends) old new (mid, (turn, rest)) granted all serves was = all_turns ends mid new rest granted (λ e there. all e (inr there)) serves
+      → IsInWorld told state size began start old.node old.ends clients → IsInWorld told state size began start new.node new.ends clients
+  all_turns [] old new turns granted all was = own_turns (sources_of []) old new turns granted its_own was
+  all_turns (end ∷ ends) old new (mid, (turn, rest)) granted all was = all_turns ends mid new rest granted (λ e there. all e (inr there))
       (each_turn_goes told state own size began start (OfClient end.client) turn.ready old.ends mid clients (due (client_source end) turn.ready old.ends) (left_by (client_source end) turn.ready old.ends)
-      (client_turn end (all end (inl refl)) turn.ready old.ends) turn.turn (was_granted (map client_source ends ++ sources_of []) mid new rest granted) serves
+      (client_turn end (all end (inl refl)) turn.ready old.ends) turn.turn (was_granted (map client_source ends ++ sources_of []) mid new rest granted)
       (each_room told state size began start old.node turn.ready old.ends clients turn.same was))
 
 pub each_visit : {D : Type 0} (told : Type 0) (state : D → DiskState) (own size : D → ℕ) (began : Began) (start : World) (old new : Seat D) (clients : List ClientCell) → VisitsGoOn told state own size began start old new clients
-each_visit told state own size began start old new clients visits granted serves all was =
-    all_turns told state own size began start clients old.ends (record { node = visits.begun; ends = old.ends }) new visits.turns granted all serves
+each_visit told state own size began start old new clients visits granted all was =
+    all_turns told state own size began start clients old.ends (record { node = visits.begun; ends = old.ends }) new visits.turns granted all
     (each_visit_begins told state size began start old.node visits.begun old.ends clients visits.round was)
 
 -- whatever the restart answers

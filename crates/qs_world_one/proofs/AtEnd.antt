@@ -26,7 +26,7 @@ use Rattle.qs_world_runs.proofs.JoinedOver.{each_run_lawful}
 use Rattle.qs_world_runs.proofs.RunsGoOn.{runs_go}
 use Rattle.qs_world_one.specs.Ends.{BreaksLawful, EndsLawful, HoldsAtEnd, HoldsUntold, RefusedUntold, first_book}
 use Rattle.qs_world_one.specs.OverLog.{IsOpenedOver, opening_over}
-use Rattle.qs_world_one.specs.Reached.{Reached, ServesAll}
+use Rattle.qs_world_one.specs.Reached.{Reached}
 use Rattle.qs_world_one.specs.Rounding.{IsCastIn}
 use Rattle.qs_world_one.specs.StandsFor.{DiskStandsFor}
 use Rattle.qs_world_one.proofs.Acted.{each_history}
@@ -36,7 +36,6 @@ use Rattle.qs_world_one.proofs.OpensOver.{each_opening}
 use Rattle.qs_world_one.proofs.Refused.{IsShownDisk, round_leaves}
 use Rattle.qs_world_one.proofs.Rounded.{break_goes, round_goes, rounds_go}
 use Rattle.qs_world_one.proofs.SameStart.{IsOpenedAs, break_start, round_start, rounds_start}
-use Rattle.qs_world_one.proofs.ServedAlone.{serves_alone}
 use Rattle.qs_world_one.specs.Rooms.{Began, BeganRoomy, IsRoomyRun, began_over}
 use Rattle.qs_world_one.proofs.Roomed.{each_roomy}
 use Rattle.qs_world_one.proofs.RoomyAlone.{names_alone, news_alone}
@@ -54,9 +53,6 @@ module _ {D : Type 0} (may : (o : Opening) → MayBegin o) (told : Type 0) (stat
 
   was : IsCastIn told state size first (start o) cast
   was = begins_in told state own size alloc script disk cast o t begun opened.opens
-
-  serves : ServesAll (start o)
-  serves = serves_alone o opened.may_begin opened.opens.node.size
 
   with_room : BeganRoomy first → IsRoomyRun first (start o)
   with_room roomy = record { roomy = roomy; names = names_alone o opened.may_begin opened.opens.node.size; begins = news_alone o opened.may_begin }
@@ -79,14 +75,14 @@ module _ {D : Type 0} (may : (o : Opening) → MayBegin o) (told : Type 0) (stat
   pub ended : (rng : Lcg) (n : ℕ) (new : Cast D) (quiet : Bool) → EndsWith told state own size rng n cast new quiet → HoldsAtEnd state size first o new.node
   ended rng n new quiet ends = holds new
       (round_start told state own size (drawn_order (count_of ends.before) ends.drawn).0 ends.before new quiet ends.last ∙ rounds_start told state own size rng (n - 1) cast ends.before ends.drawn ends.earlier)
-      (round_goes told state own size first (start o) t serves (drawn_order (count_of ends.before) ends.drawn).0 ends.before new quiet ends.last
-      (rounds_go told state own size first (start o) t serves rng (n - 1) cast ends.before ends.drawn ends.earlier was))
+      (round_goes told state own size first (start o) t (drawn_order (count_of ends.before) ends.drawn).0 ends.before new quiet ends.last
+      (rounds_go told state own size first (start o) t rng (n - 1) cast ends.before ends.drawn ends.earlier was))
 
   pub broken : (seed : ℕ) (new : Cast D) → IsCutShort told state own size seed cast new → HoldsAtEnd state size first o new.node
   broken seed new cut = holds new
       (break_start told state own size (drawn_order (count_of cut.before) cut.drawn).0 cut.before new cut.broken ∙ rounds_start told state own size (seeded seed) cut.rounds cast cut.before cut.drawn cut.earlier)
-      (break_goes told state own size first (start o) t serves (drawn_order (count_of cut.before) cut.drawn).0 cut.before new cut.broken
-      (rounds_go told state own size first (start o) t serves (seeded seed) cut.rounds cast cut.before cut.drawn cut.earlier was))
+      (break_goes told state own size first (start o) t (drawn_order (count_of cut.before) cut.drawn).0 cut.before new cut.broken
+      (rounds_go told state own size first (start o) t (seeded seed) cut.rounds cast cut.before cut.drawn cut.earlier was))
 
   pub refused : (seed : ℕ) (new : Cast D) → IsOutOfMemory told state own size seed cast new → HoldsUntold first (first_book cast.node) (size (disk_of new.node.seat.node).disk) (state (disk_of new.node.seat.node).disk)
   refused seed new out = subst (λ (d : D). HoldsUntold first (first_book cast.node) (size d) (state d)) (sym left.disk) (record {
@@ -101,8 +97,8 @@ module _ {D : Type 0} (may : (o : Opening) → MayBegin o) (told : Type 0) (stat
   })
     where
       left : IsShownDisk told state size first (start o) new.node.seat.node
-      left = round_leaves told state own size first (start o) t serves (drawn_order (count_of out.before) out.drawn).0 out.before new out.refused
-          (rounds_go told state own size first (start o) t serves (seeded seed) out.rounds cast out.before out.drawn out.earlier was)
+      left = round_leaves told state own size first (start o) t (drawn_order (count_of out.before) out.drawn).0 out.before new out.refused
+          (rounds_go told state own size first (start o) t (seeded seed) out.rounds cast out.before out.drawn out.earlier was)
 
       journal : List Entry
       journal = (carried_of left.shown).chronicle.told.journal

@@ -33,7 +33,6 @@ use Rattle.qs_world_one.specs.Whole.{IsLawfulFromLog, IsRunOfWorld, OpensAsTold}
 use Rattle.qs_world_one.proofs.Acted.{each_history}
 use Rattle.qs_world_one.proofs.Opening.{each_cast}
 use Rattle.qs_world_one.proofs.Rounded.{each_rounds}
-use Rattle.qs_world_one.proofs.ServedAlone.{serves_alone}
 
 -- each lane is of the client that has its seat
 seats_of : (script : Script) (clients : List ClientCell) (ends : List NodeEnds) → AreSeated script clients ends → AreOfClients ends clients
@@ -56,8 +55,8 @@ begins_in told state own size alloc script disk cast o t begun opens = record {
 
 pub each_run : {D : Type 0} (told : Type 0) (state : D → DiskState) (own size : D → ℕ) (alloc : Global) (script : Script) (disk : D) (cast : Cast D) (o : Opening) (rng : Lcg) (n : ℕ) (new : Cast D) (later : Lcg)
     → IsRunOfWorld told state own size alloc script disk cast o rng n new later
-each_run told state own size alloc script disk cast o rng n new later t begun opens rounds is_opening =
-    let now : IsCastIn told state size (began_over state size disk cast.node.seat.node) (start o) new = each_rounds told state own size (began_over state size disk cast.node.seat.node) (start o) rng n cast new later t rounds (serves_alone o is_opening opens.node.size)
+each_run told state own size alloc script disk cast o rng n new later t begun opens rounds =
+    let now : IsCastIn told state size (began_over state size disk cast.node.seat.node) (start o) new = each_rounds told state own size (began_over state size disk cast.node.seat.node) (start o) rng n cast new later t rounds
     (begins_in told state own size alloc script disk cast o t begun opens) in
     each_history told state size (began_over state size disk cast.node.seat.node) (start o) new.node.seat.node new.node.seat.ends new.clients now.carried.shows
 
@@ -87,5 +86,5 @@ pub each_lawful : {D : Type 0} (told : Type 0) (state : D → DiskState) (own si
     → IsLawfulFromLog told state own size alloc script disk cast o rng n new later
 each_lawful told state own size alloc script disk cast o rng n new later t begun opens rounds is_opening =
     subst (λ (b : BookValue). IsLawful b (journal_of new.node)) (each_book told state own alloc script disk cast o t begun opens)
-    (lawful_in told state size (began_over state size disk cast.node.seat.node) o is_opening new (each_rounds told state own size (began_over state size disk cast.node.seat.node) (start o) rng n cast new later t rounds (serves_alone o is_opening opens.node.size)
+    (lawful_in told state size (began_over state size disk cast.node.seat.node) o is_opening new (each_rounds told state own size (began_over state size disk cast.node.seat.node) (start o) rng n cast new later t rounds
     (begins_in told state own size alloc script disk cast o t begun opens)))

@@ -48,7 +48,6 @@ pub mod Numbers
 pub mod Rounded
 -- A whole run.
 pub mod Entire
-pub mod ServedAlone
 -- The opening of a run.
 pub mod OpensOver
 -- What the node was opened with stays.

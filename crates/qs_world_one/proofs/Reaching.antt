@@ -34,13 +34,13 @@ use Rattle.qs_node_step.specs.declared.event.ClientAnswer.{ClientAnswer}
 use Rattle.qs_node_step.specs.declared.event.Effects.{Effects}
 use Rattle.qs_node_step.specs.declared.setting.Setting.{Setting}
 use Rattle.qs_world.specs.Moves as world_moves
-use Rattle.qs_world.specs.Moves.{Move, cut_log, may_move, may_serve, moved}
+use Rattle.qs_world.specs.Moves.{Move, cut_log, may_move, moved}
 use Rattle.qs_world.specs.Runs.{Run}
 use Rattle.qs_world.specs.World.{Host, World}
-use Rattle.qs_world_one.specs.Events.{MovesTo, cut_of, source_of, step_of, stop_behind, stop_of}
+use Rattle.qs_world_one.specs.Events.{MovesTo, cut_of, step_of, stop_behind, stop_of}
 use Rattle.qs_world_one.specs.Beginnings.{rise_of}
-use Rattle.qs_world_one.specs.Reached.{EventsGoOn, HasReached, IsHalted, IsInWorld, IsRunning, Reached, RestartsGoOn, ServesAll}
-use Rattle.qs_world_one.specs.Seats.{From, IsDueFrom, IsGiven, SeatDown, SeatUp, left}
+use Rattle.qs_world_one.specs.Reached.{EventsGoOn, HasReached, IsHalted, IsInWorld, IsRunning, Reached, RestartsGoOn}
+use Rattle.qs_world_one.specs.Seats.{From, IsDueFrom, SeatDown, SeatUp, left}
 use Rattle.qs_world_one.specs.Rooms.{Began}
 use Rattle.qs_world_one.proofs.Seated as seated
 use Rattle.qs_disk.specs.Moments.{Keeps}
@@ -136,72 +136,64 @@ module _ {D : Type 0} (told : Type 0) (state : D → DiskState) (own size : D �
         → EachImage (HasReached stopped.carried.setting.inc) (state stopped.disk.disk).now
     incs_of stopped same images image at = subst (λ (s : Setting). HasReached s.inc image) (sym same) (none_behind image (images image at))
 
-    pub goes_on : (o : Outcome D Files NoServer) → IsOutcome own bytes occasion old o → IsGranted o → IsGiven occasion old
+    pub goes_on : (o : Outcome D Files NoServer) → IsOutcome own bytes occasion old o → IsGranted o
         → (told → IfStands o (λ disk. StandsAfter out old.host.log disk (state disk.disk)))
         → (told → Keeps (IsOldOrAfter out old.host.log) (state old.host.log.disk.disk) (state (disk_of (state_of o)).disk)) → size (disk_of (state_of o)).disk ≡ bytes
         → IsInWorld told state size began start (state_of o) (all_delivered (answers_of o) (left source old ends)) clients
-    goes_on (outcomes.Whole running said) is granted given stands moments same = record {
-      reached = reach start (step_of bytes occasion old) was.reached (λ world seat. seated.whole bytes source occasion old ends clients world due_is seat given running said is);
+    goes_on (outcomes.Whole running said) is granted stands moments same = record {
+      reached = reach start (step_of bytes occasion old) was.reached (λ world seat. seated.whole bytes source occasion old ends clients world due_is seat running said is);
       inc = ap (λ (l : LogValue (FusedValue D)). inc_of l) is.log ∙ (inc_after ∙ sym (ap (λ (s : Setting). s.inc) is.setting));
       stands = λ t. subst (λ (l : LogValue (FusedValue D)). Stands l (state running.host.log.disk.disk)) (sym is.log) (stands t);
-      roomy = λ t. made_roomy state own size began start source occasion old ends clients due_is was.reached given (outcomes.Whole running said) is same (moments t) (was.roomy t);
+      roomy = λ t. made_roomy state own size began start source occasion old ends clients due_is was.reached (outcomes.Whole running said) is same (moments t) (was.roomy t);
     }
-    goes_on (outcomes.Followed stopped said) is granted given stands moments same = record {
+    goes_on (outcomes.Followed stopped said) is granted stands moments same = record {
       first = kept_log;
       other = kept_log;
       to_first = reached;
       to_other = reached;
       images = λ t. one_log (record (log_after out old.host.log) { disk = stopped.disk }) (state stopped.disk.disk) (stands t);
       incs = λ t. incs_of stopped is.setting (moments t).here;
-      roomy = λ t. made_roomy state own size began start source occasion old ends clients due_is was.reached given (outcomes.Followed stopped said) is same (moments t) (was.roomy t);
+      roomy = λ t. made_roomy state own size began start source occasion old ends clients due_is was.reached (outcomes.Followed stopped said) is same (moments t) (was.roomy t);
     }
       where
         reached : Reached start (SeatDown stopped (all_delivered said (left source old ends)) clients kept_log)
         reached = reach_then start (step_of bytes occasion old) (stop_behind old stopped.cause)
-            (reach start (step_of bytes occasion old) was.reached (λ world seat. seated.followed bytes source occasion old ends clients world due_is seat given stopped said is))
-    goes_on (outcomes.Replaced stopped) is granted given stands moments same = record {
+            (reach start (step_of bytes occasion old) was.reached (λ world seat. seated.followed bytes source occasion old ends clients world due_is seat stopped said is))
+    goes_on (outcomes.Replaced stopped) is granted stands moments same = record {
       first = lost_log;
       other = lost_log;
       to_first = reached;
       to_other = reached;
       images = λ t. subst (λ (d : FusedValue D). EachImage (HasOneOf lost_log lost_log) (state d.disk).now) (sym is.disk) (one_log old.host.log (state old.host.log.disk.disk) (was.stands t));
       incs = λ t. incs_of stopped is.setting (moments t).here;
-      roomy = λ t. made_roomy state own size began start source occasion old ends clients due_is was.reached given (outcomes.Replaced stopped) is same (moments t) (was.roomy t);
+      roomy = λ t. made_roomy state own size began start source occasion old ends clients due_is was.reached (outcomes.Replaced stopped) is same (moments t) (was.roomy t);
     }
       where
         reached : Reached start (SeatDown stopped (left source old ends) clients lost_log)
         reached = reach start (stop_of old stopped.cause) was.reached (λ world seat. seated.replaced bytes source occasion old ends clients world due_is seat stopped is granted)
-    goes_on (outcomes.CutOff stopped) is granted given stands moments same = record {
+    goes_on (outcomes.CutOff stopped) is granted stands moments same = record {
       first = lost_log;
       other = kept_log;
       to_first = reach start (cut_of bytes occasion old false stopped.cause) was.reached (λ world seat. cut_with world seat false lost_log (cut_lost old.carried.chronicle.told.stamp old.host out (world.hosts 0) seat.node.host));
       to_other = reach start (cut_of bytes occasion old true stopped.cause) was.reached (λ world seat. cut_with world seat true kept_log (cut_kept old.carried.chronicle.told.stamp old.host out (world.hosts 0) seat.node.host));
       images = λ t image at. either image ((moments t).here image at);
       incs = λ t. incs_of stopped is.setting (moments t).here;
-      roomy = λ t. made_roomy state own size began start source occasion old ends clients due_is was.reached given (outcomes.CutOff stopped) is same (moments t) (was.roomy t);
+      roomy = λ t. made_roomy state own size began start source occasion old ends clients due_is was.reached (outcomes.CutOff stopped) is same (moments t) (was.roomy t);
     }
       where
         cut_with : (world : World) → SeatUp old ends clients world → (is_kept : Bool) (log : List Record) → cut_log (world.hosts 0) is_kept out ≡ log
             → MovesTo (SeatDown stopped (left source old ends) clients log) (cut_of bytes occasion old is_kept stopped.cause) world
         cut_with world seat is_kept log same =
             subst (λ (l : List Record). MovesTo (SeatDown stopped (left source old ends) clients l) (cut_of bytes occasion old is_kept stopped.cause) world) same
-            (seated.cut bytes source occasion old ends clients world due_is seat own stopped given.counted is is_kept)
-
--- the run leads to a world whose host has the node
-pub given_in : {D : Type 0} (told : Type 0) (state : D → DiskState) (size : D → ℕ) (began : Began) (start : World) (occasion : Occasion) (old : Up D) (ends : List NodeEnds) (clients : List ClientCell)
-    → IsRunning told state size began start old ends clients → ServesAll start → IsGiven occasion old
-given_in told state size began start occasion old ends clients was serves = record {
-  counted = ap (λ (h : Host). may_serve h.node (source_of occasion)) (sym was.reached.shows.node.host)
-      ∙ serves was.reached.moves was.reached.world was.reached.run was.reached.shows.node.up (source_of occasion);
-}
+            (seated.cut bytes source occasion old ends clients world due_is seat own stopped is is_kept)
 
 pub each_event : {D : Type 0} (told : Type 0) (state : D → DiskState) (own size : D → ℕ) (began : Began) (start : World) (source : From) (occasion : Occasion) (old : Up D) (new : CellState D) (ends : List NodeEnds) (clients : List ClientCell) (answers : List ClientAnswer)
     → EventsGoOn told state own size began start source occasion old new ends clients answers
-each_event told state own size began start source occasion old new ends clients answers makes granted serves due_is was =
+each_event told state own size began start source occasion old new ends clients answers makes granted due_is was =
     subst (λ (n : CellState _). IsInWorld told state size began start n (all_delivered answers (left source old ends)) clients) (sym makes.node)
     (subst (λ (a : List ClientAnswer). IsInWorld told state size began start (state_of makes.outcome) (all_delivered a (left source old ends)) clients) (sym makes.said)
     (goes_on told state own size began start source occasion old ends clients due_is was makes.outcome makes.is
-    (granted_by makes.outcome (subst (λ (n : CellState _). is_refused (cause_of n) ≡ false) makes.node granted)) (given_in told state size began start occasion old ends clients was serves) makes.stands
+    (granted_by makes.outcome (subst (λ (n : CellState _). is_refused (cause_of n) ≡ false) makes.node granted)) makes.stands
     (λ t. subst (λ (n : CellState _). Keeps (IsOldOrAfter (out_of (size old.host.log.disk.disk) occasion old) old.host.log) (state old.host.log.disk.disk) (state (disk_of n).disk)) makes.node (makes.moments t))
     (subst (λ (n : CellState _). size (disk_of n).disk ≡ size old.host.log.disk.disk) makes.node makes.bytes)))
 

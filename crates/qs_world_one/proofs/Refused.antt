@@ -25,13 +25,13 @@ use Rattle.qs_world_rounds.specs.Rounds.{Cast, is_refused, is_up}
 use Rattle.qs_node_step.specs.declared.event.ClientAnswer.{ClientAnswer}
 use Rattle.qs_world.specs.World.{World}
 use Rattle.qs_world_one.specs.Acting.{AreOfClients}
-use Rattle.qs_world_one.specs.Reached.{IsInWorld, IsRunning, ServesAll}
+use Rattle.qs_world_one.specs.Reached.{IsInWorld, IsRunning}
 use Rattle.qs_world_one.specs.Rounding.{IsCastIn}
 use Rattle.qs_world_one.specs.Seats.{From, IsDueFrom, OfClient, OfNode}
 use Rattle.qs_world_one.specs.Visiting.{IsOwn, IsTurnOf}
 use Rattle.qs_world_one.specs.Rooms.{Began}
 use Rattle.qs_world_one.proofs.Acted.{client_turn, its_own, starts_on, turn_down}
-use Rattle.qs_world_one.proofs.Reaching.{given_in, goes_on}
+use Rattle.qs_world_one.proofs.Reaching.{goes_on}
 use Rattle.qs_world_one.proofs.Rounded.{carries_go, visit_goes}
 use Rattle.qs_world_one.proofs.Visited.{each_room, each_turn_goes, each_visit_begins}
 
@@ -49,7 +49,7 @@ due_from : {D : Type 0} (from : From) (running : Up D) (ends : List NodeEnds) (c
 due_from (OfClient number) running ends clients is_due left occasion turn is = (sym turn.is.0 ∙ is, turn.cell)
 due_from OfNode running ends clients is_due left occasion turn is = subst IsOwn is turn.0
 
-module _ {D : Type 0} (told : Type 0) (state : D → DiskState) (own size : D → ℕ) (began : Began) (start : World) (clients : List ClientCell) (serves : ServesAll start) where
+module _ {D : Type 0} (told : Type 0) (state : D → DiskState) (own size : D → ℕ) (began : Began) (start : World) (clients : List ClientCell) where
   abbrev Shown : CellState D → Type 0
   Shown node = IsShownDisk told state size began start node
 
@@ -76,11 +76,11 @@ module _ {D : Type 0} (told : Type 0) (state : D → DiskState) (own size : D �
         disk = ap (λ (d : FusedValue D). d.disk) is.disk;
       }
       by (outcomes.Whole running said) is stands moments same =
-          itself (states.Up running) _ (goes_on told state own size began start from occasion old ends clients due_is was (outcomes.Whole running said) is tt (given_in told state size began start occasion old ends clients was serves) stands moments same)
+          itself (states.Up running) _ (goes_on told state own size began start from occasion old ends clients due_is was (outcomes.Whole running said) is tt stands moments same)
       by (outcomes.Followed stopped said) is stands moments same =
-          itself (states.Down stopped) _ (goes_on told state own size began start from occasion old ends clients due_is was (outcomes.Followed stopped said) is tt (given_in told state size began start occasion old ends clients was serves) stands moments same)
+          itself (states.Down stopped) _ (goes_on told state own size began start from occasion old ends clients due_is was (outcomes.Followed stopped said) is tt stands moments same)
       by (outcomes.CutOff stopped) is stands moments same =
-          itself (states.Down stopped) _ (goes_on told state own size began start from occasion old ends clients due_is was (outcomes.CutOff stopped) is tt (given_in told state size began start occasion old ends clients was serves) stands moments same)
+          itself (states.Down stopped) _ (goes_on told state own size began start from occasion old ends clients due_is was (outcomes.CutOff stopped) is tt stands moments same)
 
   -- ---- turns: the node goes on in the world while it is up, and once it is down its disk stays
 
@@ -126,7 +126,7 @@ module _ {D : Type 0} (told : Type 0) (state : D → DiskState) (own size : D �
     up_turn running is_due left turn taken now = by mid.node refl
       where
         by : (node : CellState D) → mid.node ≡ node → Stands mid
-        by (states.Up after) is = inl (each_turn_goes told state own size began start from (states.Up running) old.ends mid clients is_due left turn taken (ap (λ (n : CellState D). is_refused (cause_of n)) is) serves now)
+        by (states.Up after) is = inl (each_turn_goes told state own size began start from (states.Up running) old.ends mid clients is_due left turn taken (ap (λ (n : CellState D). is_refused (cause_of n)) is) now)
         by (states.Down stopped) is = inr (record { stopped = stopped; is = is; left = down_after running is_due left stopped turn taken now is })
 
   turn_stands : (source : _) (from : From) → ((ready : CellState D) (ends : List NodeEnds) → IsTurnOf from ready ends clients (due source ready ends) (left_by source ready ends))
@@ -185,20 +185,20 @@ module _ {D : Type 0} (told : Type 0) (state : D → DiskState) (own size : D �
 
 -- ---- the round
 
-module _ {D : Type 0} (told : Type 0) (state : D → DiskState) (own size : D → ℕ) (began : Began) (start : World) (t : told) (serves : ServesAll start) where
+module _ {D : Type 0} (told : Type 0) (state : D → DiskState) (own size : D → ℕ) (began : Began) (start : World) (t : told) where
   cast_leaves : (cast : Cast D) → IsCastIn told state size began start cast → IsShownDisk told state size began start cast.node.seat.node
   cast_leaves cast was = record { shown = cast.node.seat.node; ends = cast.node.seat.ends; clients = cast.clients; in_world = was.carried.shows; disk = refl }
 
   at_leaves : (place : ℕ) (old new : Cast D) → RefusedAt told state own size place old new → IsCastIn told state size began start old → IsShownDisk told state size began start new.node.seat.node
-  at_leaves zero old new refused was = node_leaves told state own size began start old.clients serves t (is_up old.node) old.node new.node refused was.lanes was.carried.shows
+  at_leaves zero old new refused was = node_leaves told state own size began start old.clients t (is_up old.node) old.node new.node refused was.lanes was.carried.shows
   at_leaves (suc at) old new same was = subst (λ (c : CellValue D). IsShownDisk told state size began start c.seat.node) (sym same) (cast_leaves old was)
 
   until_leaves : (places : List ℕ) (old new : Cast D) → VisitsUntil told state own size (RefusedAt told state own size) places old new → IsCastIn told state size began start old
       → IsShownDisk told state size began start new.node.seat.node
   until_leaves [] old new visits was = absurd visits
   until_leaves (place ∷ places) old new (inl refused) was = at_leaves place old new refused was
-  until_leaves (place ∷ places) old new (inr (mid, (did, (visit, rest)))) was = until_leaves places mid new rest (visit_goes told state own size began start t serves place old mid did visit was)
+  until_leaves (place ∷ places) old new (inr (mid, (did, (visit, rest)))) was = until_leaves places mid new rest (visit_goes told state own size began start t place old mid did visit was)
 
   pub round_leaves : (order : List ℕ) (old new : Cast D) → RefusesRound told state own size order old new → IsCastIn told state size began start old → IsShownDisk told state size began start new.node.seat.node
   round_leaves order old new (inl same) was = subst (IsShownDisk told state size began start) (sym same) (cast_leaves old was)
-  round_leaves order old new (inr (carried, (carries, visits))) was = until_leaves order carried new visits (carries_go told state own size began start t serves old carried carries was)
+  round_leaves order old new (inr (carried, (carries, visits))) was = until_leaves order carried new visits (carries_go told state own size began start t old carried carries was)

@@ -49,7 +49,7 @@ use Rattle.qs_world.specs.World.{Host, World}
 use Rattle.qs_world_one.specs.Events.{Comes, source_of, stamp_at}
 use Rattle.qs_world_one.specs.Reached.{IsHalted, IsInWorld, Reached}
 use Rattle.qs_world_one.specs.Rooms.{Began, IsRoomyCell, IsRoomyDisk, IsRoomyRun}
-use Rattle.qs_world_one.specs.Seats.{From, IsDueFrom, IsGiven, SeatDown, SeatUp}
+use Rattle.qs_world_one.specs.Seats.{From, IsDueFrom, SeatDown, SeatUp}
 use Rattle.qs_world_one.specs.Shown.{ShowsUp}
 use Rattle.qs_world_one.proofs.Seated as seated
 use Rattle.qs_world_one.proofs.Steps as steps
@@ -61,7 +61,7 @@ set_as old new keep extra set = record { enough = set.enough; keep_is = keep ∙
 -- ---- an event
 
 module _ {D : Type 0} (state : D → DiskState) (own size : D → ℕ) (began : Began) (start : World) (source : From) (occasion : Occasion) (old : Up D) (ends : List NodeEnds) (clients : List ClientCell)
-    (due_is : IsDueFrom source occasion old ends clients) (reached : Reached start (SeatUp old ends clients)) (given : IsGiven occasion old) where
+    (due_is : IsDueFrom source occasion old ends clients) (reached : Reached start (SeatUp old ends clients)) where
   abbrev bytes : ℕ
   bytes = size old.host.log.disk.disk
 
@@ -72,7 +72,7 @@ module _ {D : Type 0} (state : D → DiskState) (own size : D → ℕ) (began : 
       (record { may = steps.may bytes occasion old reached.world reached.shows.node comes unplanned; comes = comes.comes (stamp_at old) }))
     where
       comes : Comes occasion reached.world
-      comes = seated.comes_with bytes source occasion old ends clients reached.world due_is reached.shows given.counted
+      comes = seated.comes_with bytes source occasion old ends clients reached.world due_is reached.shows unplanned
 
   -- a step that was to be made found room
   step_roomy : (o : Outcome D Files NoServer) → IsRoomyRun began start → IsRoomyCell state size began (states.Up old) → IsUnplanned bytes occasion old → IsOutcome own bytes occasion old o

@@ -12,7 +12,7 @@ use Rattle.qs_world.specs.World.{World}
 use Rattle.rand_pcg.specs.Lcg.{Lcg}
 use Rattle.qs_world_one.specs.Acting.{AreOfClients}
 use Rattle.qs_world_one.specs.Carrying.{AreApart, IsCarried}
-use Rattle.qs_world_one.specs.Reached.{IsInWorld, ServesAll}
+use Rattle.qs_world_one.specs.Reached.{IsInWorld}
 use Rattle.qs_world_one.specs.Rounding.{BreaksGoOn, IsCastIn, RoundsGoOn}
 use Rattle.qs_world_one.specs.Rooms.{Began}
 use Rattle.qs_world_one.proofs.Acted.{each_start, each_visit, starts_on}
@@ -23,10 +23,10 @@ visit_keeps : (o : Option ClientCell) (at : ℕ) (olds news : List ClientCell) (
 visit_keeps None at olds news did got visit = ap (map number_of) visit.0
 visit_keeps (Some client) at olds news did got (after, (visit, is)) = ap (map number_of) is ∙ set_numbers olds at client after got visit.client
 
-module _ {D : Type 0} (told : Type 0) (state : D → DiskState) (own size : D → ℕ) (began : Began) (start : World) (t : told) (serves : ServesAll start) where
+module _ {D : Type 0} (told : Type 0) (state : D → DiskState) (own size : D → ℕ) (began : Began) (start : World) (t : told) where
   node_goes : (up : Bool) (old new : CellValue D) (did : Bool) (clients : List ClientCell) → NodeVisitIf up told state own size old new did
       → AreOfClients old.seat.ends clients → IsInWorld told state size began start old.seat.node old.seat.ends clients → IsInWorld told state size began start new.seat.node new.seat.ends clients
-  node_goes true old new did clients acts all was = each_visit told state own size began start old.seat new.seat clients acts.visits acts.granted serves all was
+  node_goes true old new did clients acts all was = each_visit told state own size began start old.seat new.seat clients acts.visits acts.granted all was
   node_goes false old new did clients starts all was = each_start told state own size began start old new did clients t starts was
 
   node_keeps : (up : Bool) (old new : CellValue D) (did : Bool) → NodeVisitIf up told state own size old new did → numbers_of new.seat.ends ≡ numbers_of old.seat.ends
@@ -88,7 +88,7 @@ module _ {D : Type 0} (told : Type 0) (state : D → DiskState) (own size : D �
   break_goes order old new broken was = some_go order broken.carried new broken.visits (carries_go old broken.carried broken.carries was)
 
 pub each_rounds : {D : Type 0} (told : Type 0) (state : D → DiskState) (own size : D → ℕ) (began : Began) (start : World) (rng : Lcg) (n : ℕ) (old new : Cast D) (later : Lcg) → RoundsGoOn told state own size began start rng n old new later
-each_rounds told state own size began start rng n old new later t rounds serves was = rounds_go told state own size began start t serves rng n old new later rounds was
+each_rounds told state own size began start rng n old new later t rounds was = rounds_go told state own size began start t rng n old new later rounds was
 
 pub each_break : {D : Type 0} (told : Type 0) (state : D → DiskState) (own size : D → ℕ) (began : Began) (start : World) (order : List ℕ) (old new : Cast D) → BreaksGoOn told state own size began start order old new
-each_break told state own size began start order old new t broken serves was = break_goes told state own size began start t serves order old new broken was
+each_break told state own size began start order old new t broken was = break_goes told state own size began start t order old new broken was

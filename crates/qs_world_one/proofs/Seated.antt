@@ -2,13 +2,13 @@
 use Rattle.std.proofs.Common.{◌≡◌, ◌⊎◌, ◌∙◌, ap, inl, inr, refl, subst, sym, ℕ, ◌==◌, Bool, true, false, List, Option, Some, None, arith}
 use Rattle.std.proofs.lemmas.Bool.Decides.{nat_tests}
 use Rattle.std.specs.Global.{Global}
-use Rattle.qs_cell.specs.Cell.{IsAsPlanned, IsCutOff, IsFollowed, IsReplaced, IsWhole, out_of}
+use Rattle.qs_cell.specs.Cell.{IsAsPlanned, IsCutOff, IsFollowed, IsReplaced, IsUnplanned, IsWhole, may_make, out_of}
 use Rattle.qs_cell.specs.Restart.{IsStillDown, inc_of}
 use Rattle.qs_cell.specs.State.{Up}
 use Rattle.qs_cell.specs.Visits.{all_delivered}
 use Rattle.qs_cell.specs.declared.stopped.Stopped.{Stopped}
-use Rattle.qs_cell_chronicle.specs.Carried.{Commands, Seen, answered}
-use Rattle.qs_cell_chronicle.specs.Chronicle.{Told, in_round}
+use Rattle.qs_cell_chronicle.specs.Carried.{Commands, Seen, answered, is_replaced, seen}
+use Rattle.qs_cell_chronicle.specs.Chronicle.{Told, counted, in_round, is_last}
 use Rattle.qs_cell_chronicle.specs.Occasions.{event_of, taken}
 use Rattle.qs_cell_chronicle.specs.declared.occasion.Occasion.{Occasion}
 use Rattle.qs_cell_chronicle.specs.declared.occasion.Occasion.TheVariants as occasions
@@ -30,13 +30,14 @@ use Rattle.qs_world.specs.World.{Client, Host, World}
 use Rattle.qs_world_one.specs.Beginnings.{rise_of}
 use Rattle.qs_world_one.specs.Clients.{ShowsClient}
 use Rattle.qs_world_one.specs.Events.{Comes, MovesTo, cut_of, source_of, stamp_at, step_of, stop_behind, stop_of}
-use Rattle.qs_world_one.specs.Seats.{From, IsDueFrom, IsGiven, RisesInSeat, SeatDown, SeatUp, ShowsEach, left}
+use Rattle.qs_world_one.specs.Seats.{From, IsDueFrom, RisesInSeat, SeatDown, SeatUp, ShowsEach, left}
 use Rattle.qs_world_one.specs.Showing.{AnswersRight, IsInHand, ShowsIn, held_for}
 use Rattle.qs_world_one.specs.Shown.{ShowsDown, ShowsTold, ShowsUp}
 use Rattle.qs_world_one.proofs.AnswersOut.{each_answers, each_handed_back, each_hands}
 use Rattle.qs_world_one.proofs.Begins.{each_rises}
 use Rattle.qs_world_one.proofs.Handing.{itself}
 use Rattle.qs_world_one.proofs.InHand.{answers_right, none_waits, still_held}
+use Rattle.qs_world_one.proofs.Stamps.{may_be_made}
 use Rattle.qs_world_one.proofs.Steps as steps
 use Rattle.qs_world_one.proofs.Steps.{each_whole}
 use Rattle.qs_world_one.proofs.Stops.{each_cut, each_followed, each_replaced}
@@ -71,6 +72,12 @@ back_same occasions.Clock clients k at = refl
 
 -- ---- each event
 
+-- the cell tests what the world asks of a step
+serves_as : (occasion : Occasion) (node : NodeValue) → may_serve node (source_of occasion) ≡ may_make node occasion
+serves_as (occasions.Command line) node = refl
+serves_as occasions.Queues node = refl
+serves_as occasions.Clock node = refl
+
 module _ {D : Type 0} (size : ℕ) (source : From) (occasion : Occasion) (old : Up D) (ends : List NodeEnds) (clients : List ClientCell) (world : World) (due_is : IsDueFrom source occasion old ends clients) (seat : SeatUp old ends clients world) where
   abbrev inc : ℕ
   inc = old.carried.setting.inc
@@ -84,8 +91,13 @@ module _ {D : Type 0} (size : ℕ) (source : From) (occasion : Occasion) (old : 
   it : IsTaken source occasion old ends clients world
   it = event_taken source occasion old ends clients world due_is seat
 
-  pub comes_with : may_serve old.host.node (source_of occasion) ≡ true → Comes occasion world
-  comes_with counted = record { comes = it.comes; served = ap (λ (h : Host). may_serve h.node (source_of occasion)) seat.node.host ∙ counted }
+  pub comes_with : IsUnplanned size occasion old → Comes occasion world
+  comes_with unplanned = record {
+    comes = it.comes;
+    served = ap (λ (h : Host). may_serve h.node (source_of occasion)) seat.node.host
+        ∙ (serves_as occasion old.host.node
+        ∙ may_be_made (may_make old.host.node occasion) (is_last old.carried.chronicle.told) (is_replaced (counted old.carried.chronicle.told.events) old.carried.crashes) (out_of size occasion old) (seen old.carried) unplanned);
+  }
 
   -- each is answered who has a command in hand, and what waits on is in hand
   right : AnswersRight in_hand_then (out_of size occasion old).answers
@@ -106,38 +118,34 @@ module _ {D : Type 0} (size : ℕ) (source : From) (occasion : Occasion) (old : 
   each_back client there = on_clients inc None in_hand_then (left source old ends) (handed_back 0 over) (handed_back 0 world.clients) client (back_same occasion world.clients client.client.0 (seat.each client there).shows.at)
       (each_handed_back inc (Some inc) in_hand_then (left source old ends) over client (it.each client there))
 
-  module _ (given : IsGiven occasion old) where
-    comes : Comes occasion world
-    comes = comes_with given.counted
+  pub whole : (new : Up D) (said : List ClientAnswer) → IsWhole size occasion old new said → MovesTo (SeatUp new (all_delivered said (left source old ends)) clients) (step_of size occasion old) world
+  whole new said is = record {
+    may = goes.may;
+    leads = record {
+      node = goes.leads;
+      rising = subst (λ (c : Commands). IsRising client_cmp c) (sym commands_are) told_rising;
+      held = subst (λ (n : NodeValue). IsInHand n.commands new.carried.commands) (sym is.node)
+          (subst (λ (c : Commands). IsInHand (node_after size old.host (event_of occasion)).commands c) (sym commands_are) still);
+      each = λ client there. shown client (on_clients inc (Some inc) (answered (out_of size occasion old).answers in_hand_then) (all_delivered (out_of size occasion old).answers (left source old ends))
+          (clients_after (out_of size occasion old).answers over) (moved (step_of size occasion old) world).clients client (sym (world_clients client.client.0)) (each_told client there));
+    };
+  }
+    where
+      goes : MovesTo (ShowsUp new) (step_of size occasion old) world
+      goes = each_whole size occasion old new said world is seat.node (comes_with is.unplanned)
 
-    pub whole : (new : Up D) (said : List ClientAnswer) → IsWhole size occasion old new said → MovesTo (SeatUp new (all_delivered said (left source old ends)) clients) (step_of size occasion old) world
-    whole new said is = record {
-      may = goes.may;
-      leads = record {
-        node = goes.leads;
-        rising = subst (λ (c : Commands). IsRising client_cmp c) (sym commands_are) told_rising;
-        held = subst (λ (n : NodeValue). IsInHand n.commands new.carried.commands) (sym is.node)
-            (subst (λ (c : Commands). IsInHand (node_after size old.host (event_of occasion)).commands c) (sym commands_are) still);
-        each = λ client there. shown client (on_clients inc (Some inc) (answered (out_of size occasion old).answers in_hand_then) (all_delivered (out_of size occasion old).answers (left source old ends))
-            (clients_after (out_of size occasion old).answers over) (moved (step_of size occasion old) world).clients client (sym (world_clients client.client.0)) (each_told client there));
-      };
-    }
-      where
-        goes : MovesTo (ShowsUp new) (step_of size occasion old) world
-        goes = each_whole size occasion old new said world is seat.node comes
+      commands_are : new.carried.commands ≡ answered (out_of size occasion old).answers in_hand_then
+      commands_are = ap (λ (s : Seen). s.commands) is.seen
 
-        commands_are : new.carried.commands ≡ answered (out_of size occasion old).answers in_hand_then
-        commands_are = ap (λ (s : Seen). s.commands) is.seen
+      world_clients : (k : ℕ) → (moved (step_of size occasion old) world).clients k ≡ clients_after (out_of size occasion old).answers over k
+      world_clients k = ap (λ (w : World). w.clients k) (steps.leads size occasion old world seat.node (comes_with is.unplanned) is.unplanned)
 
-        world_clients : (k : ℕ) → (moved (step_of size occasion old) world).clients k ≡ clients_after (out_of size occasion old).answers over k
-        world_clients k = ap (λ (w : World). w.clients k) (steps.leads size occasion old world seat.node comes is.unplanned)
-
-        shown : (client : ClientCell) → ShowsIn inc (Some inc) (answered (out_of size occasion old).answers in_hand_then) (all_delivered (out_of size occasion old).answers (left source old ends)) (moved (step_of size occasion old) world).clients client
-            → ShowsIn new.carried.setting.inc (Some new.carried.setting.inc) new.carried.commands (all_delivered said (left source old ends)) (moved (step_of size occasion old) world).clients client
-        shown client s =
-            subst (λ (n : Setting). ShowsIn n.inc (Some n.inc) new.carried.commands (all_delivered said (left source old ends)) (moved (step_of size occasion old) world).clients client) (sym is.setting)
-            (subst (λ (c : Commands). ShowsIn inc (Some inc) c (all_delivered said (left source old ends)) (moved (step_of size occasion old) world).clients client) (sym commands_are)
-            (subst (λ (a : List ClientAnswer). ShowsIn inc (Some inc) (answered (out_of size occasion old).answers in_hand_then) (all_delivered a (left source old ends)) (moved (step_of size occasion old) world).clients client) (sym is.answers) s))
+      shown : (client : ClientCell) → ShowsIn inc (Some inc) (answered (out_of size occasion old).answers in_hand_then) (all_delivered (out_of size occasion old).answers (left source old ends)) (moved (step_of size occasion old) world).clients client
+          → ShowsIn new.carried.setting.inc (Some new.carried.setting.inc) new.carried.commands (all_delivered said (left source old ends)) (moved (step_of size occasion old) world).clients client
+      shown client s =
+          subst (λ (n : Setting). ShowsIn n.inc (Some n.inc) new.carried.commands (all_delivered said (left source old ends)) (moved (step_of size occasion old) world).clients client) (sym is.setting)
+          (subst (λ (c : Commands). ShowsIn inc (Some inc) c (all_delivered said (left source old ends)) (moved (step_of size occasion old) world).clients client) (sym commands_are)
+          (subst (λ (a : List ClientAnswer). ShowsIn inc (Some inc) (answered (out_of size occasion old).answers in_hand_then) (all_delivered a (left source old ends)) (moved (step_of size occasion old) world).clients client) (sym is.answers) s))
 
   -- what stopped shows the clients so
   down : (new : Stopped D) (commands : Commands) (others : List NodeEnds) (f g : ℕ → Client) → new.carried.commands ≡ commands → new.carried.setting ≡ old.carried.setting → ((k : ℕ) → g k ≡ f k)
@@ -151,9 +159,9 @@ module _ {D : Type 0} (size : ℕ) (source : From) (occasion : Occasion) (old : 
   each_told_back : ShowsEach inc None (answered (out_of size occasion old).answers in_hand_then) (all_delivered (out_of size occasion old).answers (left source old ends)) (handed_back 0 (clients_after (out_of size occasion old).answers over)) clients
   each_told_back client there = each_handed_back inc (Some inc) (answered (out_of size occasion old).answers in_hand_then) (all_delivered (out_of size occasion old).answers (left source old ends)) (clients_after (out_of size occasion old).answers over) client (each_told client there)
 
-  pub followed : IsGiven occasion old → (new : Stopped D) (said : List ClientAnswer) → IsFollowed size occasion old new said
+  pub followed : (new : Stopped D) (said : List ClientAnswer) → IsFollowed size occasion old new said
       → MovesTo (MovesTo (SeatDown new (all_delivered said (left source old ends)) clients (log_after (out_of size occasion old) old.host.log).forced) (stop_behind old new.cause)) (step_of size occasion old) world
-  followed given new said is = record {
+  followed new said is = record {
     may = goes.may;
     leads = record {
       may = goes.leads.may;
@@ -168,13 +176,13 @@ module _ {D : Type 0} (size : ℕ) (source : From) (occasion : Occasion) (old : 
   }
     where
       goes : MovesTo (MovesTo (ShowsDown new (log_after (out_of size occasion old) old.host.log).forced) (stop_behind old new.cause)) (step_of size occasion old) world
-      goes = each_followed size occasion old new said world is seat.node (comes_with given.counted)
+      goes = each_followed size occasion old new said world is seat.node (comes_with is.unplanned)
 
       commands_are : new.carried.commands ≡ answered (out_of size occasion old).answers in_hand_then
       commands_are = ap (λ (s : Seen). s.commands) is.seen
 
       world_clients : (k : ℕ) → (moved (stop_behind old new.cause) (moved (step_of size occasion old) world)).clients k ≡ handed_back 0 (clients_after (out_of size occasion old).answers over) k
-      world_clients k = ap (λ (w : World). handed_back 0 w.clients k) (steps.leads size occasion old world seat.node (comes_with given.counted) is.unplanned)
+      world_clients k = ap (λ (w : World). handed_back 0 w.clients k) (steps.leads size occasion old world seat.node (comes_with is.unplanned) is.unplanned)
 
   pub replaced : (new : Stopped D) → IsReplaced size occasion old new → is_refused (Some new.cause) ≡ false → MovesTo (SeatDown new (left source old ends) clients old.host.log.forced) (stop_of old new.cause) world
   replaced new is granted = record {
@@ -196,9 +204,9 @@ module _ {D : Type 0} (size : ℕ) (source : From) (occasion : Occasion) (old : 
       commands_are (inl memory) = absurd (cc (sym (refused memory) ∙ granted))
       commands_are (inr planned) = planned.commands
 
-  pub cut : (own : D → ℕ) (new : Stopped D) → may_serve old.host.node (source_of occasion) ≡ true → IsCutOff own size occasion old new
+  pub cut : (own : D → ℕ) (new : Stopped D) → IsCutOff own size occasion old new
       → (is_kept : Bool) → MovesTo (SeatDown new (left source old ends) clients (cut_log (world.hosts 0) is_kept (out_of size occasion old))) (cut_of size occasion old is_kept new.cause) world
-  cut own new counted is is_kept = record {
+  cut own new is is_kept = record {
     may = goes.may;
     leads = record {
       node = goes.leads;
@@ -208,7 +216,7 @@ module _ {D : Type 0} (size : ℕ) (source : From) (occasion : Occasion) (old : 
   }
     where
       goes : MovesTo (ShowsDown new (cut_log (world.hosts 0) is_kept (out_of size occasion old))) (cut_of size occasion old is_kept new.cause) world
-      goes = each_cut own size occasion old new world is seat.node (comes_with counted) is_kept
+      goes = each_cut own size occasion old new world is seat.node (comes_with is.unplanned) is_kept
 
       world_clients : (k : ℕ) → (moved (cut_of size occasion old is_kept new.cause) world).clients k ≡ handed_back 0 world.clients k
       world_clients k = ap (λ (o : Option Event). (cut_with world 0 (stamp_at old) (free_of size old.host) is_kept new.cause o).clients k) (it.comes (stamp_at old))

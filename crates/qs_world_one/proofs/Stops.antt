@@ -1,13 +1,14 @@
 -- Where a node stops, in place of a step, within one or right behind one, the world of one node that shows it stops it with the same stamp.
 use Rattle.std.proofs.Common.{◌≡◌, ◌⊎◌, ◌∙◌, ap, inl, inr, refl, subst, sym, ℕ, ◌+◌, ◌≤◌, ◌==◌, ◌&&◌, Bool, true, false, List, [], ◌∷◌, ◌++◌, Some, None, if◌then◌else◌}
 use Rattle.std.specs.List.{list_any}
-use Rattle.qs_cell.specs.Cell.{IsAsPlanned, IsFaulted, IsRefused, begun, out_of, planned_after, stepped, why_not}
+use Rattle.qs_cell.specs.Cell.{IsAsPlanned, IsFaulted, IsRefused, begun, may_make, out_of, planned_after, stepped, why_not}
 use Rattle.qs_cell.specs.declared.running.Running.{Running}
 use Rattle.qs_cell.specs.declared.stopped.Stopped.{Stopped}
 use Rattle.qs_cell_chronicle.specs.Carried.{Seen, is_replaced, seen}
 use Rattle.qs_cell_chronicle.specs.Chronicle.{Told, counted, crashed, is_last, last_stamp, stamped}
 use Rattle.qs_cell_chronicle.specs.Occasions.{did_of, event_of}
 use Rattle.qs_cell_chronicle.specs.declared.occasion.Occasion.{Occasion}
+use Rattle.qs_engage.specs.Engage.{last_number}
 use Rattle.qs_node_host.specs.Host.{free_of, log_after, node_after}
 use Rattle.qs_book_journal.specs.declared.entry.Act.TheVariants as acts
 use Rattle.qs_book_journal.specs.declared.entry.CrashCause.{CrashCause}
@@ -86,17 +87,21 @@ runs_up old world shows = record {
 
 -- ---- in place of a step
 
--- what the script or the last stamp asks for is a cause that histories have
-why_crash : (at_last replaced : Bool) (out : Effects) (s : Seen) (cause : CrashCause) → planned_after out s (why_not at_last replaced) ≡ Some cause → is_crash cause ≡ true
-why_crash true replaced out s cause e = subst (λ (c : CrashCause). is_crash c ≡ true) (one e) refl
+-- what the script or a last value asks for is a cause that histories have
+why_crash : (may at_last replaced : Bool) (out : Effects) (s : Seen) (cause : CrashCause) → planned_after may out s (why_not at_last replaced) ≡ Some cause → is_crash cause ≡ true
+why_crash may true replaced out s cause e = subst (λ (c : CrashCause). is_crash c ≡ true) (one e) refl
   where
     one : Some (causes.Last last_stamp) ≡ Some cause → causes.Last last_stamp ≡ cause
     one same = cc same
-why_crash false true out s cause e = subst (λ (c : CrashCause). is_crash c ≡ true) (one e) refl
+why_crash may false true out s cause e = subst (λ (c : CrashCause). is_crash c ≡ true) (one e) refl
   where
     one : Some causes.Plan ≡ Some cause → causes.Plan ≡ cause
     one same = cc same
-why_crash false false out s cause e = by (list_any (stops_before out.entries) s.points) e
+why_crash false false false out s cause e = subst (λ (c : CrashCause). is_crash c ≡ true) (one e) refl
+  where
+    one : Some (causes.Last last_number) ≡ Some cause → causes.Last last_number ≡ cause
+    one same = cc same
+why_crash true false false out s cause e = by (list_any (stops_before out.entries) s.points) e
   where
     by : (b : Bool) → (if b then Some causes.Plan else None) ≡ Some cause → is_crash cause ≡ true
     by true same = subst (λ (c : CrashCause). is_crash c ≡ true) (one same) refl
@@ -123,7 +128,7 @@ each_replaced size occasion old new world is shows = record {
 
     crash : (new.cause ≡ causes.Memory) ⊎ IsAsPlanned size occasion old new → is_crash new.cause ≡ true
     crash (inl memory) = rw memory refl
-    crash (inr as_planned) = why_crash (is_last told) (is_replaced (counted told.events) old.carried.crashes) (out_of size occasion old) (seen old.carried) new.cause as_planned.cause
+    crash (inr as_planned) = why_crash (may_make old.host.node occasion) (is_last told) (is_replaced (counted told.events) old.carried.crashes) (out_of size occasion old) (seen old.carried) new.cause as_planned.cause
 
 -- ---- within a step
 

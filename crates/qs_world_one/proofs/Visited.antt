@@ -29,7 +29,7 @@ use Rattle.qs_node_step.specs.State.{client_cmp}
 use Rattle.qs_node_step.specs.declared.event.ClientAnswer.{ClientAnswer}
 use Rattle.qs_node_step.specs.declared.setting.Setting.{Setting}
 use Rattle.qs_world.specs.World.{Client, World}
-use Rattle.qs_world_one.specs.Reached.{HasReached, IsInWorld, IsRunning, Reached, ServesAll}
+use Rattle.qs_world_one.specs.Reached.{HasReached, IsInWorld, IsRunning, Reached}
 use Rattle.qs_world_one.specs.Seats.{From, IsDueFrom, OfClient, OfNode, SeatDown, SeatUp, ShowsEach, left as left_for}
 use Rattle.qs_world_one.specs.Showing.{IsInHand, ShowsIn, held_for}
 use Rattle.qs_world_one.specs.Shown.{ShowsTold}
@@ -89,11 +89,11 @@ each_still number own_inc None ends clients none inc now commands shown each cli
 module _ {D : Type 0} (told : Type 0) (state : D → DiskState) (own size : D → ℕ) (began : Began) (start : World) (clients : List ClientCell) where
   -- an event is made
   made : (source : From) (running : Up D) (occasion : Occasion) (ends left : List NodeEnds) (new : Seat D) → IsDueFrom source occasion running ends clients → left ≡ left_for source running ends
-      → TakesTurn told state own size (Some occasion) left (record { node = states.Up running; ends = ends }) new → is_refused (cause_of new.node) ≡ false → ServesAll start
+      → TakesTurn told state own size (Some occasion) left (record { node = states.Up running; ends = ends }) new → is_refused (cause_of new.node) ≡ false
       → IsRunning told state size began start running ends clients → IsInWorld told state size began start new.node new.ends clients
-  made source running occasion ends left new due_is left_is (answers, (makes, ends_are)) granted serves was =
+  made source running occasion ends left new due_is left_is (answers, (makes, ends_are)) granted was =
       subst (λ (l : List NodeEnds). IsInWorld told state size began start new.node l clients) (sym (ends_are ∙ ap (all_delivered answers) left_is))
-      (each_event told state own size began start source occasion running new.node ends clients answers makes granted serves due_is was)
+      (each_event told state own size began start source occasion running new.node ends clients answers makes granted due_is was)
 
   -- nothing is due
   idle : (node : CellState D) (ends left : List NodeEnds) (new : Seat D) → new ≡ record { node = node; ends = left } → IsInWorld told state size began start node left clients → IsInWorld told state size began start new.node new.ends clients
@@ -106,27 +106,27 @@ module _ {D : Type 0} (told : Type 0) (state : D → DiskState) (own size : D �
   down stopped (Some occasion) ends new e turn was = absurd (cc e)
 
   pub goes : (source : From) (ready : CellState D) (ends : List NodeEnds) (new : Seat D) (due : Option Occasion) (left : List NodeEnds) → IsTurnOf source ready ends clients due left
-      → TakesTurn told state own size due left (record { node = ready; ends = ends }) new → is_refused (cause_of new.node) ≡ false → ServesAll start
+      → TakesTurn told state own size due left (record { node = ready; ends = ends }) new → is_refused (cause_of new.node) ≡ false
       → IsInWorld told state size began start ready ends clients → IsInWorld told state size began start new.node new.ends clients
-  goes (OfClient number) (states.Up running) ends new (Some occasion) left it turn granted serves was = made (OfClient number) running occasion ends left new (sym it.is.0, it.cell) it.is.1 turn granted serves was
-  goes (OfClient number) (states.Up running) ends new None left it turn granted serves was =
+  goes (OfClient number) (states.Up running) ends new (Some occasion) left it turn granted was = made (OfClient number) running occasion ends left new (sym it.is.0, it.cell) it.is.1 turn granted was
+  goes (OfClient number) (states.Up running) ends new None left it turn granted was =
       idle (states.Up running) ends left new turn (subst (λ (l : List NodeEnds). IsInWorld told state size began start (states.Up running) l clients) (sym it.is.1)
       (moved_in told state size began start (states.Up running) ends (left_of number (held_by number running.carried) ends) clients clients
       (each_still number running.carried.setting.inc (held_by number running.carried) ends clients (sym it.is.0)) was))
-  goes (OfClient number) (states.Down stopped) ends new due left it turn granted serves was =
+  goes (OfClient number) (states.Down stopped) ends new due left it turn granted was =
       down stopped due ends new it.is.0 (subst (λ (l : List NodeEnds). TakesTurn told state own size due l (record { node = states.Down stopped; ends = ends }) new) it.is.1 turn) was
-  goes OfNode (states.Up running) ends new (Some occasion) left it turn granted serves was = made OfNode running occasion ends left new it.0 it.1 turn granted serves was
-  goes OfNode (states.Up running) ends new None left it turn granted serves was =
+  goes OfNode (states.Up running) ends new (Some occasion) left it turn granted was = made OfNode running occasion ends left new it.0 it.1 turn granted was
+  goes OfNode (states.Up running) ends new None left it turn granted was =
       idle (states.Up running) ends left new turn (subst (λ (l : List NodeEnds). IsInWorld told state size began start (states.Up running) l clients) (sym it.1) was)
-  goes OfNode (states.Down stopped) ends new None left it turn granted serves was =
+  goes OfNode (states.Down stopped) ends new None left it turn granted was =
       idle (states.Down stopped) ends left new turn (subst (λ (l : List NodeEnds). IsInWorld told state size began start (states.Down stopped) l clients) (sym it.1) was)
-  goes OfNode (states.Down stopped) ends new (Some occasion) left it (answers, (makes, ends_are)) granted serves was =
+  goes OfNode (states.Down stopped) ends new (Some occasion) left it (answers, (makes, ends_are)) granted was =
       subst (λ (n : CellState D). IsInWorld told state size began start n new.ends clients) (sym makes.0)
       (subst (λ (l : List NodeEnds). IsInWorld told state size began start (states.Down stopped) l clients) (sym (ends_are ∙ (ap (λ (a : List ClientAnswer). all_delivered a left) makes.1 ∙ it.1))) was)
 
 pub each_turn_goes : {D : Type 0} (told : Type 0) (state : D → DiskState) (own size : D → ℕ) (began : Began) (start : World) (source : From) (ready : CellState D) (ends : List NodeEnds) (new : Seat D) (clients : List ClientCell)
     → TurnGoesOn told state own size began start source ready ends new clients
-each_turn_goes told state own size began start source ready ends new clients due left it turn granted serves was = goes told state own size began start clients source ready ends new due left it turn granted serves was
+each_turn_goes told state own size began start source ready ends new clients due left it turn granted was = goes told state own size began start clients source ready ends new due left it turn granted was
 
 -- ---- what is told else of the cell
 

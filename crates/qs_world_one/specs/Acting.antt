@@ -10,7 +10,7 @@ use Rattle.qs_disk.specs.Disk.{DiskState}
 use Rattle.qs_link.specs.declared.ends.NodeEnds.{NodeEnds}
 use Rattle.qs_world_rounds.specs.Rounds.{NodeStarts, is_refused}
 use Rattle.qs_world.specs.World.{World}
-use Rattle.qs_world_one.specs.Reached.{IsInWorld, Reached, ServesAll}
+use Rattle.qs_world_one.specs.Reached.{IsInWorld, Reached}
 use Rattle.qs_world_one.specs.Seats.{HasCell}
 use Rattle.qs_world_one.specs.Rooms.{Began}
 
@@ -21,7 +21,7 @@ AreOfClients ends clients = (end : NodeEnds) → Among ends end → HasCell end.
 -- a node that is up makes its events, and no memory is refused
 abbrev pub VisitsGoOn : {D : Type 0} → Type 0 → (D → DiskState) → (D → ℕ) → (D → ℕ) → Began → World → Seat D → Seat D → List ClientCell → Type 0
 VisitsGoOn told state own size began start old new clients =
-    Visits told state own size old new → is_refused (cause_of new.node) ≡ false → ServesAll start → AreOfClients old.ends clients
+    Visits told state own size old new → is_refused (cause_of new.node) ≡ false → AreOfClients old.ends clients
     → IsInWorld told state size began start old.node old.ends clients → IsInWorld told state size began start new.node new.ends clients
 
 -- a node that is down is started again, where the disk tells what is on it

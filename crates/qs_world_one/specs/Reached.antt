@@ -1,5 +1,5 @@
 -- What a run of the world leads to: a cell that is up with its clients, or a cell that is down, whose disk has one of two logs, with a world for each.
-use Rattle.std.specs.Prelude.{◌≡◌, ◌≤◌, ◌^◌, ℕ, Bool, true, false, List, Result, Ok}
+use Rattle.std.specs.Prelude.{◌≡◌, ◌≤◌, ◌^◌, ℕ, Bool, false, List, Result, Ok}
 use Rattle.std.specs.Global.{Global}
 use Rattle.qs_cell.specs.Restart.{inc_of}
 use Rattle.qs_cell.specs.State.{LogStands, Restarts, Up, cause_of}
@@ -17,7 +17,7 @@ use Rattle.qs_record.specs.declared.record.Record.{Record}
 use Rattle.qs_world_rounds.specs.Rounds.{is_refused}
 use Rattle.qs_slot.specs.Slot.{Present, slots_in}
 use Rattle.qs_node_step.specs.declared.event.ClientAnswer.{ClientAnswer}
-use Rattle.qs_world.specs.Moves.{Move, Source, may_serve}
+use Rattle.qs_world.specs.Moves.{Move}
 use Rattle.qs_world.specs.Runs.{Run}
 use Rattle.qs_world.specs.World.{World}
 use Rattle.qs_world_one.specs.Seats.{From, IsDueFrom, SeatDown, SeatUp, left}
@@ -30,10 +30,6 @@ pub record Reached (start : World) (P : World → Type 0) : Type 0 where
   pub world : World
   pub run : Run start moves world
   pub shows : P world
-
--- in each world that a run from there leads to, a node that is up may serve each source: what waits can be counted
-abbrev pub ServesAll : World → Type 0
-ServesAll start = (moves : List Move) (new : World) → Run start moves new → new.channels.up 0 ≡ true → (source : Source) → may_serve (new.hosts 0).node source ≡ true
 
 -- a cell that is up, over its log, in the incarnation that this says; roomy, where the run began so
 pub record IsRunning {D : Type 0} (told : Type 0) (state : D → DiskState) (size : D → ℕ) (began : Began) (start : World) (running : Up D) (ends : List NodeEnds) (clients : List ClientCell) : Type 0 where
@@ -68,7 +64,7 @@ IsInWorld told state size began start (states.Down stopped) ends clients = IsHal
 -- each event in which no memory was refused goes on in the world
 abbrev pub EventsGoOn : {D : Type 0} → Type 0 → (D → DiskState) → (D → ℕ) → (D → ℕ) → Began → World → From → Occasion → Up D → CellState D → List NodeEnds → List ClientCell → List ClientAnswer → Type 0
 EventsGoOn told state own size began start source occasion old new ends clients answers =
-    Makes told state own size occasion old new answers → is_refused (cause_of new) ≡ false → ServesAll start → IsDueFrom source occasion old ends clients
+    Makes told state own size occasion old new answers → is_refused (cause_of new) ≡ false → IsDueFrom source occasion old ends clients
     → IsRunning told state size began start old ends clients → IsInWorld told state size began start new (all_delivered answers (left source old ends)) clients
 
 -- ---- a restart

@@ -7,7 +7,6 @@ use Rattle.qs_world.specs.World.{World}
 use Rattle.rand_pcg.specs.Lcg.{Lcg}
 use Rattle.qs_world_one.specs.Acting.{AreOfClients}
 use Rattle.qs_world_one.specs.Carrying.{IsCarried}
-use Rattle.qs_world_one.specs.Reached.{ServesAll}
 use Rattle.qs_world_one.specs.Rooms.{Began}
 
 pub record IsCastIn {D : Type 0} (told : Type 0) (state : D → DiskState) (size : D → ℕ) (began : Began) (start : World) (cast : Cast D) : Type 0 where
@@ -16,9 +15,9 @@ pub record IsCastIn {D : Type 0} (told : Type 0) (state : D → DiskState) (size
 
 abbrev pub RoundsGoOn : {D : Type 0} → Type 0 → (D → DiskState) → (D → ℕ) → (D → ℕ) → Began → World → Lcg → ℕ → Cast D → Cast D → Lcg → Type 0
 RoundsGoOn told state own size began start rng n old new later =
-    told → Rounds told state own size rng n old new later → ServesAll start → IsCastIn told state size began start old → IsCastIn told state size began start new
+    told → Rounds told state own size rng n old new later → IsCastIn told state size began start old → IsCastIn told state size began start new
 
 -- a round that is cut short, in an order of places
 abbrev pub BreaksGoOn : {D : Type 0} → Type 0 → (D → DiskState) → (D → ℕ) → (D → ℕ) → Began → World → List ℕ → Cast D → Cast D → Type 0
 BreaksGoOn told state own size began start order old new =
-    told → BreaksRound told state own size order old new → ServesAll start → IsCastIn told state size began start old → IsCastIn told state size began start new
+    told → BreaksRound told state own size order old new → IsCastIn told state size began start old → IsCastIn told state size began start new

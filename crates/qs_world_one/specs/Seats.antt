@@ -19,10 +19,10 @@ use Rattle.qs_record.specs.declared.record.Record.{Record}
 use Rattle.qs_world_rounds.specs.Rounds.{is_refused}
 use Rattle.qs_node_step.specs.State.{client_cmp}
 use Rattle.qs_node_step.specs.declared.event.ClientAnswer.{ClientAnswer}
-use Rattle.qs_world.specs.Moves.{cut_log, may_serve}
+use Rattle.qs_world.specs.Moves.{cut_log}
 use Rattle.qs_world.specs.World.{Client, World}
 use Rattle.qs_world_one.specs.Beginnings.{rise_of}
-use Rattle.qs_world_one.specs.Events.{MovesTo, cut_of, source_of, step_of, stop_behind, stop_of}
+use Rattle.qs_world_one.specs.Events.{MovesTo, cut_of, step_of, stop_behind, stop_of}
 use Rattle.qs_world_one.specs.Showing.{IsInHand, ShowsIn}
 use Rattle.qs_world_one.specs.Shown.{ShowsDown, ShowsUp}
 
@@ -66,10 +66,6 @@ abbrev pub IsDueFrom : {D : Type 0} → From → Occasion → Up D → List Node
 IsDueFrom (OfClient number) occasion old ends clients = (due_command number old.carried ends ≡ Some occasion) × HasCell number clients
 IsDueFrom OfNode occasion old ends clients = is_of_node occasion ≡ true
 
--- what waits can be counted
-pub record IsGiven {D : Type 0} (occasion : Occasion) (old : Up D) : Type 0 where
-  pub counted : may_serve old.host.node (source_of occasion) ≡ true
-
 -- the lanes once it is taken from them
 abbrev pub left : {D : Type 0} → From → Up D → List NodeEnds → List NodeEnds
 left (OfClient number) old ends = left_of number (held_by number old.carried) ends
@@ -78,13 +74,13 @@ left OfNode old ends = ends
 -- a whole step
 abbrev pub WholeInSeat : {D : Type 0} → ℕ → From → Occasion → Up D → Up D → List NodeEnds → List ClientCell → List ClientAnswer → World → Type 0
 WholeInSeat size source occasion old new ends clients said world =
-    IsDueFrom source occasion old ends clients → IsGiven occasion old → IsWhole size occasion old new said → SeatUp old ends clients world
+    IsDueFrom source occasion old ends clients → IsWhole size occasion old new said → SeatUp old ends clients world
     → MovesTo (SeatUp new (all_delivered said (left source old ends)) clients) (step_of size occasion old) world
 
 -- and a stop behind it
 abbrev pub FollowedInSeat : {D : Type 0} → ℕ → From → Occasion → Up D → Stopped D → List NodeEnds → List ClientCell → List ClientAnswer → World → Type 0
 FollowedInSeat size source occasion old new ends clients said world =
-    IsDueFrom source occasion old ends clients → IsGiven occasion old → IsFollowed size occasion old new said → SeatUp old ends clients world
+    IsDueFrom source occasion old ends clients → IsFollowed size occasion old new said → SeatUp old ends clients world
     → MovesTo (MovesTo (SeatDown new (all_delivered said (left source old ends)) clients (log_after (out_of size occasion old) old.host.log).forced) (stop_behind old new.cause)) (step_of size occasion old) world
 
 -- a stop in place of a step, for another reason than that memory was refused: where it was, the run ends
@@ -96,7 +92,7 @@ ReplacedInSeat size source occasion old new ends clients world =
 -- a step that is cut off, with its batch kept or lost
 abbrev pub CutInSeat : {D : Type 0} → (D → ℕ) → ℕ → From → Occasion → Up D → Stopped D → List NodeEnds → List ClientCell → World → Type 0
 CutInSeat own size source occasion old new ends clients world =
-    IsDueFrom source occasion old ends clients → may_serve old.host.node (source_of occasion) ≡ true → IsCutOff own size occasion old new → SeatUp old ends clients world
+    IsDueFrom source occasion old ends clients → IsCutOff own size occasion old new → SeatUp old ends clients world
     → (is_kept : Bool) → MovesTo (SeatDown new (left source old ends) clients (cut_log (world.hosts 0) is_kept (out_of size occasion old))) (cut_of size occasion old is_kept new.cause) world
 
 -- ---- a restart, which finds the records that the world shows, in a later incarnation

@@ -12,7 +12,7 @@ use Rattle.qs_disk.specs.Disk.{DiskState}
 use Rattle.qs_link.specs.declared.ends.NodeEnds.{NodeEnds}
 use Rattle.qs_world_rounds.specs.Rounds.{is_refused}
 use Rattle.qs_world.specs.World.{World}
-use Rattle.qs_world_one.specs.Reached.{IsInWorld, ServesAll}
+use Rattle.qs_world_one.specs.Reached.{IsInWorld}
 use Rattle.qs_world_one.specs.Seats.{From, HasCell, OfClient, OfNode, is_of_node}
 use Rattle.qs_world_one.specs.Rooms.{Began}
 
@@ -40,7 +40,7 @@ IsTurnOf OfNode node ends clients due left = IsOwn due × (left ≡ ends)
 abbrev pub TurnGoesOn : {D : Type 0} → Type 0 → (D → DiskState) → (D → ℕ) → (D → ℕ) → Began → World → From → CellState D → List NodeEnds → Seat D → List ClientCell → Type 0
 TurnGoesOn told state own size began start source ready ends new clients =
     (due : Option Occasion) (left : List NodeEnds) → IsTurnOf source ready ends clients due left
-    → TakesTurn told state own size due left (record { node = ready; ends = ends }) new → is_refused (cause_of new.node) ≡ false → ServesAll start
+    → TakesTurn told state own size due left (record { node = ready; ends = ends }) new → is_refused (cause_of new.node) ≡ false
     → IsInWorld told state size began start ready ends clients → IsInWorld told state size began start new.node new.ends clients
 
 -- ---- nothing happens as room is made, and as a visit begins

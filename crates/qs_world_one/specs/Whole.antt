@@ -20,7 +20,7 @@ use Rattle.qs_world_one.specs.Reached.{Reached}
 abbrev pub IsRunOfWorld : {D : Type 0} → Type 0 → (D → DiskState) → (D → ℕ) → (D → ℕ) → Global → Script → D → Cast D → Opening → Lcg → ℕ → Cast D → Lcg → Type 0
 IsRunOfWorld told state own size alloc script disk cast o rng n new later =
     told → (begun : HasBegun told state own alloc script disk cast) → OpensScript alloc script cast.clients begun.started.running.host.log o
-    → Rounds told state own size rng n cast new later → IsOpening o
+    → Rounds told state own size rng n cast new later
     → Reached (start o) (λ world. world.journal ≡ journal_of new.node)
 
 -- and the reference machine opens with what the cell tells that the log held

@@ -49,32 +49,28 @@ pub fn casts_begin<D: Disk>()
     ensures { (alloc : Global) (script : Script) (disk : D) (cast : Cast D) (o : Opening) → CastBegins D.told D.state D.fault_count D.byte_count alloc script disk cast o }
 {}
 
-/// A source's turn in a visit: the event that is due of it is made, if what waits can be served in each world that a run leads to, or nothing happens.
-/// And nothing happens as a visit begins, and as room is made.
+/// A source's turn in a visit: the event that is due of it is made, or nothing happens. And nothing happens as a visit begins, and as room is made.
 pub fn turns_go_on<D: Disk>()
     ensures turns { (source : From) (began : Began) (start : World) (ready : CellState D) (ends : List NodeEnds) (new : Seat D) (clients : List ClientCell)
         → TurnGoesOn D.told D.state D.fault_count D.byte_count began start source ready ends new clients }
     ensures room { (began : Began) (start : World) (old ready : CellState D) (ends : List NodeEnds) (clients : List ClientCell) → RoomGoesOn D.told D.state D.byte_count began start old ready ends clients }
     ensures begins { (began : Began) (start : World) (old begun : CellState D) (ends : List NodeEnds) (clients : List ClientCell) → VisitBegins D.told D.state D.byte_count began start old begun ends clients }
 {}
-
-/// A visit of a node that is up goes on in the world turn by turn, if what waits can be served in each world that a run leads to, and one of a node
-/// that is down by a restart. And what a cell that is shown tells is the history of a run.
+/// A visit of a node that is up goes on in the world turn by turn, and one of a node that is down by a restart. And what a cell that is shown tells is the history of a run.
 pub fn visits_go_on<D: Disk>()
     ensures visits { (began : Began) (start : World) (old new : Seat D) (clients : List ClientCell) → VisitsGoOn D.told D.state D.fault_count D.byte_count began start old new clients }
     ensures starts { (began : Began) (start : World) (old new : CellValue D) (did : Bool) (clients : List ClientCell) → StartsGoOn D.told D.state D.fault_count D.byte_count began start old new did clients }
     ensures history { (began : Began) (start : World) (node : CellState D) (ends : List NodeEnds) (clients : List ClientCell) → TellsHistory D.told D.state D.byte_count began start node ends clients }
 {}
 
-/// The rounds of a run: where the disk tells what is on it, and what waits can be served in each world that a run leads to, the cast goes on in the
-/// world.
+/// The rounds of a run: where the disk tells what is on it, the cast goes on in the world.
 pub fn rounds_go_on<D: Disk>()
     ensures { (began : Began) (start : World) (rng : Lcg) (n : ℕ) (old new : Cast D) (later : Lcg) → RoundsGoOn D.told D.state D.fault_count D.byte_count began start rng n old new later }
 {}
 
-/// A run of one node is a run of the world of one node, where a run may begin with what the log of its disk held (`IsOpening`): what the cell tells
-/// after so many rounds is the history of a run of that opening, since what waits at the only node of a run can be counted. And the reference machine
-/// opens with what the cell tells that its log held; so what the cell tells is lawful.
+/// A run of one node is a run of the world of one node: what the cell tells after so many rounds is the history of a run of that opening. And the reference
+/// machine opens with what the cell tells that its log held; so, where a run may begin with what the log of its disk held (`IsOpening`), what the cell tells
+/// is lawful.
 pub fn run_is_of_the_world<D: Disk>()
     ensures run { (alloc : Global) (script : Script) (disk : D) (cast : Cast D) (o : Opening) (rng : Lcg) (n : ℕ) (new : Cast D) (later : Lcg)
         → IsRunOfWorld D.told D.state D.fault_count D.byte_count alloc script disk cast o rng n new later }

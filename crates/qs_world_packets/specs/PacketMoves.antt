@@ -1,6 +1,5 @@
 -- What happens in the world over packets, one step of one node at a time. What a packet brings is as the receiver's end of the session answers it.
 use Rattle.std.specs.Prelude.{◌≡◌, ℕ, ◌==◌, ◌++◌, ⊤, Bool, true, false, not, ◌&&◌, ◌||◌, List, [], ◌∷◌, fold, map, Option, Some, None, is_some, nat_lt, nat_le, if◌then◌else◌}
-use Rattle.std.specs.List.{list_all}
 use Rattle.qs_session_channels.specs.End as end
 use Rattle.qs_session_channels.specs.End.{Packet, Answer, answer}
 use Rattle.qs_session_channels.specs.Network as network
@@ -10,6 +9,7 @@ use Rattle.qs_book_journal.specs.declared.entry.CrashCause.{CrashCause}
 use Rattle.qs_book_machine.specs.Clauses.{is_crash}
 use Rattle.qs_record.specs.declared.record.Record.{Record}
 use Rattle.qs_restart.specs.declared.recovered.Recovered.{Recovered}
+use Rattle.qs_node_step.specs.Counted.{is_all_counted}
 use Rattle.qs_node_step.specs.declared.event.Effects.{Effects}
 use Rattle.qs_node_step.specs.declared.event.Event.{Event}
 use Rattle.qs_node_step.specs.declared.event.Event.TheVariants as events
@@ -18,7 +18,7 @@ use Rattle.qs_node_step.specs.Opening.{recovered_of}
 use Rattle.qs_node_step.specs.State.{NodeValue}
 use Rattle.qs_node_step.specs.Step.{after_step, effects_of}
 use Rattle.qs_world.specs.World.{Parcel, Client}
-use Rattle.qs_world.specs.Moves.{node_no, client_count, command_of, are_counted, cut_log, found_of, risen_host, stamp_limit, stepped_host, stopped_host}
+use Rattle.qs_world.specs.Moves.{node_no, client_count, command_of, cut_log, found_of, risen_host, stamp_limit, stepped_host, stopped_host}
 use Rattle.qs_world.specs.Posting.{clients_after, entries_of, handed, handed_back, next_line}
 use Rattle.qs_world_packets.specs.PacketWorld.{PacketWorld, hello}
 
@@ -159,7 +159,7 @@ is_later world n stamp = is_in_order world n stamp && nat_lt (world.hosts n).sta
 
 -- what waits is served where all of it can be counted
 abbrev pub may_serve : NodeValue → Source → Bool
-may_serve node Queues = list_all (are_counted node) node.queues
+may_serve node Queues = is_all_counted node
 may_serve node source = true
 
 abbrev pub may_step : PacketWorld → ℕ → ℕ → Source → Bool

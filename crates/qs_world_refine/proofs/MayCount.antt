@@ -1,7 +1,8 @@
 -- Where what waits may be served, the requests of each transaction that wait can be counted.
 use Rattle.qs_world_refine.proofs.Words.{◌≡◌, ℕ, ◌+◌, ◌≤◌, Bool, true, false, List, [], ◌∷◌, Some, None, refl, sym, ap, subst, arith, nat_le, if◌then◌else◌, list_all, is_at, nat_tests, same_tid, ServerNo, Tid, last_number, IpcValue, queue_at, server_cmp, QueueValue, count_of, Delivery, member_of, Participant, NodeValue, work_on, Queues, CanCount, server_no}
 use Rattle.qs_tm.specs.Manager as tm
-use Rattle.qs_world.specs.Moves.{is_counted, are_counted, may_serve}
+use Rattle.qs_node_step.specs.Counted.{is_counted, are_counted}
+use Rattle.qs_world.specs.Moves.{may_serve}
 use Rattle.qs_world_refine.proofs.SoundKnown.{same_is}
 use Rattle.qs_world_refine.proofs.SoundParts.{and_both}
 

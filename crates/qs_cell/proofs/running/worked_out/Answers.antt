@@ -1,4 +1,5 @@
 use Rattle.std.proofs.Common.{◌∙◌, ap, refl, sym}
+use Rattle.qs_cell.specs.Cell.{may_make}
 use Rattle.qs_cell.specs.Outcomes.{outcome_of}
 use Rattle.qs_cell.specs.Within.{running_with}
 use Rattle.qs_cell.proofs.Happening.{header_as, untouched, untouched_header, unplanned_by, begun_on, worked, stands_as, moments_as}
@@ -29,7 +30,8 @@ returns-clause-outcome g c = λ old same begun none.
     (worked size c.args.occasion old c.args.host.now c.work_out.new.host c.args.carried.now (record c.args.carried.now { chronicle = c.make_room.new.self }) c.in-Ok.out same
     c.in-Ok.ensures.node c.work_out.ensures.saved c.work_out.ensures.log c.in-Ok.ensures.effects
     (begun_on c.args.occasion old.carried c.args.carried.now (record c.args.carried.now { chronicle = c.make_room.new.self }) begun c.make_room.ensures.told refl refl refl refl)
-    (unplanned_by c.in-Ok.out _ (seen old.carried) c.as_slice.result.now c.as_slice-2.result.now c.any_stops_before.result none
+    (unplanned_by (may_make old.host.node c.args.occasion) c.in-Ok.out _ (seen old.carried) c.as_slice.result.now c.as_slice-2.result.now c.any_stops_before.result
+    (ap (λ h. may_make h.node c.args.occasion) (sym same) ∙ (sym c.may_make.ensures ∙ c.if-may_make.true)) none
     (c.in-Ok.ensures.effects ∙ ap (λ h. effects_at size h (event_of c.args.occasion)) same) c.as_slice.ensures (c.as_slice-2.ensures.value ∙ begun.points) c.any_stops_before.ensures
     c.if-any_stops_before.false))
 

@@ -1,0 +1,6 @@
+use Rattle.qs_world_runs.proofs.Words.{AlongRun}
+use Rattle.qs_world_runs.proofs.TalliedMoves.{moves_counted, opens_counted}
+use Rattle.qs_world_runs.proofs.counted.what_waits_alone_has_numbers.Goals as goal
+
+pub returns : goal.returns
+returns c = record { opens = opens_counted; moves = moves_counted AlongRun }
