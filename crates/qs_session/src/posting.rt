@@ -1,5 +1,5 @@
 //! A session that is given only what has a spelling.
-ghost use Rattle.std.specs.Prelude.{◌≡◌, ◌<◌, ◌^◌, ◌+◌, ◌-◌, ◌↔◌, All, IfOk, IfSome, OnOk, OnErr, IsErrOf, length, option_map, map};
+ghost use Rattle.std.specs.Prelude.{◌≡◌, ℕ, ◌<◌, ◌^◌, ◌+◌, ◌-◌, ◌↔◌, All, Err, IfOk, IfSome, OnOk, OnErr, IsErrOf, length, option_map, map};
 ghost use Rattle.qs_base.specs.declared.memory.GrowFault.TheVariants.{Last};
 ghost use Rattle.qs_session_channels.specs.End.{sent, sent_packet, received, answer, tick_packets, ticked};
 ghost use Rattle.qs_packet.specs.Grammar.{IsPacket};
@@ -26,8 +26,10 @@ pub fn post(
     ensures spelled { IsSpelled session.new }
     ensures packet { IfOk result (λ p. IfSome p IsPacket) }
     ensures sent { IfOk result (λ p. option_map seen p ≡ sent_packet session.old.end message stamp) }
+    ensures from { IfOk result (λ p. IfSome p (IsFrom session.old)) }
     ensures end { OnOk result (session.new ≡ record session.old { end = sent session.old.end message }) }
     ensures last { IsErrOf result (Last (2 ^ 62 - 1)) ↔ (session.old.end.acked + length session.old.end.kept ≡ 2 ^ 62 - 1) }
+    ensures only { (value : ℕ) → result ≡ Err (Last value) → value ≡ 2 ^ 62 - 1 }
     ensures err { OnErr result (session.new ≡ session.old) }
 {
     session.send(message, stamp)
@@ -53,6 +55,7 @@ pub fn tick(session: &mut Session, stamp: Stamp) -> Result<List<Packet>, NoMemor
     ensures spelled { IsSpelled session.new }
     ensures packets { IfOk result (All IsPacket) }
     ensures due { IfOk result (λ ps. map seen ps ≡ tick_packets Hello session.old.end stamp) }
+    ensures from { IfOk result (All (IsFrom session.old)) }
     ensures end { OnOk result (session.new ≡ record session.old { end = ticked session.old.end }) }
     ensures err { OnErr result (session.new ≡ session.old) }
 {
