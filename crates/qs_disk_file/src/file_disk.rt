@@ -5,8 +5,7 @@ ghost use Rattle.qs_disk.specs.Disk.{Reads, Writes, Syncs, Cuts};
 ghost use Rattle.qs_disk.specs.Memory.{raised};
 ghost use Rattle.qs_disk_file.specs.File.{FileValue, file_bytes, file_state};
 
-use crate::bytes::{read_at, write_at};
-use crate::lock::LockFile;
+use crate::disk_file::DiskFile;
 use crate::opening::open_disk;
 use crate::trouble::Trouble;
 use qs_base::NoMemory;
@@ -14,6 +13,7 @@ use qs_disk::{Disk, DiskFailed};
 use std::alloc::Global;
 use std::fs::{Files, OpenFile};
 use std::marker::Model;
+use std::os::unix::fs::FileExt;
 
 /// How many bytes it has.
 pub(crate) const BYTES: u64 = 16_777_216;
@@ -77,7 +77,7 @@ impl<R: Files> FileDisk<R> {
 
 impl<R: Files> FileDisk<R>
 where
-    R::File: LockFile,
+    R::File: DiskFile,
 {
     // The open file, out of its place; it is opened where it is not.
     fn take_file(&mut self) -> Result<R::File, Trouble>
@@ -92,8 +92,8 @@ where
     fn read_file(&mut self, at: u64, buf: &mut [u8]) -> Result<(), Trouble>
         ensures { self.new ≡ self.old }
     {
-        let mut file = self.take_file()?;
-        let done = read_at(&mut file, at, buf);
+        let file = self.take_file()?;
+        let done = file.read_exact_at(buf, at);
         self.file = Some(file);
         Ok(done?)
     }
@@ -101,8 +101,8 @@ where
     fn write_file(&mut self, at: u64, bytes: &[u8]) -> Result<(), Trouble>
         ensures { self.new ≡ self.old }
     {
-        let mut file = self.take_file()?;
-        let done = write_at(&mut file, at, bytes);
+        let file = self.take_file()?;
+        let done = file.write_all_at(bytes, at);
         self.file = Some(file);
         Ok(done?)
     }
@@ -111,7 +111,8 @@ where
         ensures { self.new ≡ self.old }
     {
         let file = self.take_file()?;
-        let done = file.sync_all();
+        // Its length has been synced as it was made, and never changes.
+        let done = file.sync_data();
         self.file = Some(file);
         Ok(done?)
     }
@@ -147,7 +148,7 @@ where
 
 impl<R: Files> Disk for FileDisk<R>
 where
-    R::File: LockFile,
+    R::File: DiskFile,
 {
     ghost told = { ⊥ };
 

@@ -1,12 +1,11 @@
 //! Disks over files.
 #![tactic(auto)]
 
-mod bytes;
+mod disk_file;
 mod file_disk;
-mod lock;
 mod opening;
 mod trouble;
 
+pub use disk_file::DiskFile;
 pub use file_disk::FileDisk;
-pub use lock::LockFile;
 pub use trouble::Trouble;

@@ -1,6 +1,6 @@
 //! The file of a disk: opened, locked, and made whole where it is new.
+use crate::disk_file::DiskFile;
 use crate::file_disk::BYTES;
-use crate::lock::LockFile;
 use crate::trouble::Trouble;
 use std::fs::{File, Files, OpenFile, OpenOptions, TryLockError};
 use std::io;
@@ -17,7 +17,7 @@ static ZEROS: [u8; 65_536] = [0; 65_536];
 /// empty one gets the length of a disk, all zeros; one of another length is not changed.
 pub(crate) fn open_disk<R: Files>(rt: &R, path: &str) -> Result<R::File, Trouble>
 where
-    R::File: LockFile,
+    R::File: DiskFile,
 {
     let mut file = OpenOptions::new()
         .read(true)
@@ -38,7 +38,7 @@ where
 }
 
 /// Locks the file, if no other open of it is.
-fn lock(file: &impl LockFile) -> Result<(), Trouble> {
+fn lock(file: &impl DiskFile) -> Result<(), Trouble> {
     match file.try_lock() {
         Ok(()) => Ok(()),
         Err(TryLockError::WouldBlock) => Err(Trouble::InUse),

@@ -7,7 +7,7 @@ ghost use Rattle.std.specs.Prelude.{◌≡◌, length, IfOk};
 
 use crate::standard::{NULL, stand_ins};
 use qs_base::NoMemory;
-use qs_disk_file::{FileDisk, LockFile};
+use qs_disk_file::{DiskFile, FileDisk};
 use qs_io::{StdSink, StdSource};
 use qs_text::{Status, StatusLine};
 use qs_top::run;
@@ -80,7 +80,7 @@ fn tell_troubles<R: Files>(rt: &impl Eprint, disks: &[FileDisk<R>]) {
 fn carried_out<R>(rt: &R, alloc: Global) -> Status
 where
     R: Env + AllocGlobal + Files + Input + Print + Eprint + Threads + Sync,
-    R::File: LockFile,
+    R::File: DiskFile,
 {
     match (words_of(rt), disks(rt, alloc)) {
         (Ok(words), Ok(mut disks)) => {
@@ -108,7 +108,7 @@ where
 pub fn program<R>(rt: &R) -> ExitCode
 where
     R: Env + AllocGlobal + Files + Input + Print + Eprint + Threads + Sync,
-    R::File: AsRawFd + LockFile,
+    R::File: AsRawFd + DiskFile,
 {
     let alloc = rt.alloc();
     let stand_ins = stand_ins(rt);

@@ -2,7 +2,7 @@
 ghost use Rattle.std.specs.Prelude.{◌≤◌};
 
 use qs_disk::Disk;
-use qs_disk_file::{FileDisk, LockFile, Trouble};
+use qs_disk_file::{DiskFile, FileDisk, Trouble};
 use std::fs::Files;
 use std::test::Fail;
 use std::{env, fs, process};
@@ -20,7 +20,7 @@ fn new_path(rt: &HostRuntime, name: &str) -> Result<String, Fail> {
 
 fn has<R: Files>(disk: &mut FileDisk<R>, at: u64, bytes: [u8; 3]) -> bool
 where
-    R::File: LockFile,
+    R::File: DiskFile,
     requires { at ≤ 16777213 }
 {
     let mut buf = [7; 3];
@@ -29,7 +29,7 @@ where
 
 fn keeps<R: Files>(disk: &mut FileDisk<R>) -> bool
 where
-    R::File: LockFile,
+    R::File: DiskFile,
 {
     has(disk, 0, [0; 3])
         && disk.write(4096, b"abc").is_ok()
@@ -53,7 +53,7 @@ fn what_was_written_is_read_again(rt: HostRuntime) -> Result<(), Fail> {
 // Whether another disk over the same file is refused, also through a power cut.
 fn refuses_another<R: Files>(disk: &mut FileDisk<R>, another: &mut FileDisk<R>) -> bool
 where
-    R::File: LockFile,
+    R::File: DiskFile,
 {
     disk.write(0, b"abc").is_ok()
         && another.write(0, b"xyz").is_err()
@@ -81,7 +81,7 @@ fn goes_to_a_thread<T: Send>(_value: &T) {}
 // Whether four calls are refused, and counted.
 fn counts_refusals<R: Files>(disk: &mut FileDisk<R>) -> bool
 where
-    R::File: LockFile,
+    R::File: DiskFile,
 {
     disk.write(0, b"abc").is_err()
         && disk.sync().is_err()
