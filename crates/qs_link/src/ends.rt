@@ -32,7 +32,10 @@ pub fn deliver(ends: &mut [NodeEnds], client: ClientNo, answer: LineAnswer) -> R
 {
     match place(ends, client) {
         Some(at) => put(&mut ends[at].answers, answer),
-        None => Ok(()),
+        None => {
+            drop(answer);
+            Ok(())
+        }
     }
 }
 
@@ -42,7 +45,10 @@ fn put(answers: &mut Feed<LineAnswer>, answer: LineAnswer) -> Result<(), NoMemor
 {
     match answers.put(answer) {
         Ok(()) => Ok(()),
-        Err(_) => Err(NoMemory),
+        Err(refused) => {
+            drop(refused);
+            Err(NoMemory)
+        }
     }
 }
 

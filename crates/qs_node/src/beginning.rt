@@ -15,21 +15,22 @@ use qs_tm::BeginFault;
 /// The transaction has begun: its label is met, and its client is answered.
 fn has_begun<F: Server, X: Server>(
     work: &mut Work<Servers<F, X>>,
-    line: ScriptLine,
+    line: &ScriptLine,
     tid: Tid,
 ) -> Result<(), NoMemory>
-    ensures ok { OnOk result (work.new ≡ has_begun line tid work.old) }
+    ensures ok { OnOk result (work.new ≡ has_begun line.now tid work.old) }
     ensures saved { work.new.node.kept.saved ≡ work.old.node.kept.saved }
 {
-    let ScriptLine { client, label, .. } = line;
+    let client = line.client;
     put_label(
         work,
         KeptLabel {
-            label: label.copy()?,
+            label: line.label.copy()?,
             tid: Some(tid),
             owner: Some(client),
         },
     )?;
+    let label = line.label.copy()?;
     enter(work, Act::Begin { tid, label, client })?;
     answer(work, client, Answer::Done)
 }
@@ -37,18 +38,18 @@ fn has_begun<F: Server, X: Server>(
 /// The log has no room for another transaction.
 fn refuse_begin<F: Server, X: Server>(
     work: &mut Work<Servers<F, X>>,
-    line: ScriptLine,
+    line: &ScriptLine,
     need: u64,
     room: u64,
 ) -> Result<(), NoMemory>
-    ensures ok { OnOk result (work.new ≡ refuse_begin line need room work.old) }
+    ensures ok { OnOk result (work.new ≡ refuse_begin line.now need room work.old) }
     ensures saved { work.new.node.kept.saved ≡ work.old.node.kept.saved }
 {
-    let ScriptLine { client, label, .. } = line;
+    let client = line.client;
     put_label(
         work,
         KeptLabel {
-            label,
+            label: line.label.copy()?,
             tid: None,
             owner: Some(client),
         },
@@ -60,9 +61,9 @@ fn refuse_begin<F: Server, X: Server>(
 /// the last number of a transaction was given nothing happens.
 pub fn begin_command<F: Server, X: Server>(
     work: &mut Work<Servers<F, X>>,
-    line: ScriptLine,
+    line: &ScriptLine,
 ) -> Result<(), NoMemory>
-    ensures ok { OnOk result (work.new ≡ begin_command line work.old) }
+    ensures ok { OnOk result (work.new ≡ begin_command line.now work.old) }
     ensures saved { work.new.node.kept.saved ≡ work.old.node.kept.saved }
 {
     match work.node.manager.begin(line.client, work.room) {

@@ -1,5 +1,6 @@
 //! What a borrower commands.
-ghost use Rattle.std.specs.Prelude.{◌≡◌, OnOk};
+ghost use Rattle.std.specs.Prelude.{◌≡◌, OnOk, if◌then◌else◌};
+ghost use Rattle.qs_ops.specs.declared.answer.Answer.TheVariants as answers;
 ghost use Rattle.qs_node_step.specs.Borrowing.{is_aborted, is_void, take, take_command, yield, lent_command, with_loan, loan_command, borrower_command};
 
 use crate::requesting::request_command;
@@ -28,6 +29,17 @@ fn is_void<F: Server, X: Server>(work: &Work<Servers<F, X>>, tid: Tid, loan: &Le
     loan.inc != work.node.setting.inc || is_aborted(work, tid)
 }
 
+/// What a take is answered, by whether its loan is worth nothing any more.
+fn take_answer(has_ended: bool) -> Answer
+    ensures { result ≡ (if has_ended then answers.Ended else answers.Done) }
+{
+    if has_ended {
+        Answer::Ended
+    } else {
+        Answer::Done
+    }
+}
+
 fn take<F: Server, X: Server>(
     work: &mut Work<Servers<F, X>>,
     client: ClientNo,
@@ -37,13 +49,9 @@ fn take<F: Server, X: Server>(
     ensures ok { OnOk result (work.new ≡ take client tid loan.now work.old) }
     ensures saved { work.new.node.kept.saved ≡ work.old.node.kept.saved }
 {
-    let said = if is_void(work, tid, loan) {
-        Answer::Ended
-    } else {
-        Answer::Done
-    };
+    let has_ended = is_void(work, tid, loan);
     work.node.kept.take_first(client, tid)?;
-    answer(work, client, said)
+    answer(work, client, take_answer(has_ended))
 }
 
 /// A take waits until a loan was made.
@@ -102,8 +110,10 @@ fn with_loan<F: Server, X: Server>(
     ensures saved { work.new.node.kept.saved ≡ work.old.node.kept.saved }
 {
     if loan.yielded {
+        drop(command);
         answer(work, client, Answer::NotYours)
     } else if is_void(work, tid, loan) {
+        drop(command);
         answer(work, client, Answer::Ended)
     } else {
         lent_command(work, client, tid, command)
@@ -120,7 +130,10 @@ fn loan_command<F: Server, X: Server>(
     ensures saved { work.new.node.kept.saved ≡ work.old.node.kept.saved }
 {
     match work.node.kept.last_taken(client, tid) {
-        None => Ok(()),
+        None => {
+            drop(command);
+            Ok(())
+        }
         Some(loan) => with_loan(work, client, tid, command, &loan),
     }
 }

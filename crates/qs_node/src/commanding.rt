@@ -38,7 +38,10 @@ fn labelled<F: Server, X: Server>(
         return owner_command(work, client, tid, command);
     }
     match tid {
-        None => Ok(()),
+        None => {
+            drop(command);
+            Ok(())
+        }
         Some(tid) => borrower_command(work, client, tid, command),
     }
 }
@@ -60,13 +63,35 @@ fn with_command<F: Server, X: Server>(
 /// A command that begins a transaction.
 fn begin_came<F: Server, X: Server>(
     work: &mut Work<Servers<F, X>>,
-    line: ScriptLine,
+    line: &ScriptLine,
 ) -> Result<(), NoMemory>
-    ensures ok { OnOk result (work.new ≡ begin_command line (with_command line work.old)) }
+    ensures ok { OnOk result (work.new ≡ begin_command line.now (with_command line.now work.old)) }
     ensures saved { work.new.node.kept.saved ≡ work.old.node.kept.saved }
 {
     with_command(work, line.copy()?)?;
     begin_command(work, line)
+}
+
+/// The command is open, and is obeyed for the transaction of its label.
+fn open_and_obey<F: Server, X: Server>(
+    work: &mut Work<Servers<F, X>>,
+    line: ScriptLine,
+    owner: Option<ClientNo>,
+    tid: Option<Tid>,
+) -> Result<(), NoMemory>
+    ensures ok { OnOk result (work.new ≡ obeyed line.client owner tid line.command (with_command line work.old)) }
+    ensures saved { work.new.node.kept.saved ≡ work.old.node.kept.saved }
+{
+    let client = line.client;
+    let Ok(command) = line.command.copy() else {
+        drop(line);
+        return Err(NoMemory);
+    };
+    let Ok(()) = with_command(work, line) else {
+        drop(command);
+        return Err(NoMemory);
+    };
+    labelled(work, client, owner, tid, command)
 }
 
 /// A command for a label; it only stays open where the node has not met the label.
@@ -82,10 +107,7 @@ fn on_label<F: Server, X: Server>(
         Some(begun) => {
             let owner = begun.owner;
             let tid = begun.tid;
-            let client = line.client;
-            let command = line.command.copy()?;
-            with_command(work, line)?;
-            labelled(work, client, owner, tid, command)
+            open_and_obey(work, line, owner, tid)
         }
     }
 }
@@ -99,7 +121,11 @@ pub fn command_came<F: Server, X: Server>(
     ensures saved { work.new.node.kept.saved ≡ work.old.node.kept.saved }
 {
     match line.command {
-        Command::Begin => begin_came(work, line),
+        Command::Begin => {
+            let begun = begin_came(work, &line);
+            drop(line);
+            begun
+        }
         _ => on_label(work, line),
     }
 }

@@ -80,7 +80,11 @@ impl<F: Server, X: Server> Node<F, X> {
     {
         let mut keeping = match Keeping::new(alloc, kept) {
             Ok(keeping) => keeping,
-            Err(kept) => return Err(NodeOpen { kept, extra }),
+            Err(kept) => {
+                drop(files);
+                drop(found);
+                return Err(NodeOpen { kept, extra });
+            }
         };
         let mut servers = Servers::new(alloc, files, extra);
         match open_parts(alloc, &setting, &found, &mut keeping, &mut servers) {
@@ -90,10 +94,13 @@ impl<F: Server, X: Server> Node<F, X> {
                     work_of(alloc, setting, manager, servers, keeping, found),
                 )
             }
-            Err(NoMemory) => Err(NodeOpen {
-                kept: keeping.restore(),
-                extra: servers.into_extra(),
-            }),
+            Err(NoMemory) => {
+                drop(found);
+                Err(NodeOpen {
+                    kept: keeping.restore(),
+                    extra: servers.into_extra(),
+                })
+            }
         }
     }
 
@@ -296,7 +303,10 @@ fn run<F: Server, X: Server>(work: &mut Work<Servers<F, X>>, event: Event) -> Re
     ensures ok { OnOk result (work.new ≡ answer_waiting (settle (happen event (begin_incarnation work.old)))) }
     ensures saved { work.new.node.kept.saved ≡ work.old.node.kept.saved }
 {
-    begin_incarnation(work)?;
+    let Ok(()) = begin_incarnation(work) else {
+        drop(event);
+        return Err(NoMemory);
+    };
     happen(work, event)?;
     settle(work)?;
     answer_waiting(work)

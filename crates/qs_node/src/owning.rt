@@ -161,10 +161,18 @@ pub fn owner_command<F: Server, X: Server>(
     ensures saved { work.new.node.kept.saved ≡ work.old.node.kept.saved }
 {
     let Some(tid) = tid else {
+        drop(command);
         return answer(work, client, Answer::NotBegun);
     };
-    match kept_answer(work, tid, &command)? {
+    let Ok(kept) = kept_answer(work, tid, &command) else {
+        drop(command);
+        return Err(NoMemory);
+    };
+    match kept {
         None => open_command(work, client, tid, command),
-        Some(said) => answer(work, client, said),
+        Some(said) => {
+            drop(command);
+            answer(work, client, said)
+        }
     }
 }

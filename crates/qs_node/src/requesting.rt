@@ -48,10 +48,15 @@ pub fn request_command<F: Server, X: Server>(
     ensures saved { work.new.node.kept.saved ≡ work.old.node.kept.saved }
 {
     let Some(number) = next_number(work, tid, member.node) else {
+        drop(op);
         return Ok(());
     };
+    let Ok(issuer) = client_server(client) else {
+        drop(op);
+        return Err(NoMemory);
+    };
     let request = Outstanding {
-        issuer: client_server(client)?,
+        issuer,
         member,
         number,
         count: 0,

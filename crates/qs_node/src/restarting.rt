@@ -82,6 +82,7 @@ fn send_if<F: Server, X: Server>(
     if is_due {
         send(work, to, message)
     } else {
+        drop(message);
         Ok(())
     }
 }

@@ -4,9 +4,9 @@ ghost use Rattle.qs_node_step.specs.Restarts.{resume_tid, known_tids, begin_inca
 
 use qs_base::{List, NoMemory, Outcome, Tid};
 use qs_node_servers::Servers;
-use qs_node_settling::{give_notices, record_learnt};
+use qs_node_settling::{give_notices, record_learnt, tell_each};
 use qs_node_step::Work;
-use qs_node_work::{log_if, send, send_each};
+use qs_node_work::{log_if, send};
 use qs_ops::Server;
 use qs_packet::Message;
 
@@ -27,8 +27,7 @@ fn resume_tid<F: Server, X: Server>(
         None => send(work, tid.home, Message::Inquire { tid }),
         Some(Outcome::Commit) => {
             let tell = part.tell.listed(alloc)?;
-            let outcome = Outcome::Commit;
-            send_each(work, tell.as_slice(), &Message::Tell { tid, outcome })
+            tell_each(work, tell.as_slice(), tid, Outcome::Commit)
         }
         Some(Outcome::Abort) => {
             let rec = record_learnt(alloc, tid, Outcome::Abort, part);

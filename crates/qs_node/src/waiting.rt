@@ -193,7 +193,14 @@ fn is_due<F: Server, X: Server>(
 {
     match due_of(work, client)? {
         CommandDue::Nothing => Ok(false),
-        CommandDue::Answer(_) | CommandDue::Obey { .. } => Ok(true),
+        CommandDue::Answer(said) => {
+            drop(said);
+            Ok(true)
+        }
+        CommandDue::Obey { command, .. } => {
+            drop(command);
+            Ok(true)
+        }
     }
 }
 

@@ -4,6 +4,8 @@ ghost use Rattle.std.specs.Prelude.{◌≡◌, OnOk};
 ghost use Rattle.std.specs.List.{list_any};
 ghost use Rattle.std.specs.Option.{option_copied};
 ghost use Rattle.qs_base.specs.Order.{same_tid};
+ghost use Rattle.qs_packet.specs.declared.message.Message.TheVariants as messages;
+ghost use Rattle.qs_node_step.specs.Bringing.{send};
 ghost use Rattle.qs_node_step.specs.Answering.{is_kept_commit, was_committed, answer_unknown, answer_known, inquiry_at_home, inquiry_came};
 
 use crate::telling::keep_abort_told;
@@ -40,6 +42,19 @@ fn was_committed<F: Server, X: Server>(node: &NodeState<Servers<F, X>>, tid: Tid
     is_kept_commit(node.kept.outcome_of(tid)) || has_tid(tid, &node.committed)
 }
 
+/// The asker is told the outcome.
+fn tell<F: Server, X: Server>(
+    work: &mut Work<Servers<F, X>>,
+    peer: NodeNo,
+    tid: Tid,
+    outcome: Outcome,
+) -> Result<(), NoMemory>
+    ensures ok { OnOk result (work.new ≡ send peer (messages.Tell tid outcome) work.old) }
+    ensures saved { work.new.node.kept.saved ≡ work.old.node.kept.saved }
+{
+    send(work, peer, Message::Tell { tid, outcome })
+}
+
 fn answer_unknown<F: Server, X: Server>(
     work: &mut Work<Servers<F, X>>,
     peer: NodeNo,
@@ -49,12 +64,10 @@ fn answer_unknown<F: Server, X: Server>(
     ensures saved { work.new.node.kept.saved ≡ work.old.node.kept.saved }
 {
     if was_committed(&work.node, tid) {
-        let outcome = Outcome::Commit;
-        return send(work, peer, Message::Tell { tid, outcome });
+        return tell(work, peer, tid, Outcome::Commit);
     }
     keep_abort_told(work, tid, peer)?;
-    let outcome = Outcome::Abort;
-    send(work, peer, Message::Tell { tid, outcome })
+    tell(work, peer, tid, Outcome::Abort)
 }
 
 /// Where it runs, the asker is told at the decision.
@@ -72,14 +85,10 @@ fn answer_known<F: Server, X: Server>(
             work.node.manager.add_told(tid, peer);
             Ok(())
         }
-        Some(Outcome::Commit) => {
-            let outcome = Outcome::Commit;
-            send(work, peer, Message::Tell { tid, outcome })
-        }
+        Some(Outcome::Commit) => tell(work, peer, tid, Outcome::Commit),
         Some(Outcome::Abort) => {
             work.node.manager.add_tell(tid, peer);
-            let outcome = Outcome::Abort;
-            send(work, peer, Message::Tell { tid, outcome })
+            tell(work, peer, tid, Outcome::Abort)
         }
     }
 }

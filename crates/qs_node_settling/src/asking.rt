@@ -26,7 +26,10 @@ pub fn become_asked<F: Server, X: Server>(
     ensures saved { work.new.node.kept.saved ≡ work.old.node.kept.saved }
 {
     work.node.manager.ask(tid);
-    send_each(work, peers, &Message::AskVote { tid })
+    let message = Message::AskVote { tid };
+    let sent = send_each(work, peers, &message);
+    drop(message);
+    sent
 }
 
 /// Whether an AskVote of that peer counts: from the superior alone, once.
@@ -116,6 +119,7 @@ fn pass_unknown<F: Server, X: Server>(
     ensures saved { work.new.node.kept.saved ≡ work.old.node.kept.saved }
 {
     if tid.home == work.node.setting.node {
+        drop(cause);
         return Ok(());
     }
     send(work, tid.home, Message::VotedAbort { tid, cause })
@@ -134,6 +138,7 @@ pub fn refusal_came<F: Server, X: Server>(
         return pass_unknown(work, tid, cause);
     };
     if part.outcome.is_some() {
+        drop(cause);
         return Ok(());
     }
     block(work, tid, cause)

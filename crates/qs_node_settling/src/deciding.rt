@@ -1,11 +1,15 @@
 //! Decisions: what the home records, whom it tells, and how the servers of a node learn how a transaction ends.
 ghost use Rattle.std.specs.Prelude.{◌≡◌, [], fold, OnOk, IfOk};
 ghost use Rattle.qs_base.specs.declared.identifiers.Outcome.TheVariants as outcomes;
+ghost use Rattle.qs_book_journal.specs.declared.entry.Act.TheVariants as acts;
+ghost use Rattle.qs_packet.specs.declared.message.Message.TheVariants as messages;
 ghost use Rattle.qs_tm.specs.Manager as tm;
 ghost use Rattle.qs_tm.specs.Participant as participant;
+ghost use Rattle.qs_node_step.specs.State.{with_manager};
+ghost use Rattle.qs_node_step.specs.Bringing.{enter, send_each, log_if};
 ghost use Rattle.qs_node_step.specs.Deciding.{notice_of, notify, end_member, end_members, learn_member, learn_members, learners_at, give_notices, keep_outcome, decide, decide_commit};
 
-use qs_base::{Copied, List, NoMemory, Outcome, ServerNo, Tid};
+use qs_base::{Copied, List, NoMemory, NodeNo, Outcome, ServerNo, Tid};
 use qs_book_journal::Act;
 use qs_node_kept::Decided;
 use qs_node_servers::Servers;
@@ -208,6 +212,62 @@ fn keep_outcome<F: Server, X: Server>(
     })
 }
 
+/// The decision counts, and its record is appended, where there is one; the nodes that are to be told.
+fn log_decision<F: Server, X: Server>(
+    work: &mut Work<Servers<F, X>>,
+    tid: Tid,
+    outcome: Outcome,
+) -> Result<List<NodeNo>, NoMemory>
+    ensures tell { IfOk result (λ tell. tell ≡ (tm.decision tid outcome work.old.node.manager).tell) }
+    ensures ok { OnOk result (work.new ≡ log_if (tm.decision tid outcome work.old.node.manager).rec (with_manager (tm.decide tid outcome) work.old)) }
+    ensures saved { work.new.node.kept.saved ≡ work.old.node.kept.saved }
+{
+    let Decision { rec, tell } = work.node.manager.decide(tid, outcome)?;
+    log_if(work, rec)?;
+    Ok(tell)
+}
+
+/// The decision is kept for the owner, its entry stands, and the servers are told.
+fn enter_decision<F: Server, X: Server>(
+    work: &mut Work<Servers<F, X>>,
+    tid: Tid,
+    outcome: Outcome,
+    cause: Option<Cause>,
+) -> Result<(), NoMemory>
+    ensures ok { OnOk result (work.new ≡ give_notices tid outcome (enter (acts.Decide tid outcome cause) (keep_outcome tid outcome cause work.old))) }
+    ensures saved { work.new.node.kept.saved ≡ work.old.node.kept.saved }
+{
+    let Ok(()) = keep_outcome(work, tid, outcome, &cause) else {
+        drop(cause);
+        return Err(NoMemory);
+    };
+    enter(
+        work,
+        Act::Decide {
+            tid,
+            outcome,
+            cause,
+        },
+    )?;
+    give_notices(work, tid, outcome)
+}
+
+/// These nodes are told the outcome.
+pub fn tell_each<F: Server, X: Server>(
+    work: &mut Work<Servers<F, X>>,
+    nodes: &[NodeNo],
+    tid: Tid,
+    outcome: Outcome,
+) -> Result<(), NoMemory>
+    ensures ok { OnOk result (work.new ≡ send_each nodes.now (messages.Tell tid outcome) work.old) }
+    ensures saved { work.new.node.kept.saved ≡ work.old.node.kept.saved }
+{
+    let message = Message::Tell { tid, outcome };
+    let told = send_each(work, nodes, &message);
+    drop(message);
+    told
+}
+
 /// The home decides: a commit is recorded and forced where its log has a Prepare or a node is to be told; an
 /// abort ends a Prepare. The cause is `None` exactly on commit.
 pub fn decide<F: Server, X: Server>(
@@ -219,19 +279,12 @@ pub fn decide<F: Server, X: Server>(
     ensures ok { OnOk result (work.new ≡ decide tid outcome cause work.old) }
     ensures saved { work.new.node.kept.saved ≡ work.old.node.kept.saved }
 {
-    let Decision { rec, tell } = work.node.manager.decide(tid, outcome)?;
-    log_if(work, rec)?;
-    keep_outcome(work, tid, outcome, &cause)?;
-    enter(
-        work,
-        Act::Decide {
-            tid,
-            outcome,
-            cause,
-        },
-    )?;
-    give_notices(work, tid, outcome)?;
-    send_each(work, tell.as_slice(), &Message::Tell { tid, outcome })
+    let Ok(tell) = log_decision(work, tid, outcome) else {
+        drop(cause);
+        return Err(NoMemory);
+    };
+    enter_decision(work, tid, outcome, cause)?;
+    tell_each(work, tell.as_slice(), tid, outcome)
 }
 
 /// How many bytes the Commit needs, where it finds no room and nothing is kept for it. No node is made with

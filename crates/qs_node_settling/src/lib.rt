@@ -12,6 +12,6 @@ mod voting;
 
 pub use answering::inquiry_came;
 pub use asking::{ask_came, become_asked, block, closer_came, refusal_came};
-pub use deciding::{decide, give_notices};
+pub use deciding::{decide, give_notices, tell_each};
 pub use settling::settle;
 pub use telling::{record_learnt, tell_came, told_came};

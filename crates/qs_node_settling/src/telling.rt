@@ -3,12 +3,12 @@ ghost use Rattle.std.specs.Prelude.{◌≡◌, OnOk, IfOk};
 ghost use Rattle.std.specs.List.{list_any};
 ghost use Rattle.qs_node_step.specs.Telling.{names_of, names_at, end_record, record_learnt, learn, learn_unknown, take_outcome, tell_came, drop_counts, forget, end_told, take_told, take_names, keep_abort_told, is_other_node, told_unknown, told_known, told_at_home, told_came};
 
-use crate::deciding::give_notices;
+use crate::deciding::{give_notices, tell_each};
 use qs_base::{List, NoMemory, NodeNo, Outcome, Tid};
 use qs_ipc::Ipc;
 use qs_node_servers::Servers;
 use qs_node_step::Work;
-use qs_node_work::{log, log_if, send, send_each};
+use qs_node_work::{log, log_if, send};
 use qs_ops::Server;
 use qs_packet::Message;
 use qs_record::Record;
@@ -201,8 +201,7 @@ fn take_names<F: Server, X: Server>(
 {
     let alloc = work.node.manager.alloc;
     let names = work.node.manager.take_names(tid, further).listed(alloc)?;
-    let outcome = Outcome::Abort;
-    send_each(work, names.as_slice(), &Message::Tell { tid, outcome })
+    tell_each(work, names.as_slice(), tid, Outcome::Abort)
 }
 
 /// A home that knows nothing of a transaction keeps that it is aborted, and that this node was told.

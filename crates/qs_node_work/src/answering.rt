@@ -38,17 +38,28 @@ pub fn answer<F: Server, X: Server>(
 {
     let line = match work.node.commands.get(&client) {
         Some(command) => command.line.line,
-        None => return Ok(()),
+        None => {
+            drop(said);
+            return Ok(());
+        }
     };
     work.node.commands.remove(&client);
+    let Ok(copy) = said.copy() else {
+        drop(said);
+        return Err(NoMemory);
+    };
+    let given = ClientAnswer {
+        client,
+        answer: LineAnswer { line, answer: copy },
+    };
+    let Ok(()) = work.out.answers.push(given) else {
+        drop(said);
+        return Err(NoMemory);
+    };
     let entry = Act::Answer {
         client,
         line,
-        answer: said.copy()?,
+        answer: said,
     };
-    work.out.answers.push(ClientAnswer {
-        client,
-        answer: LineAnswer { line, answer: said },
-    })?;
     work.out.entries.push(entry)
 }

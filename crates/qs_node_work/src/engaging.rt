@@ -45,9 +45,11 @@ fn learn_label<F: Server, X: Server>(
                 tid: Some(tid),
                 owner: None,
             },
-        )?;
+        )
+    } else {
+        drop(label);
+        Ok(())
     }
-    Ok(())
 }
 
 /// Elsewhere than at the home a request makes the transaction known.
@@ -93,6 +95,21 @@ fn engage<F: Server, X: Server>(
     cover_from(work, engaged, tid, peer, number)
 }
 
+/// The node learns the label, and the request engages it.
+fn learn_and_engage<F: Server, X: Server>(
+    work: &mut Work<Servers<F, X>>,
+    label: Bytes,
+    tid: Tid,
+    peer: NodeNo,
+    number: u32,
+) -> Result<(), NoMemory>
+    ensures ok { OnOk result (work.new ≡ engage tid peer number (learn_label label tid work.old)) }
+    ensures saved { work.new.node.kept.saved ≡ work.old.node.kept.saved }
+{
+    learn_label(work, label, tid)?;
+    engage(work, tid, peer, number)
+}
+
 /// Whether a request is dropped: a home serves none of a transaction that it decided or does not know,
 /// another node none of one that it knows aborted.
 fn is_dropped(is_home: bool, part: Option<&Participant>) -> bool
@@ -128,6 +145,7 @@ fn take_in<F: Server, X: Server>(
     ensures saved { work.new.node.kept.saved ≡ work.old.node.kept.saved }
 {
     if dropped {
+        drop(delivery);
         Ok(())
     } else {
         enqueue(work, member.server, delivery)
@@ -148,8 +166,10 @@ pub fn request_came<F: Server, X: Server>(
     ensures saved { work.new.node.kept.saved ≡ work.old.node.kept.saved }
 {
     let dropped = is_dropped_here(work, tid);
-    learn_label(work, label, tid)?;
-    engage(work, tid, peer, number)?;
+    let Ok(()) = learn_and_engage(work, label, tid, peer, number) else {
+        drop(op);
+        return Err(NoMemory);
+    };
     let delivery = Delivery {
         tid,
         from: peer,

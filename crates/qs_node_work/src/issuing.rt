@@ -1,5 +1,7 @@
 //! How requests are issued.
 ghost use Rattle.std.specs.Prelude.{◌≡◌, OnOk, IfOk};
+ghost use Rattle.qs_tm.specs.Manager as tm;
+ghost use Rattle.qs_node_step.specs.State.{with_manager};
 ghost use Rattle.qs_node_step.specs.Requests.{enter_issue, with_local, issue_here, label_of, is_asked, ask_on, issue_away, issue_as, issue};
 
 use crate::answering::{enter, member_here};
@@ -36,6 +38,20 @@ fn enter_issue<F: Server, X: Server>(
     work.node.manager.issued(tid, request)
 }
 
+/// The entry of a request to a server of this node stands, and its number counts.
+fn enter_here<F: Server, X: Server>(
+    work: &mut Work<Servers<F, X>>,
+    tid: Tid,
+    request: Outstanding,
+    op: &Op,
+) -> Result<(), NoMemory>
+    ensures ok { OnOk result (work.new ≡ with_local tid request.number (enter_issue tid request op.now work.old)) }
+    ensures saved { work.new.node.kept.saved ≡ work.old.node.kept.saved }
+{
+    enter_issue(work, tid, request, op)?;
+    work.node.locals.put(tid, request.number)
+}
+
 /// To a server of this node.
 fn issue_here<F: Server, X: Server>(
     work: &mut Work<Servers<F, X>>,
@@ -47,8 +63,10 @@ fn issue_here<F: Server, X: Server>(
     ensures saved { work.new.node.kept.saved ≡ work.old.node.kept.saved }
 {
     let here = work.node.setting.node;
-    enter_issue(work, tid, request, &op)?;
-    work.node.locals.put(tid, request.number)?;
+    let Ok(()) = enter_here(work, tid, request, &op) else {
+        drop(op);
+        return Err(NoMemory);
+    };
     enqueue(
         work,
         request.member.server,
@@ -97,6 +115,23 @@ fn ask_on<F: Server, X: Server>(
     Ok(())
 }
 
+/// The entry of a request to another node stands, and its number counts; the label that goes with it.
+fn enter_away<F: Server, X: Server>(
+    work: &mut Work<Servers<F, X>>,
+    tid: Tid,
+    request: Outstanding,
+    op: &Op,
+) -> Result<Bytes, NoMemory>
+    ensures label { IfOk result (λ label. label ≡ label_of tid work.old.node) }
+    ensures ok { OnOk result (work.new ≡ with_manager (tm.sent tid request.member.node) (enter_issue tid request op.now work.old)) }
+    ensures saved { work.new.node.kept.saved ≡ work.old.node.kept.saved }
+{
+    let label = label_of(work, tid)?;
+    enter_issue(work, tid, request, op)?;
+    work.node.manager.sent(tid, request.member.node);
+    Ok(label)
+}
+
 /// To another node.
 fn issue_away<F: Server, X: Server>(
     work: &mut Work<Servers<F, X>>,
@@ -109,9 +144,10 @@ fn issue_away<F: Server, X: Server>(
 {
     let to = request.member.node;
     let asked = is_asked(work, tid);
-    let label = label_of(work, tid)?;
-    enter_issue(work, tid, request, &op)?;
-    work.node.manager.sent(tid, to);
+    let Ok(label) = enter_away(work, tid, request, &op) else {
+        drop(op);
+        return Err(NoMemory);
+    };
     send(
         work,
         to,
@@ -158,7 +194,10 @@ pub fn issue<F: Server, X: Server>(
     ensures saved { work.new.node.kept.saved ≡ work.old.node.kept.saved }
 {
     match next_number(work, tid, member.node) {
-        None => Ok(()),
+        None => {
+            drop(op);
+            Ok(())
+        }
         Some(number) => issue_as(
             work,
             tid,

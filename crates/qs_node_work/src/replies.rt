@@ -45,6 +45,7 @@ fn answer_issuer<F: Server, X: Server>(
     if waits_as(tid, member, number, work.node.commands.get(&client)) {
         answer(work, client, answer_of(reply))
     } else {
+        drop(reply);
         Ok(())
     }
 }
@@ -67,6 +68,7 @@ fn take_reply<F: Server, X: Server>(
     ensures saved { work.new.node.kept.saved ≡ work.old.node.kept.saved }
 {
     if request.is_by_files() {
+        drop(reply);
         work.node.manager.note_served(tid, request.count)
     } else {
         let client = client_of(request.issuer);
@@ -101,7 +103,10 @@ pub fn reply_came<F: Server, X: Server>(
     ensures saved { work.new.node.kept.saved ≡ work.old.node.kept.saved }
 {
     match waiting_at(work, tid, member, number) {
-        None => Ok(()),
+        None => {
+            drop(reply);
+            Ok(())
+        }
         Some(request) => {
             work.node.manager.drop_waiting(tid, member, number);
             take_reply(work, tid, reply, request)

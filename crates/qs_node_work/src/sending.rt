@@ -24,9 +24,11 @@ pub fn send<F: Server, X: Server>(
     ensures saved { work.new.node.kept.saved ≡ work.old.node.kept.saved }
 {
     if is_other(&work.node.setting, to) {
-        work.out.messages.push(Sending { to, message })?;
+        work.out.messages.push(Sending { to, message })
+    } else {
+        drop(message);
+        Ok(())
     }
-    Ok(())
 }
 
 /// The message to each of these nodes, in order.

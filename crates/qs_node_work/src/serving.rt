@@ -116,6 +116,7 @@ fn give_reply<F: Server, X: Server>(
     if delivery.from == work.node.setting.node {
         reply_came(work, delivery.tid, member, delivery.number, reply)
     } else if delivery.stale {
+        drop(reply);
         Ok(())
     } else {
         send(
@@ -175,7 +176,11 @@ fn serve_next<F: Server, X: Server>(
 {
     match work.node.queues.next(server) {
         None => Ok(()),
-        Some(delivery) => serve_or_drop(work, server, &delivery),
+        Some(delivery) => {
+            let served = serve_or_drop(work, server, &delivery);
+            drop(delivery);
+            served
+        }
     }
 }
 

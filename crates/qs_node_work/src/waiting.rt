@@ -31,13 +31,18 @@ pub(crate) fn enqueue<F: Server, X: Server>(
     ensures saved { work.new.node.kept.saved ≡ work.old.node.kept.saved }
 {
     if work.node.queues.full(delivery.tid, server) {
+        drop(delivery);
         return Err(NoMemory);
     }
     match work.node.queues.enqueue(server, delivery) {
         Ok(()) => Ok(()),
-        Err(refused) => match refused.why {
-            Why::Foreign => Ok(()),
-            Why::NoMemory => Err(NoMemory),
-        },
+        Err(refused) => {
+            let why = refused.why;
+            drop(refused);
+            match why {
+                Why::Foreign => Ok(()),
+                Why::NoMemory => Err(NoMemory),
+            }
+        }
     }
 }
