@@ -86,6 +86,12 @@ impl BookNode {
     pub fn opened(alloc: Global, opened: &Opened) -> Result<BookNode, NoMemory>
         ensures { IfOk result (λ node. node ≡ opened_node opened.now) }
     {
+        // What may fail comes first, so that no empty table is let go where it does.
+        let files = opened_files(alloc, opened)?;
+        let audit = opened_audit(alloc, opened)?;
+        let extra = opened.extra.copy()?;
+        let records = opened_records(alloc, opened.pending.as_slice())?;
+        let committed = opened_commits(alloc, opened.committed.as_slice())?;
         Ok(BookNode {
             alloc,
             up: true,
@@ -95,15 +101,15 @@ impl BookNode {
             format: opened.format,
             ticked: 0,
             stopped: 0,
-            files: opened_files(alloc, opened)?,
-            audit: opened_audit(alloc, opened)?,
+            files,
+            audit,
             names: Table::new(alloc),
             windows: Table::new(alloc),
             scratch: Table::new(alloc),
             timers: TimerTable::new(alloc),
-            extra: opened.extra.copy()?,
-            records: opened_records(alloc, opened.pending.as_slice())?,
-            committed: opened_commits(alloc, opened.committed.as_slice())?,
+            extra,
+            records,
+            committed,
             doubts: BTreeMap::new(alloc),
         })
     }
@@ -462,8 +468,9 @@ impl BookNode {
         ensures err { OnErr result (self.new ≡ self.old) }
     {
         let changes = self.pending(tid, NAMES)?;
-        let names = bound_names(self.alloc, changes.as_slice())?;
-        self.add_doubts(tid, names)?;
+        let names = bound_names(self.alloc, changes.as_slice());
+        drop(changes);
+        self.add_doubts(tid, names?)?;
         self.release(NAMES, tid);
         Ok(())
     }
@@ -492,8 +499,8 @@ impl BookNode {
         self.forget_record(*tid, EXTRA);
     }
 
-    fn reopen(&mut self, left: Reopened) -> Result<(), NoMemory>
-        ensures { OnOk result (self.new ≡ reopened_node left self.old) }
+    fn reopen(&mut self, left: &Reopened) -> Result<(), NoMemory>
+        ensures { OnOk result (self.new ≡ reopened_node left.now self.old) }
     {
         self.past.insert(self.inc)?;
         self.files.restart(&left.files, &left.files_kept)?;
@@ -520,11 +527,11 @@ impl BookNode {
     /// what is volatile, or was lost with its log's end, is gone.
     pub fn restart(
         &mut self,
-        left: Reopened,
+        left: &Reopened,
         votes: &FoundVotes,
         done: &[Tid],
     ) -> Result<(), NoMemory>
-        ensures { OnOk result (self.new ≡ restarted_node left votes.now done.now self.old) }
+        ensures { OnOk result (self.new ≡ restarted_node left.now votes.now done.now self.old) }
     {
         forget_all(self, done);
         self.keep_found(votes);

@@ -45,7 +45,9 @@ pub fn opened_files(alloc: Global, opened: &Opened) -> Result<Table, NoMemory>
     ensures { IfOk result (λ table. table ≡ (opened_node opened.now).files) }
 {
     let puts = puts_of(alloc, opened.files.as_slice())?;
-    opened_table(alloc, puts, FILES, opened.pending.as_slice())
+    let table = opened_table(alloc, &puts, FILES, opened.pending.as_slice());
+    drop(puts);
+    table
 }
 
 /// The audit notes of a log, with the votes of audit that it holds.
@@ -53,21 +55,30 @@ pub fn opened_audit(alloc: Global, opened: &Opened) -> Result<Table, NoMemory>
     ensures { IfOk result (λ table. table ≡ (opened_node opened.now).audit) }
 {
     let notes = notes_of(alloc, opened.audit.as_slice())?;
-    opened_table(alloc, notes, AUDIT, opened.pending.as_slice())
+    let table = opened_table(alloc, &notes, AUDIT, opened.pending.as_slice());
+    drop(notes);
+    table
 }
 
 fn opened_table(
     alloc: Global,
-    changes: List<Op>,
+    changes: &List<Op>,
     server: ServerNo,
     pending: &[Pending],
 ) -> Result<Table, NoMemory>
-    ensures { IfOk result (λ table. table ≡ restarted no_table changes (flat_map (keep_pending server.0) pending.now)) }
+    ensures { IfOk result (λ table. table ≡ restarted no_table changes.now (flat_map (keep_pending server.0) pending.now)) }
 {
-    let mut table = Table::new(alloc);
     let keeps = keeps_of(alloc, server, pending)?;
-    table.restart(&changes, &keeps)?;
-    Ok(table)
+    let mut table = Table::new(alloc);
+    let taken = table.restart(changes, &keeps);
+    drop(keeps);
+    match taken {
+        Ok(()) => Ok(table),
+        Err(refused) => {
+            drop(table);
+            Err(refused)
+        }
+    }
 }
 
 fn puts_of(alloc: Global, files: &[File]) -> Result<List<Op>, NoMemory>

@@ -31,8 +31,9 @@ impl Book {
         ensures { OnOk result (self.new ≡ begin here.0 tid label.now client self.old) }
     {
         let ticks = self.ticks_at(here);
-        let tx = Transaction::begun(self.alloc, label.copy()?, client, ticks);
+        let own_label = label.copy()?;
         put_label(&mut self.labels, label.copy()?, tid)?;
+        let tx = Transaction::begun(self.alloc, own_label, client, ticks);
         transactions::put(&mut self.transactions, tid, tx)?;
         nodes::begin(&mut self.nodes, here, tid.seq);
         Ok(())

@@ -199,6 +199,8 @@ pub fn put_votes(
     let place = usize::from(here.0);
     if place < nodes.len() {
         put_votes_at(&mut nodes[place], votes)?;
+    } else {
+        drop(votes);
     }
     Ok(())
 }
@@ -216,11 +218,11 @@ fn put_votes_at(node: &mut BookNode, votes: Vec<(Voter, OnRecord)>) -> Result<()
 pub fn restart(
     nodes: &mut Vec<BookNode>,
     here: NodeNo,
-    left: Reopened,
+    left: &Reopened,
     votes: &FoundVotes,
     done: &[Tid],
 ) -> Result<(), NoMemory>
-    ensures { OnOk result (nodes.new.items ≡ changed_at here.0 (restarted_node left votes.now done.now) nodes.old.items) }
+    ensures { OnOk result (nodes.new.items ≡ changed_at here.0 (restarted_node left.now votes.now done.now) nodes.old.items) }
 {
     let place = usize::from(here.0);
     if place < nodes.len() {

@@ -25,18 +25,25 @@ impl Book {
     pub fn opening(alloc: Global, opened: &[Opened]) -> Result<Book, NoMemory>
         ensures { IfOk result (λ book. book ≡ opening opened.now) }
     {
+        let nodes = opened_nodes(alloc, opened)?;
+        let owners = no_owners(alloc)?;
         let mut book = Book {
             alloc,
             stamp: 0,
             node: NodeNo(0),
             place: 0,
-            nodes: opened_nodes(alloc, opened)?,
+            nodes,
             labels: BTreeMap::new(alloc),
             transactions: BTreeMap::new(alloc),
-            owners: no_owners(alloc)?,
+            owners,
         };
-        name_from_first(&mut book, opened)?;
-        Ok(book)
+        match name_from_first(&mut book, opened) {
+            Ok(()) => Ok(book),
+            Err(refused) => {
+                drop(book);
+                Err(refused)
+            }
+        }
     }
 
     /// A transaction that a log names stands in the machine.

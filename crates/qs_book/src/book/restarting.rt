@@ -238,7 +238,10 @@ impl Book {
             return Ok(Some(FOUND_VOTES_ARE_VOTES));
         }
         let votes = FoundVotes::new(self.alloc, pend)?;
-        if !self.are_kept(here, node, &votes, &commits) {
+        let are_kept = self.are_kept(here, node, &votes, &commits);
+        drop(votes);
+        drop(commits);
+        if !are_kept {
             return Ok(Some(NO_VOTE_IS_LOST));
         }
         if !self.are_found_commits(here, node, done) {

@@ -280,14 +280,54 @@ impl Book {
     fn restart_node(
         &mut self,
         here: NodeNo,
-        left: Reopened,
+        left: &Reopened,
         pend: &[Found],
         done: &[Tid],
     ) -> Result<(), NoMemory>
-        ensures { OnOk result (self.new ≡ with_node here.0 (restarted_node left pend.now done.now) self.old) }
+        ensures { OnOk result (self.new ≡ with_node here.0 (restarted_node left.now pend.now done.now) self.old) }
     {
         let votes = FoundVotes::new(self.alloc, pend)?;
         nodes::restart(&mut self.nodes, here, left, &votes, done)
+    }
+
+    /// Takes in what was found, where it is known what files and audit of the node begin with. It
+    /// owns nothing, as what a function owns is let go at each place where it may fail.
+    fn restart_left(
+        &mut self,
+        here: NodeNo,
+        inc: u64,
+        pend: &[Found],
+        done: &[Tid],
+        commits: &FoundCommits,
+        left: &Reopened,
+    ) -> Result<(), NoMemory>
+        requires commits { commits.now ≡ done.now }
+        requires left { left.now ≡ reopened here.0 inc pend.now commits.now self.old }
+        ensures { OnOk result (self.new ≡ restart_found here.0 inc pend.now done.now self.old) }
+    {
+        let (old, begun) = (self.inc_at(here), self.begun_at(here));
+        commit_all(self, here, done)?;
+        vote_all(self, here, inc, pend, commits)?;
+        abort_all(self, here, old, begun)?;
+        self.restart_node(here, left, pend, done)
+    }
+
+    /// Takes in what was found, where each Commit is found by one look-up.
+    fn restart_with(
+        &mut self,
+        here: NodeNo,
+        inc: u64,
+        pend: &[Found],
+        done: &[Tid],
+        commits: &FoundCommits,
+    ) -> Result<(), NoMemory>
+        requires { commits.now ≡ done.now }
+        ensures { OnOk result (self.new ≡ restart_found here.0 inc pend.now done.now self.old) }
+    {
+        let left = self.reopened(here, inc, pend, commits)?;
+        let restarted = self.restart_left(here, inc, pend, done, commits, &left);
+        drop(left);
+        restarted
     }
 
     fn restart_found(
@@ -300,12 +340,9 @@ impl Book {
         ensures { OnOk result (self.new ≡ restart_found here.0 inc pend.now done.now self.old) }
     {
         let commits = FoundCommits::new(self.alloc, done)?;
-        let left = self.reopened(here, inc, pend, &commits)?;
-        let (old, begun) = (self.inc_at(here), self.begun_at(here));
-        commit_all(self, here, done)?;
-        vote_all(self, here, inc, pend, &commits)?;
-        abort_all(self, here, old, begun)?;
-        self.restart_node(here, left, pend, done)
+        let restarted = self.restart_with(here, inc, pend, done, &commits);
+        drop(commits);
+        restarted
     }
 
     /// The node restarts in that incarnation, with these found lists.

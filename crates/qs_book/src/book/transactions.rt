@@ -78,6 +78,7 @@ pub fn issue(
     ensures crosses { IfOk result (λ crossed. crossed ≡ crosses (lookup (is_at (tid_cmp tid)) transactions.old.entries) at request.member) }
 {
     let Some(tx) = transactions.get_mut(&tid) else {
+        drop(request);
         return Ok(false);
     };
     let crossed = tx.standing_request(at, request.member).is_some();
@@ -204,6 +205,6 @@ pub fn put(
 ) -> Result<(), NoMemory>
     ensures { OnOk result (transactions.new.entries ≡ insert_entry tid_cmp transactions.old.entries tid tx) }
 {
-    transactions.insert(tid, tx)?;
+    drop(transactions.insert(tid, tx)?);
     Ok(())
 }
