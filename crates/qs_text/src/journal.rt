@@ -161,7 +161,9 @@ fn add_reply(alloc: Global, out: &mut Bytes, reply: &Reply) -> Result<(), NoMemo
 {
     out.append(" ".as_bytes())?;
     let answer = answer_of(reply.copy()?);
-    put_answer(alloc, out, &answer, None)
+    let added = put_answer(alloc, out, &answer, None);
+    drop(answer);
+    added
 }
 
 /// Adds that a member voted.
