@@ -104,7 +104,9 @@ pub fn first_misfit(
 {
     no_misfit_means_conforming();
     let mut checker = Checker::new(alloc, script, opened)?;
-    first_misfit_from(&mut checker, history)
+    let found = first_misfit_from(&mut checker, history);
+    drop(checker);
+    found
 }
 
 /// The first of these entries that does not conform, by its place among them.
