@@ -179,8 +179,11 @@ impl ClientCourse {
     fn refuse_by(&mut self, line: ScriptLine, answer: &Answer) -> Result<(), NoMemory>
         ensures { OnOk result (self.new ≡ refused_by line answer.now self.old) }
     {
+        // (the command first, which has many kinds and is not needed any more)
+        let ScriptLine { label, command, .. } = line;
+        drop(command);
         if matches!(answer, Answer::LogFull { .. }) {
-            self.refused.insert(line.label)?;
+            self.refused.insert(label)?;
         }
         Ok(())
     }
