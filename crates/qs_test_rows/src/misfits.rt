@@ -50,21 +50,21 @@ fn compared(alloc: Global, script: &Script, journal: &Journal) -> Result<String,
     let Ok(misfit) = first_misfit(alloc, script, opened, journal.entries.as_slice()) else {
         bail!("no memory");
     };
-    Ok(match misfit {
-        None => format!(in alloc; "conforms")?,
+    match misfit {
+        None => Ok(format!(in alloc; "conforms")?),
         Some(
             Misfit {
                 place,
                 fault: Fault::Unlawful { clause },
             },
-        ) => format!(in alloc; "entry {place} breaks clause {clause}")?,
+        ) => Ok(format!(in alloc; "entry {place} breaks clause {clause}")?),
         Some(
             Misfit {
                 place,
                 fault: Fault::Broken { rule },
             },
-        ) => format!(in alloc; "entry {place} breaks {rule:?}")?,
-    })
+        ) => Ok(format!(in alloc; "entry {place} breaks {rule:?}")?),
+    }
 }
 
 /// Prints what the checker says of the history with its change.

@@ -3,6 +3,7 @@
 //! `|TEXT` is a line of the script, and the lines without a mark are the history. A line `~ N` behind
 //! these begins a neighbour of it, which changes at line N; `> TEXT` is a line of what stands there.
 
+use crate::shared::add_line;
 use anyhow::Error;
 use std::alloc::Global;
 
@@ -34,14 +35,12 @@ impl Row {
     /// Adds a line of the script, of the change or of the history.
     pub(crate) fn add(&mut self, alloc: Global, line: &str) -> Result<(), Error> {
         if let Some(text) = line.strip_prefix("|") {
-            self.script.push_str(text)?;
-            self.script.push_str("\n")?;
+            add_line(&mut self.script, text)
         } else if let Some(other) = line.strip_prefix("> ") {
-            self.change.push(String::from_str(alloc, other)?)?;
+            push_line(alloc, &mut self.change, other)
         } else {
-            self.lines.push(String::from_str(alloc, line)?)?;
+            push_line(alloc, &mut self.lines, line)
         }
-        Ok(())
     }
 
     /// Makes it its neighbour that changes at this line, where nothing stands yet.
@@ -65,8 +64,7 @@ impl Row {
             if Some(place + 1) == self.at {
                 add_lines(&mut text, self.change.as_slice())?;
             } else {
-                text.push_str(line)?;
-                text.push_str("\n")?;
+                add_line(&mut text, line)?;
             }
         }
         Ok(text)
@@ -79,8 +77,7 @@ impl Row {
             if Some(place + 1) == self.at {
                 break;
             }
-            text.push_str(line)?;
-            text.push_str("\n")?;
+            add_line(&mut text, line)?;
         }
         add_lines(&mut text, self.change.as_slice())?;
         Ok(text)
@@ -90,8 +87,12 @@ impl Row {
 /// Adds the lines, each with its line feed.
 fn add_lines(text: &mut String, lines: &[String]) -> Result<(), Error> {
     for line in lines {
-        text.push_str(line)?;
-        text.push_str("\n")?;
+        add_line(text, line)?;
     }
+    Ok(())
+}
+
+fn push_line(alloc: Global, lines: &mut Vec<String>, line: &str) -> Result<(), Error> {
+    lines.push(String::from_str(alloc, line)?)?;
     Ok(())
 }

@@ -5,9 +5,9 @@
 //! so many equal lines, and `+COUNT TEXT` so many equal parts. Printed is what is read of each.
 
 use crate::printing::print_script;
-use crate::shared::{tell, words_of};
+use crate::shared::{add_line, tell_fault, words_of};
 use anyhow::{Context, Error, bail};
-use qs_text_script::{Form, ScriptFailed, Status, read_script, read_words};
+use qs_text_script::{Form, ScriptFailed, read_script, read_words};
 
 /// A script, and how many nodes it is for.
 #[derive(Drop)]
@@ -20,10 +20,12 @@ impl ScriptText {
     /// Prints what is read of it.
     fn judge<R: AllocGlobal + Print>(&self, rt: &R) -> Result<(), Error> {
         match read_script(rt.alloc(), self.text.as_bytes(), self.nodes) {
-            Ok(script) => print_script(rt, &script),
-            Err(ScriptFailed::Fault { line, fault }) => {
-                tell(rt, &Status::Script { line, fault })
+            Ok(script) => {
+                let printed = print_script(rt, &script);
+                drop(script);
+                printed
             }
+            Err(ScriptFailed::Fault { line, fault }) => tell_fault(rt, line, fault),
             Err(ScriptFailed::NoMemory) => bail!("no memory"),
         }
     }
@@ -31,8 +33,7 @@ impl ScriptText {
     /// Adds what a line of a row says of its text.
     fn add(&mut self, line: &str) -> Result<(), Error> {
         if let Some(text) = line.strip_prefix("|") {
-            self.text.push_str(text)?;
-            self.text.push_str("\n")?;
+            add_line(&mut self.text, text)?;
         } else if let Some(text) = line.strip_prefix("!") {
             self.text.push_str(text)?;
         } else if let Some(rest) = line.strip_prefix("*") {

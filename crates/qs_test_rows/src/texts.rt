@@ -6,7 +6,7 @@
 //! node 0, `? long BYTES` reads a script of so many bytes, and `? waiting CLIENT LINE` prints the
 //! status of a run in which a client waits.
 
-use crate::shared::{tell, words_of};
+use crate::shared::{add_line, tell, tell_fault, words_of};
 use anyhow::{Context, Error, bail};
 use qs_base::{Bytes, ClientNo, List, NodeNo};
 use qs_book::{Book, BookFault};
@@ -14,6 +14,7 @@ use qs_text::out_text;
 use qs_text_script::{Script, ScriptFailed, Seat, Status, Waiting, read_script, read_words};
 use qs_tools::{Journal, JournalFailed, read_journal};
 use std::alloc::Global;
+use std::mem;
 
 /// The most bytes of a script that is made here.
 const LONGEST: usize = 2_000_000;
@@ -25,6 +26,7 @@ const ROUNDS: u64 = 12_288;
 fn words<R: AllocGlobal + Print>(rt: &R, line: &str) -> Result<(), Error> {
     let words = words_of(rt.alloc(), line)?;
     let form = read_words(words.as_slice());
+    drop(words);
     println!(rt; "  {form:?}")?;
     Ok(())
 }
@@ -41,7 +43,10 @@ fn waits<R: AllocGlobal + Print>(rt: &R, words: &str) -> Result<(), Error> {
         bail!("no memory");
     }
     let rounds = ROUNDS;
-    tell(rt, &Status::Unfinished { rounds, waiting })
+    let status = Status::Unfinished { rounds, waiting };
+    let told = tell(rt, &status);
+    drop(status);
+    told
 }
 
 /// Prints a script that was read.
@@ -67,7 +72,7 @@ fn script<R: AllocGlobal + Print>(rt: &R, text: &str, nodes: u8) -> Result<Optio
             Ok(Some(script))
         }
         Err(ScriptFailed::Fault { line, fault }) => {
-            tell(rt, &Status::Script { line, fault })?;
+            tell_fault(rt, line, fault)?;
             Ok(None)
         }
         Err(ScriptFailed::NoMemory) => bail!("no memory"),
@@ -86,8 +91,9 @@ fn add_client(script: &mut Script, number: u8) -> Result<(), Error> {
     Ok(())
 }
 
-/// Reads a script of so many bytes, one comment.
-fn long<R: AllocGlobal + Print>(rt: &R, bytes: usize) -> Result<(), Error> {
+/// Reads a script of as many bytes as the word spells, one comment.
+fn long<R: AllocGlobal + Print>(rt: &R, word: &str) -> Result<(), Error> {
+    let bytes = word.parse::<usize>().context("how many bytes?")?;
     if bytes > LONGEST {
         bail!("that is too long");
     }
@@ -95,7 +101,9 @@ fn long<R: AllocGlobal + Print>(rt: &R, bytes: usize) -> Result<(), Error> {
     for _ in 0..bytes {
         text.push_str("#")?;
     }
-    script(rt, text.as_str(), 1)?;
+    let read = script(rt, text.as_str(), 1);
+    drop(text);
+    drop(read?);
     Ok(())
 }
 
@@ -185,37 +193,55 @@ impl Texts {
     /// Reads a line: words, what is asked for, or a line that waits.
     pub(crate) fn add<R: AllocGlobal + Print>(&mut self, rt: &R, line: &str) -> Result<(), Error> {
         if let Some(line) = line.strip_prefix("$ ") {
-            words(rt, line)?;
+            words(rt, line)
         } else if let Some(task) = line.strip_prefix("? ") {
-            self.ask(rt, task)?;
+            self.ask(rt, task)
         } else {
-            self.lines.push_str(line)?;
-            self.lines.push_str("\n")?;
+            add_line(&mut self.lines, line)
         }
-        Ok(())
     }
 
     /// Does what a line behind `? ` asks for.
     fn ask<R: AllocGlobal + Print>(&mut self, rt: &R, line: &str) -> Result<(), Error> {
         let (task, words) = line.split_once(' ').unwrap_or((line, ""));
-        match task {
-            "script" => {
-                let nodes = words.parse::<u8>().context("how many nodes?")?;
-                self.script = script(rt, self.lines.as_str(), nodes)?;
-            }
-            "history" => {
-                let script = self.script.as_ref().context("no script")?;
-                history(rt, self.lines.as_str(), script)?;
-            }
-            "client" => {
-                let script = self.script.as_mut().context("no script")?;
-                add_client(script, words.parse::<u8>().context("which client?")?)?;
-            }
-            "long" => long(rt, words.parse::<usize>().context("how many bytes?")?)?,
-            "waiting" => waits(rt, words)?,
-            _ => bail!("nothing is asked for"),
-        }
+        self.carry_out(rt, task, words)?;
         self.lines.clear();
         Ok(())
+    }
+
+    fn carry_out<R: AllocGlobal + Print>(
+        &mut self,
+        rt: &R,
+        task: &str,
+        words: &str,
+    ) -> Result<(), Error> {
+        match task {
+            "script" => self.read_lines(rt, words),
+            "history" => self.show_lines(rt),
+            "client" => self.seat(words),
+            "long" => long(rt, words),
+            "waiting" => waits(rt, words),
+            _ => bail!("nothing is asked for"),
+        }
+    }
+
+    /// Reads the lines that wait as a script for so many nodes.
+    fn read_lines<R: AllocGlobal + Print>(&mut self, rt: &R, nodes: &str) -> Result<(), Error> {
+        let nodes = nodes.parse::<u8>().context("how many nodes?")?;
+        let read = script(rt, self.lines.as_str(), nodes)?;
+        drop(mem::replace(&mut self.script, read));
+        Ok(())
+    }
+
+    /// Reads the lines that wait as a history, behind the last script.
+    fn show_lines<R: AllocGlobal + Print>(&self, rt: &R) -> Result<(), Error> {
+        let script = self.script.as_ref().context("no script")?;
+        history(rt, self.lines.as_str(), script)
+    }
+
+    /// Gives the last script a client of this number.
+    fn seat(&mut self, number: &str) -> Result<(), Error> {
+        let script = self.script.as_mut().context("no script")?;
+        add_client(script, number.parse::<u8>().context("which client?")?)
     }
 }
