@@ -35,18 +35,31 @@ fn notes(alloc: Global, texts: &[&str]) -> Result<Changes, NoMemory> {
 fn seen<S: Server>(server: &mut S, tid: Tid) -> Result<usize, Fail>
     requires { is_own (S.state server.old).kind Notes ≡ true }
 {
-    match server.serve(tid, &Op::Notes)? {
-        Reply::Notes { list } => Ok(list.len()),
-        _ => Ok(usize::MAX),
-    }
+    let reply = server.serve(tid, &Op::Notes)?;
+    let count = match &reply {
+        Reply::Notes { list } => list.len(),
+        _ => usize::MAX,
+    };
+    drop(reply);
+    Ok(count)
+}
+
+fn is_done(alloc: Global, audit: &mut Audit) -> Result<bool, Fail> {
+    let op = note(alloc, "x")?;
+    let reply = audit.serve(tid(1), &op);
+    drop(op);
+    let reply = reply?;
+    let is_done = matches!(reply, Reply::Done);
+    drop(reply);
+    Ok(is_done)
 }
 
 // A note is served and voted for.
 fn is_voted(alloc: Global, audit: &mut Audit) -> Result<bool, Fail> {
-    let is_done = audit.serve(tid(1), &note(alloc, "x")?)? == Reply::Done;
-    let vote = audit.vote(tid(1), FRAME + NEED, FRAME)?;
+    let is_done = is_done(alloc, audit)?;
+    let is_recoverable = audit.vote(tid(1), FRAME + NEED, FRAME)? == Vote::Recoverable;
     let changes = audit.changes(tid(1))?;
-    Ok(is_done && vote == Vote::Recoverable && changes == notes(alloc, &["x"])?)
+    Ok(is_done && is_recoverable && changes == notes(alloc, &["x"])?)
 }
 
 // Once it is committed a transaction sees it, whose own vote is read-only.
@@ -57,12 +70,18 @@ fn is_seen(alloc: Global, audit: &mut Audit) -> Result<bool, Fail> {
     Ok(is_seen && is_read && audit.contents()? == notes(alloc, &["x"])?)
 }
 
+fn commits(alloc: Global, audit: &mut Audit) -> Result<bool, Fail> {
+    let is_voted = is_voted(alloc, audit)?;
+    let is_seen = is_seen(alloc, audit)?;
+    Ok(is_voted && is_seen && audit.class() == Class::Recoverable)
+}
+
 #[test]
 fn a_committed_note_is_seen(rt: HostRuntime) -> Result<(), Fail> {
     let mut audit = Audit::new(rt.alloc());
-    assert!(rt; is_voted(rt.alloc(), &mut audit)?);
-    assert!(rt; is_seen(rt.alloc(), &mut audit)?);
-    assert!(rt; audit.class() == Class::Recoverable);
+    let is_right = commits(rt.alloc(), &mut audit);
+    drop(audit);
+    assert!(rt; is_right?);
     Ok(())
 }
 
@@ -86,10 +105,16 @@ fn are_settled(audit: &mut Audit) -> Result<bool, Fail> {
     Ok(is_refused && is_seen && seen(audit, tid(3))? == 0)
 }
 
+fn keeps(alloc: Global, audit: &mut Audit) -> Result<bool, Fail> {
+    keep_two(alloc, audit)?;
+    are_settled(audit)
+}
+
 #[test]
 fn kept_notes_are_pending_until_their_outcome(rt: HostRuntime) -> Result<(), Fail> {
     let mut audit = Audit::new(rt.alloc());
-    keep_two(rt.alloc(), &mut audit)?;
-    assert!(rt; are_settled(&mut audit)?);
+    let is_right = keeps(rt.alloc(), &mut audit);
+    drop(audit);
+    assert!(rt; is_right?);
     Ok(())
 }

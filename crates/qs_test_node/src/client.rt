@@ -70,7 +70,10 @@ fn an_act_sends_and_an_act_takes(rt: HostRuntime) -> Result<(), Fail> {
     let (ends, mut node) = lanes(rt.alloc())?;
     let mut client = ClientCell::new(ClientNo(0), lines, ends);
     goes_to_a_thread(&client);
-    assert!(rt; acts(&mut client, &mut node)?);
+    let is_right = acts(&mut client, &mut node);
+    drop(client);
+    drop(node);
+    assert!(rt; is_right?);
     Ok(())
 }
 
@@ -86,6 +89,9 @@ fn a_visit_leaves_the_rings_alone(rt: HostRuntime) -> Result<(), Fail> {
     let lines = lines(rt.alloc())?;
     let (ends, mut node) = lanes(rt.alloc())?;
     let mut client = ClientCell::new(ClientNo(0), lines, ends);
-    assert!(rt; visits(&mut client, &mut node)?);
+    let is_right = visits(&mut client, &mut node);
+    drop(client);
+    drop(node);
+    assert!(rt; is_right?);
     Ok(())
 }

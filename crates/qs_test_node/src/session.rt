@@ -85,19 +85,27 @@ struct Node {
     sent: List<Packet>,
 }
 
-fn outcome_of(taken: Taken) -> Outcome {
+fn outcome_of(taken: &Taken) -> Outcome {
     match taken {
-        Taken::OldPeer { known, got } => Outcome::OldPeer(known, got),
-        Taken::NewPeer { old, new } => Outcome::NewPeer(old, new),
-        Taken::OldSelf { mine, got } => Outcome::OldSelf(mine, got),
+        Taken::OldPeer { known, got } => Outcome::OldPeer(*known, *got),
+        Taken::NewPeer { old, new } => Outcome::NewPeer(*old, *new),
+        Taken::OldSelf { mine, got } => Outcome::OldSelf(*mine, *got),
         Taken::Hello => Outcome::Hello,
-        Taken::Repeat { number } => Outcome::Repeat(number),
-        Taken::Early { number, expected } => Outcome::Early(number, expected),
+        Taken::Repeat { number } => Outcome::Repeat(*number),
+        Taken::Early { number, expected } => Outcome::Early(*number, *expected),
         Taken::Message {
             message: Message::AskVote { tid },
         } => Outcome::HandsUp(tid.seq),
         Taken::Message { .. } => Outcome::Failed,
     }
+}
+
+/// What comes of a packet at an end.
+fn received(end: &mut Session, packet: Packet) -> Outcome {
+    let taken = end.receive(packet);
+    let outcome = outcome_of(&taken);
+    drop(taken);
+    outcome
 }
 
 fn tick(node: &mut Node) -> Result<Outcome, NoMemory> {
@@ -126,7 +134,7 @@ fn carry_out(
         },
         Step::Tick => tick(node),
         Step::Deliver(at) => match node.sent.get(at) {
-            Some(packet) => Ok(outcome_of(other.end.receive(packet.copy()?))),
+            Some(packet) => Ok(received(&mut other.end, packet.copy()?)),
             None => Ok(Outcome::Failed),
         },
         Step::Restart(inc) => {
@@ -149,11 +157,23 @@ fn fresh_node(alloc: Global, me: NodeNo, peer: NodeNo) -> Node {
 fn first_wrong(alloc: Global, rows: &[(NodeNo, Step, Outcome)]) -> Result<Option<usize>, NoMemory> {
     let mut a = fresh_node(alloc, A, B);
     let mut b = fresh_node(alloc, B, A);
+    let wrong = first_wrong_of(alloc, &mut a, &mut b, rows);
+    drop(a);
+    drop(b);
+    wrong
+}
+
+fn first_wrong_of(
+    alloc: Global,
+    a: &mut Node,
+    b: &mut Node,
+    rows: &[(NodeNo, Step, Outcome)],
+) -> Result<Option<usize>, NoMemory> {
     for (place, (from, step, wanted)) in rows.iter().enumerate() {
         let outcome = if *from == A {
-            carry_out(alloc, &mut a, &mut b, *step)?
+            carry_out(alloc, a, b, *step)?
         } else {
-            carry_out(alloc, &mut b, &mut a, *step)?
+            carry_out(alloc, b, a, *step)?
         };
         if outcome != *wanted {
             return Ok(Some(place));
@@ -178,7 +198,7 @@ const PACKETS: [(u64, u64, u64, Outcome); 8] = [
 fn packets_and_their_answers(rt: HostRuntime) {
     let mut end = Session::new(rt.alloc(), A, 1, B);
     for (inc, to_inc, number, wanted) in PACKETS {
-        assert!(rt; outcome_of(end.receive(packet(inc, to_inc, number))) == wanted);
+        assert!(rt; received(&mut end, packet(inc, to_inc, number)) == wanted);
     }
 }
 

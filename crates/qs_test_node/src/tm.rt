@@ -1,5 +1,7 @@
 //! A home that decides, a node that answers it, and what a log brings back. Expected numbers are those of
 //! the formats: a Commit with one node has 16 bytes, a batch 41 besides, and 128 are kept.
+ghost use Rattle.std.specs.Prelude.{◌≤◌};
+
 use qs_base::{ClientNo, List, Member, NodeNo, Outcome, ServerNo, Tid};
 use qs_engage::Engaged;
 use qs_ops::servers::{FILES, SCRATCH};
@@ -35,10 +37,20 @@ fn a_transaction_needs_room(rt: HostRuntime) -> Result<(), Fail> {
     };
     assert!(rt; manager.begin(ClientNo(0), 72) == Err(full));
     assert!(rt; manager.begin(ClientNo(0), 128) == Ok(FIRST));
-    manager.add_told(FIRST, OTHER);
-    assert!(rt; manager.need_past(FIRST, 150)? == Some(185));
-    assert!(rt; manager.need_past(FIRST, 185)? == None);
+    let is_right = needs(&mut manager);
+    drop(manager);
+    assert!(rt; is_right?);
     Ok(())
+}
+
+// What its Commit needs, with node 1 to be told.
+fn needs(manager: &mut Manager) -> Result<bool, Fail>
+    requires extra { manager.old.extra ≤ 8 }
+    requires keep { manager.old.keep ≤ 144 }
+{
+    manager.add_told(FIRST, OTHER);
+    let is_needed = manager.need_past(FIRST, 150)? == Some(185);
+    Ok(is_needed && manager.need_past(FIRST, 185)? == None)
 }
 
 // A request goes to node 1, one is served here, and the owner asks for the commit.
@@ -72,7 +84,11 @@ fn is_decided(manager: &mut Manager, told: List<NodeNo>) -> Result<bool, Fail> {
     let tells = made.tell == told;
     let commit = Record::Commit { tid: FIRST, told };
     manager.logged(FIRST, &commit);
-    Ok(tells && made.rec == Some(commit))
+    let commit = Some(commit);
+    let is_recorded = made.rec == commit;
+    drop(made);
+    drop(commit);
+    Ok(tells && is_recorded)
 }
 
 // The commit stands until node 1 took it in.
@@ -112,7 +128,9 @@ fn is_refused(manager: &mut Manager) -> Result<bool, Fail> {
             limit: 10,
         },
     };
-    manager.voted(FIRST, files_at(OTHER), &refusal, 1)?;
+    let voted = manager.voted(FIRST, files_at(OTHER), &refusal, 1);
+    drop(refusal);
+    voted?;
     manager.add_cause(FIRST, Cause::Asked)?;
     Ok(is_served && manager.take_causes(FIRST).len() == 2)
 }
@@ -171,7 +189,9 @@ fn a_log_brings_back_a_vote(rt: HostRuntime) -> Result<(), Fail> {
         covers: 1,
         changes: List::new(rt.alloc()),
     };
-    assert!(rt; is_taken_up(rt.alloc(), &vote)?);
+    let is_right = is_taken_up(rt.alloc(), &vote);
+    drop(vote);
+    assert!(rt; is_right?);
     Ok(())
 }
 
