@@ -7,7 +7,7 @@ use crate::samples;
 use crate::samples::TID;
 use qs_base::List;
 use qs_codec::Reader;
-use qs_log_batch::{Batch, BatchFault, read_batches};
+use qs_log_batch::{Batch, BatchFault, FoundBatches, read_batches};
 use qs_record::{Record, decode};
 use std::alloc::Global;
 use std::test::Fail;
@@ -68,18 +68,30 @@ fn area_with(alloc: Global, second: &[u8]) -> Result<Vec<u8>, Fail> {
     Ok(area)
 }
 
+fn has_both(alloc: Global, found: &FoundBatches) -> Result<bool, Fail> {
+    let mut records = List::new(alloc);
+    records.push(samples::prepare(alloc, TID, 1, b"hello")?)?;
+    records.push(samples::commit(alloc, TID, &[])?)?;
+    Ok(found.used == 135 && found.records.as_slice() == records.as_slice())
+}
+
 #[test]
 fn batches_are_read(rt: HostRuntime) -> Result<(), Fail> {
-    let alloc = rt.alloc();
-    let area = area_with(alloc, &COMMIT)?;
-    let found = read_batches(alloc, area.as_slice(), 1)?;
-    assert!(rt; found.used == 135);
-    let records = [
-        samples::prepare(alloc, TID, 1, b"hello")?,
-        samples::commit(alloc, TID, &[])?,
-    ];
-    assert!(rt; found.records.as_slice() == records.as_slice());
+    let area = area_with(rt.alloc(), &COMMIT)?;
+    let found = read_batches(rt.alloc(), area.as_slice(), 1)?;
+    let has_both = has_both(rt.alloc(), &found);
+    drop(found);
+    drop(area);
+    assert!(rt; has_both?);
     Ok(())
+}
+
+/// How many bytes the batches of an area take.
+fn used_in(alloc: Global, area: &[u8]) -> Result<u64, BatchFault> {
+    let found = read_batches(alloc, area, 1)?;
+    let used = found.used;
+    drop(found);
+    Ok(used)
 }
 
 /// A second batch, the bytes of the area that are changed, how many bytes it has, and how many are used, or where
@@ -114,10 +126,9 @@ fn areas_are_read_to_their_end_or_damage(rt: HostRuntime) -> Result<(), Fail> {
             }
         }
         area.truncate(len);
-        match read_batches(alloc, area.as_slice(), 1) {
-            Ok(found) => assert!(rt; Ok(found.used) == wanted),
-            Err(fault) => assert!(rt; Err(fault) == wanted),
-        }
+        let used = used_in(alloc, area.as_slice());
+        drop(area);
+        assert!(rt; used == wanted);
     }
     Ok(())
 }
@@ -146,9 +157,11 @@ fn batches_are_sealed(rt: HostRuntime) -> Result<(), Fail> {
         if is_emptied {
             batch.clear();
         }
-        let rec = record_of(rt.alloc(), bytes)?;
         assert!(rt; bytes.len() < 1000 && batch.bytes() < 1000);
-        batch.add(&rec)?;
+        let rec = record_of(rt.alloc(), bytes)?;
+        let added = batch.add(&rec);
+        drop(rec);
+        added?;
         assert!(rt; (batch.len(), batch.bytes()) == size && !batch.is_empty());
         assert!(rt; is_sealed(batch.seal(), part));
     }

@@ -79,7 +79,16 @@ fn a_power_cut_leaves_old_bytes_and_new_ones(rt: HostRuntime) -> Result<(), Fail
 
 fn left_by_a_cut(alloc: Global, seed: u64) -> Result<[u8; 3], Fail> {
     let mut disk = zeros(alloc, seed, &[])?;
-    write_through(&mut disk, 99, b"abc")?;
+    let left = cut(&mut disk);
+    drop(disk);
+    left
+}
+
+fn cut(disk: &mut MemDisk) -> Result<[u8; 3], Fail>
+    requires size { length disk.old.disk.content ≡ 65536 }
+    requires still { IsStill disk.old.disk }
+{
+    write_through(disk, 99, b"abc")?;
     disk.write(100, b"x")?;
     disk.power_cut()?;
     let bytes = disk.bytes();

@@ -40,13 +40,25 @@ where
         && has(disk, 16_777_213, [0; 3])
 }
 
+// Whether the file is made by the first write, and has what was written then. It is removed again.
+fn makes_its_file(
+    rt: &HostRuntime,
+    path: &str,
+    disk: &mut FileDisk<HostRuntime>,
+) -> Result<bool, Fail> {
+    let is_new = !fs::exists(rt, path)?;
+    let is_kept = keeps(disk);
+    fs::remove_file(rt, path)?;
+    Ok(is_new && is_kept)
+}
+
 #[test]
 fn what_was_written_is_read_again(rt: HostRuntime) -> Result<(), Fail> {
     let path = new_path(&rt, "written")?;
     let mut disk = FileDisk::new(rt, rt.alloc(), path.as_str())?;
-    assert!(rt; !fs::exists(&rt, path.as_str())?);
-    assert!(rt; keeps(&mut disk));
-    fs::remove_file(&rt, path.as_str())?;
+    let is_right = makes_its_file(&rt, path.as_str(), &mut disk);
+    drop(disk);
+    assert!(rt; is_right?);
     Ok(())
 }
 
@@ -63,6 +75,17 @@ where
         && has(disk, 0, *b"abc")
 }
 
+// Whether another disk has the file once the one let it go. It is removed then.
+fn is_free(
+    rt: &HostRuntime,
+    path: &str,
+    another: &mut FileDisk<HostRuntime>,
+) -> Result<bool, Fail> {
+    let is_free = has(another, 0, *b"abc");
+    fs::remove_file(rt, path)?;
+    Ok(is_free)
+}
+
 #[test]
 fn a_file_is_one_disks_also_through_a_power_cut(rt: HostRuntime) -> Result<(), Fail> {
     let path = new_path(&rt, "cut")?;
@@ -70,8 +93,10 @@ fn a_file_is_one_disks_also_through_a_power_cut(rt: HostRuntime) -> Result<(), F
     let mut disk = FileDisk::new(rt, rt.alloc(), path.as_str())?;
     let is_refused = refuses_another(&mut disk, &mut another);
     drop(disk);
-    assert!(rt; is_refused && has(&mut another, 0, *b"abc"));
-    fs::remove_file(&rt, path.as_str())?;
+    let is_free = is_free(&rt, path.as_str(), &mut another);
+    drop(another);
+    let is_free = is_free?;
+    assert!(rt; is_refused && is_free);
     Ok(())
 }
 
@@ -90,15 +115,24 @@ where
         && disk.faults() == 4
 }
 
+// Whether calls are refused while there is no folder, and a write goes once there is one. The folder
+// is removed again.
+fn goes_on(rt: &HostRuntime, folder: &str, disk: &mut FileDisk<HostRuntime>) -> Result<bool, Fail> {
+    let is_counted = counts_refusals(disk);
+    fs::create_dir(rt, folder)?;
+    let is_written = disk.write(0, b"abc").is_ok() && disk.faults() == 4;
+    fs::remove_dir_all(rt, folder)?;
+    Ok(is_counted && is_written)
+}
+
 #[test]
 fn what_the_system_refuses_is_counted(rt: HostRuntime) -> Result<(), Fail> {
     let folder = new_path(&rt, "refused")?;
     let path = format!(in rt.alloc(); "{folder}/disk")?;
     let mut disk = FileDisk::new(rt, rt.alloc(), path.as_str())?;
     goes_to_a_thread(&disk);
-    assert!(rt; counts_refusals(&mut disk));
-    fs::create_dir(&rt, folder.as_str())?;
-    assert!(rt; disk.write(0, b"abc").is_ok() && disk.faults() == 4);
-    fs::remove_dir_all(&rt, folder.as_str())?;
+    let is_right = goes_on(&rt, folder.as_str(), &mut disk);
+    drop(disk);
+    assert!(rt; is_right?);
     Ok(())
 }

@@ -26,10 +26,12 @@ fn texts_are_read_to_their_limits(rt: HostRuntime) -> Result<(), Fail> {
     let mut again = MemSource::new(rt.alloc(), b"abc", &[1])?;
     assert!(rt; read_text(rt.alloc(), &mut again, 8).err() == Some(ReadFault::Failed));
     assert!(rt; read_text(rt.alloc(), &mut again, 8)?.as_slice() == b"abc".as_slice());
+    drop(again);
     let mut parts = MemSource::new(rt.alloc(), b"abcdef", &[])?;
     for part in [b"abcd".as_slice(), b"ef".as_slice(), b"".as_slice()] {
         assert!(rt; read_text(rt.alloc(), &mut parts, 3)?.as_slice() == part);
     }
+    drop(parts);
     let text = b"some text".as_slice();
     assert!(rt; read_text(rt.alloc(), &mut StdSource::new(text), 64)?.as_slice() == text);
     Ok(())
@@ -52,6 +54,7 @@ fn texts_are_given_in_pieces(rt: HostRuntime) -> Result<(), Fail> {
     assert!(rt; full.give(b"") == Ok(0));
     assert!(rt; full.give(b"d") == Err(WriteFailed));
     assert!(rt; full.given() == b"abc".as_slice());
+    drop(full);
 
     let mut room = [0; 4];
     let mut sink = StdSink::new(room.as_mut_slice());

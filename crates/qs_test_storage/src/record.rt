@@ -16,9 +16,14 @@ use std::test::Fail;
 
 #[test]
 fn records_go_both_ways(rt: HostRuntime) -> Result<(), Fail> {
-    let alloc = rt.alloc();
-    assert!(rt; is_spelled_so(alloc, &prepare(alloc, TID, 1, b"hello")?, &PREPARE)?);
-    assert!(rt; is_spelled_so(alloc, &commit(alloc, TID, &[])?, &COMMIT)?);
+    let prepare = prepare(rt.alloc(), TID, 1, b"hello")?;
+    let is_prepare = is_spelled_so(rt.alloc(), &prepare, &PREPARE);
+    drop(prepare);
+    assert!(rt; is_prepare?);
+    let commit = commit(rt.alloc(), TID, &[])?;
+    let is_commit = is_spelled_so(rt.alloc(), &commit, &COMMIT);
+    drop(commit);
+    assert!(rt; is_commit?);
     Ok(())
 }
 
@@ -28,13 +33,11 @@ fn is_spelled_so(alloc: Global, rec: &Record, bytes: &[u8]) -> Result<bool, Fail
     let mut reader = Reader::new(bytes);
     let read = decode(alloc, &mut reader)?;
     let mut out = List::new(alloc);
-    encode(&read, &mut out)?;
-    Ok(
-        read == *rec
-            && reader.left() == 0
-            && out.as_slice() == bytes
-            && length(&read) == bytes.len() as u64,
-    )
+    let written = encode(&read, &mut out);
+    let is_read = read == *rec && length(&read) == bytes.len() as u64;
+    drop(read);
+    written?;
+    Ok(is_read && reader.left() == 0 && out.as_slice() == bytes)
 }
 
 /// The operation with this tag, of name `a`, text `bc`, 258 ticks, client 3 and code 7.
@@ -88,9 +91,17 @@ const OPERATIONS: [(u8, &[u8]); 17] = [
 #[test]
 fn operations_go_both_ways(rt: HostRuntime) -> Result<(), Fail> {
     for (tag, bytes) in OPERATIONS.iter() {
-        assert!(rt; is_spelled(rt.alloc(), &op_of(rt.alloc(), *tag)?, bytes)?);
+        assert!(rt; goes_both_ways(rt.alloc(), *tag, bytes)?);
     }
     Ok(())
+}
+
+// Whether these are the bytes of the operation with this tag, both ways.
+fn goes_both_ways(alloc: Global, tag: u8, bytes: &[u8]) -> Result<bool, Fail> {
+    let op = op_of(alloc, tag)?;
+    let is_spelled = is_spelled(alloc, &op, bytes);
+    drop(op);
+    is_spelled
 }
 
 // Whether these are the operation's bytes, both ways.
@@ -98,8 +109,11 @@ fn is_spelled(alloc: Global, op: &Op, bytes: &[u8]) -> Result<bool, Fail> {
     let mut reader = Reader::new(bytes);
     let read = decode_op(alloc, &mut reader)?;
     let mut out = List::new(alloc);
-    encode_op(&read, &mut out)?;
-    Ok(read == *op && reader.left() == 0 && out.as_slice() == bytes)
+    let written = encode_op(&read, &mut out);
+    let is_read = read == *op;
+    drop(read);
+    written?;
+    Ok(is_read && reader.left() == 0 && out.as_slice() == bytes)
 }
 
 /// `TID`, server 95 of node 15, and nodes 3 and 15.
@@ -158,7 +172,8 @@ fn records_are_refused_at_their_first_fault(rt: HostRuntime) -> Result<(), Fail>
         let mut bytes = PREPARE;
         bytes[at] = byte;
         let mut reader = Reader::new(&bytes[..len]);
-        assert!(rt; decode(rt.alloc(), &mut reader) == Err(RecordFault::Codec { fault }));
+        let refused = decode(rt.alloc(), &mut reader).err();
+        assert!(rt; refused == Some(RecordFault::Codec { fault }));
         assert!(rt; reader.left() == len);
     }
     Ok(())

@@ -46,12 +46,15 @@ fn log(alloc: Global) -> Result<List<Record>, Fail> {
 }
 
 fn has_files(alloc: Global, found: &Recovered) -> Result<bool, Fail> {
-    let files = [put(alloc, b"one")?, put(alloc, b"two")?];
+    let mut files = List::new(alloc);
+    files.push(put(alloc, b"one")?)?;
+    files.push(put(alloc, b"two")?)?;
     Ok(found.files.as_slice() == files.as_slice() && found.audit.len() == 0)
 }
 
 fn has_outcomes(alloc: Global, found: &Recovered) -> Result<bool, Fail> {
-    let untold = [commit(alloc, tid(0, 2), &[NodeNo(1)])?];
+    let mut untold = List::new(alloc);
+    untold.push(commit(alloc, tid(0, 2), &[NodeNo(1)])?)?;
     Ok(
         found.committed.as_slice() == [tid(0, 1), tid(0, 2)].as_slice()
             && found.untold.as_slice() == untold.as_slice(),
@@ -71,7 +74,8 @@ fn has_votes(alloc: Global, found: &Recovered) -> Result<bool, Fail> {
             covers: 4,
         },
     ];
-    let in_doubt = [prepare(alloc, tid(1, 1), 4, b"four")?];
+    let mut in_doubt = List::new(alloc);
+    in_doubt.push(prepare(alloc, tid(1, 1), 4, b"four")?)?;
     Ok(
         found.votes.as_slice() == votes.as_slice()
             && found.in_doubt.as_slice() == in_doubt.as_slice(),

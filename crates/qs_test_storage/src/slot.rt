@@ -86,17 +86,45 @@ fn turn_twice(disk: &mut MemDisk) -> Result<u64, SlotFault>
     Ok(slots.sequence())
 }
 
+fn has_both(bytes: &[u8]) -> bool {
+    bytes.get(..57) == Some(FIRST.as_slice()) && bytes.get(4_096..4_153) == Some(SECOND.as_slice())
+}
+
+// Writes two values to fresh slots, and finds the second one there.
+fn turns(disk: &mut MemDisk) -> Result<bool, Fail>
+    requires { IsStill disk.old.disk }
+{
+    let is_second = turn_twice(disk)? == 2;
+    let has_both = has_both(disk.bytes());
+    let slots = open_slots(disk, LIMIT)?;
+    Ok(is_second && has_both && slots.sequence() == 2 && slots.value() == value(2, 1))
+}
+
 #[test]
 fn values_go_to_the_slots_in_turn(rt: HostRuntime) -> Result<(), Fail> {
     let mut disk = disk_of(rt.alloc(), &ZEROS, &ZEROS, &[])?;
-    assert!(rt; turn_twice(&mut disk) == Ok(2));
-    let bytes = disk.bytes();
-    assert!(rt; bytes.get(..57) == Some(FIRST.as_slice()));
-    assert!(rt; bytes.get(4_096..4_153) == Some(SECOND.as_slice()));
-    let slots = open_slots(&mut disk, LIMIT)?;
-    assert!(rt; slots.sequence() == 2);
-    assert!(rt; slots.value() == value(2, 1));
+    let is_right = turns(&mut disk);
+    drop(disk);
+    assert!(rt; is_right?);
     Ok(())
+}
+
+// The present sequence and value of these slots, or where they are damaged.
+fn present(
+    alloc: Global,
+    first: &[u8; 57],
+    second: &[u8; 57],
+    limit: u64,
+) -> Result<Result<(u64, SlotValue), SlotFault>, Fail>
+    requires { limit < 2 ^ 62 }
+{
+    let mut disk = disk_of(alloc, first, second, &[])?;
+    let opened = open_slots(&mut disk, limit);
+    drop(disk);
+    match opened {
+        Ok(slots) => Ok(Ok((slots.sequence(), slots.value()))),
+        Err(fault) => Ok(Err(fault)),
+    }
 }
 
 /// Two slots, the limit of their numbers, and the present sequence and value, or where they are damaged.
@@ -120,23 +148,25 @@ fn slots_are_opened(rt: HostRuntime) -> Result<(), Fail> {
         (&STARTED, &SHUT, 51, Ok((1, value(50, 0)))),
         (&STARTED, &SHUT, 50, damaged),
     ] {
-        let mut disk = disk_of(rt.alloc(), first, second, &[])?;
         assert!(rt; limit <= LIMIT);
-        match open_slots(&mut disk, limit) {
-            Ok(slots) => assert!(rt; Ok((slots.sequence(), slots.value())) == wanted),
-            Err(fault) => assert!(rt; Err(fault) == wanted),
-        }
+        assert!(rt; present(rt.alloc(), first, second, limit)? == wanted);
     }
     Ok(())
+}
+
+// What two turns answer where the disk call of this number fails.
+fn turned(alloc: Global, call: u64) -> Result<Result<u64, SlotFault>, Fail> {
+    let mut disk = disk_of(alloc, &ZEROS, &ZEROS, &[call])?;
+    let turned = turn_twice(&mut disk);
+    drop(disk);
+    Ok(turned)
 }
 
 #[test]
 fn each_disk_call_may_fail(rt: HostRuntime) -> Result<(), Fail> {
     for call in 1..15 {
-        let mut disk = disk_of(rt.alloc(), &ZEROS, &ZEROS, &[call])?;
-        assert!(rt; turn_twice(&mut disk) == Err(SlotFault::DiskFailed));
+        assert!(rt; turned(rt.alloc(), call)? == Err(SlotFault::DiskFailed));
     }
-    let mut disk = disk_of(rt.alloc(), &ZEROS, &ZEROS, &[15])?;
-    assert!(rt; turn_twice(&mut disk) == Ok(2));
+    assert!(rt; turned(rt.alloc(), 15)? == Ok(2));
     Ok(())
 }
