@@ -54,10 +54,12 @@ fn filled(alloc: Global, size: u64, records: u64) -> Result<MemDisk, Error> {
     let mut log = opened(alloc, disk)?;
     for _turn in 0..records {
         if log.append(&RECORD).is_err() {
+            drop(log);
             bail!("the log is full");
         }
     }
     if log.force().is_err() {
+        drop(log);
         bail!("the disk failed");
     }
     Ok(log.into_disk())
@@ -73,6 +75,7 @@ pub(crate) fn show_filled<R: AllocGlobal + Print>(rt: &R, plan: Plan) -> Result<
         found = log.records().len();
         disk = log.into_disk();
     }
+    drop(disk);
     println!(rt; "{found}")?;
     Ok(())
 }

@@ -54,32 +54,54 @@ fn fresh(alloc: Global, seed: u64) -> Result<Fused<MemDisk>, Error> {
     Ok(Fused::new(disk))
 }
 
+/// The log with one record more, which waits.
+fn with_record(alloc: Global, log: TriedLog, bytes: &[u8]) -> Result<TriedLog, Error> {
+    let mut log = log;
+    match log.add(alloc, bytes) {
+        Ok(_) => Ok(log),
+        Err(fault) => {
+            drop(log);
+            Err(fault)
+        }
+    }
+}
+
 /// A log with the Prepare forced.
 fn prepared(alloc: Global, seed: u64) -> Result<TriedLog, Error> {
-    let mut log = TriedLog::open(alloc, fresh(alloc, seed)?)?;
-    log.add(alloc, &PREPARE)?;
-    forced(log)
+    let log = TriedLog::open(alloc, fresh(alloc, seed)?)?;
+    forced(with_record(alloc, log, &PREPARE)?)
 }
 
 /// The log once what waits is forced.
 fn forced(log: TriedLog) -> Result<TriedLog, Error> {
     match log.force() {
         Ok(log) => Ok(log),
-        Err(_) => bail!("a disk call failed"),
+        Err(disk) => {
+            drop(disk);
+            bail!("a disk call failed")
+        }
     }
 }
 
 /// And then the Commit.
 fn committed(alloc: Global) -> Result<TriedLog, Error> {
-    let mut log = prepared(alloc, 1)?;
-    log.add(alloc, &COMMIT)?;
-    forced(log)
+    let log = prepared(alloc, 1)?;
+    forced(with_record(alloc, log, &COMMIT)?)
 }
 
 /// The bytes that the long Prepare needs, which is to be refused, and those that a fresh log has.
 fn refusal(alloc: Global) -> Result<(u64, u64), Error> {
     let mut log = TriedLog::open(alloc, fresh(alloc, 1)?)?;
-    match log.append(&long_prepare(alloc)?) {
+    let refused = refusal_by(alloc, &mut log);
+    drop(log);
+    refused
+}
+
+fn refusal_by(alloc: Global, log: &mut TriedLog) -> Result<(u64, u64), Error> {
+    let long = long_prepare(alloc)?;
+    let appended = log.append(&long);
+    drop(long);
+    match appended {
         Err(AppendFault::LogFull { need, room }) => Ok((need, room)),
         Ok(_) | Err(AppendFault::NoMemory) => bail!("not refused"),
     }
@@ -88,17 +110,27 @@ fn refusal(alloc: Global) -> Result<(u64, u64), Error> {
 /// The room of a fresh log.
 fn fresh_room(alloc: Global) -> Result<u64, Error> {
     let log = TriedLog::open(alloc, fresh(alloc, 1)?)?;
-    Ok(log.room())
+    let room = log.room();
+    drop(log);
+    Ok(room)
+}
+
+/// Adds so many Prepares. The number of the last.
+fn add_prepares(alloc: Global, log: &mut TriedLog, count: usize) -> Result<Lsn, Error> {
+    let mut last = 0;
+    for _prepare in 0..count {
+        last = log.add(alloc, &PREPARE)?;
+    }
+    Ok(last)
 }
 
 /// The number of the last of so many Prepares that wait in the log, and the room that it has then.
 fn room_behind(alloc: Global, log: TriedLog, count: usize) -> Result<(Lsn, u64), Error> {
     let mut log = log;
-    let mut last = 0;
-    for _prepare in 0..count {
-        last = log.add(alloc, &PREPARE)?;
-    }
-    Ok((last, log.room()))
+    let last = add_prepares(alloc, &mut log, count);
+    let room = log.room();
+    drop(log);
+    Ok((last?, room))
 }
 
 /// The same of a fresh log with one.
@@ -130,7 +162,14 @@ fn committed_disk(alloc: Global) -> Result<MemDisk, Error> {
 /// Prints the bytes of two batches, and of the gate behind them.
 fn show_bytes<R: AllocGlobal + Print>(rt: &R) -> Result<(), Error> {
     let mem = committed_disk(rt.alloc())?;
-    for byte in mem.bytes().iter().skip(AREA).take(TWO_BATCHES) {
+    let shown = show_batches(rt, mem.bytes());
+    drop(mem);
+    shown
+}
+
+/// Prints them of the bytes of a disk.
+fn show_batches<R: Print>(rt: &R, bytes: &[u8]) -> Result<(), Error> {
+    for byte in bytes.iter().skip(AREA).take(TWO_BATCHES) {
         print!(rt; "{byte:02x}")?;
     }
     println!(rt)?;
@@ -139,14 +178,16 @@ fn show_bytes<R: AllocGlobal + Print>(rt: &R) -> Result<(), Error> {
 
 /// A log with a Prepare of server 0 forced and a Commit waiting.
 fn scanned(alloc: Global) -> Result<TriedLog, Error> {
-    let mut log = prepared(alloc, 1)?;
-    log.add(alloc, &COMMIT)?;
-    Ok(log)
+    let log = prepared(alloc, 1)?;
+    with_record(alloc, log, &COMMIT)
 }
 
 /// How many records of a server a scan from a place finds in it.
 fn found(alloc: Global, server: u8, from: Lsn) -> Result<usize, Error> {
-    scanned(alloc)?.count(ServerNo(server), from)
+    let log = scanned(alloc)?;
+    let count = log.count(ServerNo(server), from);
+    drop(log);
+    count
 }
 
 /// Prints how many records scans find.
@@ -162,7 +203,10 @@ fn show_scans<R: AllocGlobal + Print>(rt: &R) -> Result<(), Error> {
 
 /// What the slots of a fresh disk say.
 fn fresh_slots(alloc: Global) -> Result<Slots, Error> {
-    Ok(TriedLog::open(alloc, fresh(alloc, 1)?)?.slots())
+    let log = TriedLog::open(alloc, fresh(alloc, 1)?)?;
+    let slots = log.slots();
+    drop(log);
+    Ok(slots)
 }
 
 /// Prints what the slots of a fresh disk say.
@@ -177,12 +221,12 @@ fn show_fresh<R: AllocGlobal + Print>(rt: &R) -> Result<(), Error> {
 
 /// A disk with the Prepare forced, the Commit waiting, and a disk call to trip at.
 fn armed(alloc: Global, seed: u64, call: u64) -> Result<TriedLog, Error> {
-    let mut log = prepared(alloc, seed)?;
-    log.add(alloc, &COMMIT)?;
     let mut plan = List::new(alloc);
     if plan.push(call).is_err() {
         bail!("no memory");
     }
+    let log = prepared(alloc, seed)?;
+    let mut log = with_record(alloc, log, &COMMIT)?;
     log.arm(plan);
     Ok(log)
 }
@@ -190,18 +234,28 @@ fn armed(alloc: Global, seed: u64, call: u64) -> Result<TriedLog, Error> {
 /// What a power cut leaves: how many records, and the incarnation.
 type Left = (usize, u64);
 
+fn not_tripped(log: TriedLog) -> Result<Left, Error> {
+    drop(log);
+    bail!("no disk call tripped")
+}
+
 /// What stands after a power cut.
 fn after_cut(alloc: Global, disk: Fused<MemDisk>) -> Result<Left, Error> {
     let mut disk = disk;
-    disk.power_cut()?;
+    if let Err(failed) = disk.power_cut() {
+        drop(disk);
+        return Err(failed.into());
+    }
     let again = TriedLog::open(alloc, disk)?;
-    Ok((again.len(), again.slots().inc))
+    let left = (again.len(), again.slots().inc);
+    drop(again);
+    Ok(left)
 }
 
 /// The same after a force that tripped.
 fn after_force(alloc: Global, seed: u64, call: u64) -> Result<Left, Error> {
     match armed(alloc, seed, call)?.force() {
-        Ok(_) => bail!("no disk call tripped"),
+        Ok(log) => not_tripped(log),
         Err(disk) => after_cut(alloc, disk),
     }
 }
@@ -209,7 +263,7 @@ fn after_force(alloc: Global, seed: u64, call: u64) -> Result<Left, Error> {
 /// The same after a raise that tripped.
 fn after_raise(alloc: Global, seed: u64, call: u64) -> Result<Left, Error> {
     match armed(alloc, seed, call)?.raise() {
-        Ok(_) => bail!("no disk call tripped"),
+        Ok(log) => not_tripped(log),
         Err(disk) => after_cut(alloc, disk),
     }
 }

@@ -70,14 +70,19 @@ impl TriedLog {
     pub fn open(alloc: Global, disk: Fused<MemDisk>) -> Result<TriedLog, Error> {
         match Log::open(alloc, disk, LIMIT) {
             Ok(log) => Ok(TriedLog { log }),
-            Err(LogOpen { disk: _, why }) => Err(why.into()),
+            Err(LogOpen { disk, why }) => {
+                drop(disk);
+                Err(why.into())
+            }
         }
     }
 
     /// Appends the record that the bytes spell.
     pub fn add(&mut self, alloc: Global, bytes: &[u8]) -> Result<Lsn, Error> {
-        let lsn = self.append(&Spelled::read(alloc, bytes)?)?;
-        Ok(lsn)
+        let rec = Spelled::read(alloc, bytes)?;
+        let appended = self.append(&rec);
+        drop(rec);
+        Ok(appended?)
     }
 
     /// Appends a record.
