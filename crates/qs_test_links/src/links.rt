@@ -27,7 +27,10 @@ impl Ends {
 
     /// Puts a greeting, with that number for its stamp.
     fn put(&mut self, number: u32) -> Result<(), NoMemory> {
-        self.from.put(&greeting(number))?;
+        let packet = greeting(number);
+        let put = self.from.put(&packet);
+        drop(packet);
+        put?;
         Ok(())
     }
 
@@ -43,7 +46,11 @@ impl Ends {
     /// The number of the packet that comes next, if one comes.
     fn next(&mut self) -> Result<Option<u64>, NoMemory> {
         match self.to.take() {
-            Ok(Some(packet)) => Ok(Some(packet.stamp)),
+            Ok(Some(packet)) => {
+                let stamp = packet.stamp;
+                drop(packet);
+                Ok(Some(stamp))
+            }
             Ok(None) => Ok(None),
             Err(_) => Err(NoMemory),
         }

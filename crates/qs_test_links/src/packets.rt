@@ -10,7 +10,11 @@ pub(crate) fn packet_row(alloc: Global, digits: &str) -> Result<String, Error> {
     let bytes = hex::decode(alloc, digits)?;
     valid();
     match decode_packet(alloc, bytes.as_slice()) {
-        Ok(packet) => packet_text(alloc, &packet),
+        Ok(packet) => {
+            let text = packet_text(alloc, &packet);
+            drop(packet);
+            text
+        }
         Err(PacketFault::NoMemory) => bail!("there is no memory"),
         Err(fault) => Ok(format!(in alloc; "{fault}")?),
     }

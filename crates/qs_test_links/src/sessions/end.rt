@@ -56,7 +56,11 @@ impl End {
     pub(crate) fn send(&mut self, message: u32, drawn: &mut Drawn) -> Result<(), Failed> {
         self.sent.push(message)?;
         match self.session.send(numbered(message), 0) {
-            Ok(Some(packet)) => self.link.put(&packet, drawn),
+            Ok(Some(packet)) => {
+                let put = self.link.put(&packet, drawn);
+                drop(packet);
+                put
+            }
             Ok(None) => Ok(()),
             Err(GrowFault::NoMemory) => Err(Failed::NoMemory),
             Err(GrowFault::Last { .. }) => Err(Failed::Last),
@@ -86,15 +90,19 @@ impl End {
                 }
                 self.got.clear();
             }
-            Taken::Message { message } => self.got.push(number_of(message))?,
-            _ => {}
+            Taken::Message { message } => {
+                let number = number_of(&message);
+                drop(message);
+                self.got.push(number)?;
+            }
+            other => drop(other),
         }
         Ok(())
     }
 }
 
 /// The number of its own that a message has.
-fn number_of(message: Message) -> u32 {
+fn number_of(message: &Message) -> u32 {
     match message {
         Message::AskVote { tid } => tid.seq,
         _ => 0,

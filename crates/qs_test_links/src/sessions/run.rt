@@ -156,5 +156,6 @@ fn deliver(ends: &mut Vec<End>, at: usize) -> Result<bool, Failed> {
             return Ok(true);
         }
     }
+    drop(packet);
     Ok(true)
 }
