@@ -5,7 +5,7 @@ use crate::drawn::{Drawn, NAME_COUNT, look_of, name_at};
 use crate::machine::Machine;
 use crate::seen::Seen;
 use qs_base::{Bytes, NoMemory, NodeNo, ServerNo, Tid};
-use qs_ops::{Changes, Notice, Op};
+use qs_ops::{Changes, Notice, Op, Vote};
 use std::alloc::Global;
 use std::mem;
 
@@ -57,14 +57,18 @@ impl Drill {
             } else {
                 drawn.read(self.alloc, self.server)?
             };
-            self.serve_both(tid, &op)?;
+            let served = self.serve_both(tid, &op);
+            drop(op);
+            served?;
         }
         Ok(())
     }
 
     fn serve_both(&mut self, tid: Tid, op: &Op) -> Result<(), NoMemory> {
         if let Some(reply) = reply_of(&mut self.servers, self.server, tid, op)? {
-            self.machine.serve(tid, op, &reply)?;
+            let served = self.machine.serve(tid, op, &reply);
+            drop(reply);
+            served?;
         }
         Ok(())
     }
@@ -109,7 +113,9 @@ impl Drill {
             12 => self.has_same_contents(),
             _ => {
                 let op = drawn.op(self.alloc, self.server)?;
-                self.serve(tid, &op, seen)
+                let alike = self.serve(tid, &op, seen);
+                drop(op);
+                alike
             }
         }
     }
@@ -119,7 +125,9 @@ impl Drill {
             None => Ok(false),
             Some(reply) => {
                 seen.reply(&reply);
-                self.machine.serve(tid, op, &reply)
+                let alike = self.machine.serve(tid, op, &reply);
+                drop(reply);
+                alike
             }
         }
     }
@@ -134,10 +142,26 @@ impl Drill {
             _ => u64::MAX,
         };
         let due = self.machine.vote(tid, free, frame)?;
+        let alike = self.vote_as(tid, free, frame, &due, seen);
+        drop(due);
+        alike
+    }
+
+    fn vote_as(
+        &mut self,
+        tid: Tid,
+        free: u64,
+        frame: u64,
+        due: &Vote,
+        seen: &mut Seen,
+    ) -> Result<bool, NoMemory> {
         let vote = self.servers.vote(self.server, tid, free, frame)?;
         seen.vote(&vote);
-        self.machine.voted(tid, &vote)?;
-        Ok(vote == due)
+        let alike = vote == *due;
+        let taken = self.machine.voted(tid, &vote);
+        drop(vote);
+        taken?;
+        Ok(alike)
     }
 
     fn note(&mut self, tid: Tid, notice: Notice) -> Result<bool, NoMemory> {
@@ -204,6 +228,8 @@ impl Drill {
         let name = Bytes::from_slice(self.alloc, name_at(at).as_bytes())?;
         let op = look_of(self.server, name, at == 0);
         let mut seen = Seen::new();
-        self.serve(tid, &op, &mut seen)
+        let alike = self.serve(tid, &op, &mut seen);
+        drop(op);
+        alike
     }
 }

@@ -99,8 +99,12 @@ impl Growing {
 
     /// Serves an operation. Whether the reply is that it is done.
     fn is_done(&mut self, tid: Tid, op: Op) -> Result<bool, NoMemory> {
-        let reply = reply_of(&mut self.servers, self.server, tid, &op)?;
-        Ok(matches!(reply, Some(Reply::Done)))
+        let reply = reply_of(&mut self.servers, self.server, tid, &op);
+        drop(op);
+        let reply = reply?;
+        let is_done = matches!(reply, Some(Reply::Done));
+        drop(reply);
+        Ok(is_done)
     }
 
     /// The transaction votes, where the server does, and ends with commit.
