@@ -31,7 +31,7 @@ returns-clause-outcome g c = λ old same begun none.
     c.in-Ok.ensures.node c.work_out.ensures.saved c.work_out.ensures.log c.in-Ok.ensures.effects
     (begun_on c.args.occasion old.carried c.args.carried.now (record c.args.carried.now { chronicle = c.make_room.new.self }) begun c.make_room.ensures.told refl refl refl refl)
     (unplanned_by (may_make old.host.node c.args.occasion) c.in-Ok.out _ (seen old.carried) c.as_slice.result.now c.as_slice-2.result.now c.any_stops_before.result
-    (ap (λ h. may_make h.node c.args.occasion) (sym same) ∙ (sym c.may_make.ensures ∙ c.if-may_make.true)) none
+    (ap (λ h. may_make h.node c.args.occasion) (sym same) ∙ (sym c.may_make.ensures ∙ c.if-not-may_make.false)) none
     (c.in-Ok.ensures.effects ∙ ap (λ h. effects_at size h (event_of c.args.occasion)) same) c.as_slice.ensures (c.as_slice-2.ensures.value ∙ begun.points) c.any_stops_before.ensures
     c.if-any_stops_before.false))
 
@@ -62,3 +62,10 @@ returns-then-is_err-clause-header g c = λ told.
 pub returns-clause-header : goal.returns-clause-header
 returns-clause-header g c = λ told.
     header_as g.D.Disk.state c.carried_out.new.host.log.disk c.work_out.new.host.log c.args.host.now.log c.work_out.ensures.log (c.carried_out.ensures.header told)
+
+pub returns-then-not-may_make-clause-moments : goal.returns-then-not-may_make-clause-moments
+returns-then-not-may_make-clause-moments g c = λ told.
+    untouched (effects_at (g.D.Disk.byte_count c.args.host.now.log.disk.disk) c.args.host.now (event_of c.args.occasion)) c.args.host.now.log g.D.Disk.state c.args.host.now.log.disk refl (c.requires.stands told)
+
+pub returns-then-not-may_make-clause-header : goal.returns-then-not-may_make-clause-header
+returns-then-not-may_make-clause-header g c = λ told. untouched_header c.args.host.now.log g.D.Disk.state c.args.host.now.log.disk refl (c.requires.stands told)
