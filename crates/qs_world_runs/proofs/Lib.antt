@@ -22,7 +22,6 @@ pub mod TraceKept
 pub mod TraceRules
 pub mod TraceTold
 pub mod TraceCommands
-pub mod PassDoings
 pub mod TraceStages
 pub mod Unnoted
 pub mod CommitsFirst

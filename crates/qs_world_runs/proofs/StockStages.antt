@@ -17,7 +17,7 @@ use Rattle.qs_tm.specs.Manager as tm
 use Rattle.qs_tm.specs.Members as members
 use Rattle.qs_world_refine.proofs.ServerKinds.{vote_kind}
 use Rattle.qs_world_runs.specs.Stocks.{MayPrepare}
-use Rattle.qs_world_runs.proofs.PassDoings.{due_off, ended_off, prepared_off, vote_off}
+use Rattle.qs_world_walk.proofs.PassDoings.{due_off, ended_off, prepared_off, vote_off}
 use Rattle.qs_world_runs.proofs.VotesKeep.{changed_server, vote_has_changes, vote_is_logged, vote_keeps_changes}
 use Rattle.qs_world_runs.proofs.StockCommands as commanded
 use Rattle.qs_world_runs.proofs.StockRules as rules

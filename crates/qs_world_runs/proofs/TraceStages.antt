@@ -21,7 +21,7 @@ use Rattle.qs_tm.specs.Members as members
 use Rattle.qs_world_runs.specs.Deeds.{TakesInSo}
 use Rattle.qs_world_runs.specs.DeedsReplied.{IsNotice}
 use Rattle.qs_world_runs.specs.Traces.{TakesIn}
-use Rattle.qs_world_runs.proofs.PassDoings.{due_off, ended_off, vote_off}
+use Rattle.qs_world_walk.proofs.PassDoings.{due_off, ended_off, vote_off}
 use Rattle.qs_world_runs.proofs.TraceCommands as commanded
 use Rattle.qs_world_runs.proofs.TraceFirst as firsts
 use Rattle.qs_world_runs.proofs.TraceKept.{kept_at, kept_first, taken_at}
