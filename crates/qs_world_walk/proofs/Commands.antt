@@ -83,58 +83,57 @@ module _ (event : Event) (I : Stage → Work → Type 0) (r : Whole event I) whe
         by commands.Yield is = loans commands.Yield is
         by (commands.Request member op) is = loans (commands.Request member op) is
 
-  -- an owner's, as it comes
-  module _ (client : ClientNo) (command : OpenCommand) (work : Work) (there : InHand client command work) where
-    owner_keeps : event ≡ command_of command.line → (o : Option Tid) → IsMet client command true o work → Keeps work (owner_command client o command.line.command work)
-    owner_keeps came None met = rules.answer_keeps event I r false client command d.Unbegun work there met
-    owner_keeps came (Some tid) met = shapes.elim_keeps P (kept_outcome tid work.node) (open_command client tid command.line.command work) (λ decided. answer client (decided_answer decided command.line.command) work) work
-        (λ none. opens command.line.command refl none) (λ decided is. rules.answer_keeps event I r false client command (d.Over decided) work there (tid, (met, is)))
+  -- a line that came
+  module _ (line : ScriptLine) (work : Work) (there : InHand line.client (fresh_command line) work) (came : event ≡ command_of line) where
+    owner_keeps : (o : Option Tid) → IsMet line.client (fresh_command line) true o work → Keeps work (owner_command line.client o line.command work)
+    owner_keeps None met = rules.answer_keeps event I r false line.client (fresh_command line) d.Unbegun work there met
+    owner_keeps (Some tid) met = shapes.elim_keeps P (kept_outcome tid work.node) (open_command line.client tid line.command work) (λ decided. answer line.client (decided_answer decided line.command) work) work
+        (λ none. opens line.command refl none) (λ decided is. rules.answer_keeps event I r false line.client (fresh_command line) (d.Over decided) work there (tid, (met, is)))
       where
-        opens : (c : Command) → command.line.command ≡ c → kept_outcome tid work.node ≡ None → Keeps work (open_command client tid c work)
+        opens : (c : Command) → line.command ≡ c → kept_outcome tid work.node ≡ None → Keeps work (open_command line.client tid c work)
         opens commands.Begin is none = λ h. h
         opens commands.Commit is none = shapes.open_keeps P tid (ask tid) work (λ part running. shapes.if_keeps P part.asked work (become_asked tid part (enter_ask tid work)) work (λ asked h. h)
-            (λ asked. r.asks client command tid part work (record { came = came; there = there; commit = is; met = met; undecided = none; running = running; first = asked })))
+            (λ asked. r.asks line tid part work (record { came = came; there = there; commit = is; met = met; undecided = none; running = running; first = asked })))
         opens commands.Abort is none = shapes.open_keeps P tid (λ part. decide tid outcomes.Abort (Some causes.Asked)) work
-            (λ part running. r.decides tid outcomes.Abort (Some causes.Asked) false work (may.Commanded client command part came there is met none running refl))
+            (λ part running. r.decides tid outcomes.Abort (Some causes.Asked) false work (may.Commanded line part came there is met none running refl))
         opens commands.Take is none = λ h. h
         opens commands.Yield is none = λ h. h
-        opens (commands.Request member op) is none = request_keeps client command work there false tid member op is (inl (met, none))
+        opens (commands.Request member op) is none = request_keeps line.client (fresh_command line) work there false tid member op is (inl (met, none))
 
-  -- a line that came
-  begin_keeps : (line : ScriptLine) (work : Work) → InHand line.client (fresh_command line) work → event ≡ command_of line → line.command ≡ commands.Begin → Keeps work (begin_command line work)
-  begin_keeps line work there came is h = by (tm.begin_fault work.room work.node.manager) refl
-    where
-      begun : Work
-      begun = enter (acts.Begin (tm.next_tid work.node.manager) line.label line.client)
-          (put_label (record { label = line.label; tid = Some (tm.next_tid work.node.manager); owner = Some line.client }) (with_manager (tm.begin line.client) work))
+    begin_keeps : line.command ≡ commands.Begin → Keeps work (begin_command line work)
+    begin_keeps is h = by (tm.begin_fault work.room work.node.manager) refl
+      where
+        begun : Work
+        begun = enter (acts.Begin (tm.next_tid work.node.manager) line.label line.client)
+            (put_label (record { label = line.label; tid = Some (tm.next_tid work.node.manager); owner = Some line.client }) (with_manager (tm.begin line.client) work))
 
-      refused : Work
-      refused = put_label (record { label = line.label; tid = None; owner = Some line.client }) work
+        refused : Work
+        refused = put_label (record { label = line.label; tid = None; owner = Some line.client }) work
 
-      by : (fault : Option BeginFault) → tm.begin_fault work.room work.node.manager ≡ fault → P (begin_or_refuse line fault work)
-      by None none = rules.closed_is P line.client (fresh_command line) begun there (λ c. closed line.client c answers.Done begun) begun (r.does (d.Begins line) tt work tt (there, (came, (is, none))) h)
-      by (Some (faults.LogFull need room)) full = rules.closed_is P line.client (fresh_command line) refused there (λ c. closed line.client c (answers.LogFull need room) refused) refused
-          (r.does (d.Refuses line need room) tt work tt (there, (came, (is, full))) h)
-      by (Some (faults.Last value)) last = h
-      by (Some faults.NoMemory) last = h
+        by : (fault : Option BeginFault) → tm.begin_fault work.room work.node.manager ≡ fault → P (begin_or_refuse line fault work)
+        by None none = rules.closed_is P line.client (fresh_command line) begun there (λ c. closed line.client c answers.Done begun) begun (r.does (d.Begins line) tt work tt (there, (came, (is, none))) h)
+        by (Some (faults.LogFull need room)) full = rules.closed_is P line.client (fresh_command line) refused there (λ c. closed line.client c (answers.LogFull need room) refused) refused
+            (r.does (d.Refuses line need room) tt work tt (there, (came, (is, full))) h)
+        by (Some (faults.Last value)) last = h
+        by (Some faults.NoMemory) last = h
 
-  pub obey_keeps : (line : ScriptLine) (work : Work) → InHand line.client (fresh_command line) work → event ≡ command_of line → Keeps work (obey line line.command work)
-  obey_keeps line work there came = by line.command refl
-    where
-      met_by : Command → Work
-      met_by c = elim (label_at line.label work.node) [ None ↦ work | Some begun ↦ labelled line.client begun c work ]
+    pub obey_keeps : Keeps work (obey line line.command work)
+    obey_keeps = by line.command refl
+      where
+        met_by : Command → Work
+        met_by c = elim (label_at line.label work.node) [ None ↦ work | Some begun ↦ labelled line.client begun c work ]
 
-      labels : Keeps work (met_by line.command)
-      labels = shapes.elim_keeps P (label_at line.label work.node) work (λ begun. labelled line.client begun line.command work) work (λ none h. h)
-          (λ begun met. shapes.if_keeps P (is_owner line.client begun.owner) (owner_command line.client begun.tid line.command work) (elim begun.tid [ None ↦ work | Some tid ↦ borrower_command line.client tid line.command work ]) work
-          (λ own. owner_keeps line.client (fresh_command line) work there came begun.tid (record { begun = begun; met = met; own_is = own; of_is = refl }))
-          (λ own. shapes.elim_keeps P begun.tid work (λ tid. borrower_command line.client tid line.command work) work (λ none h. h)
-          (λ tid of. borrower_keeps line.client (fresh_command line) work there false tid (record { begun = begun; met = met; own_is = own; of_is = of }))))
+        labels : Keeps work (met_by line.command)
+        labels = shapes.elim_keeps P (label_at line.label work.node) work (λ begun. labelled line.client begun line.command work) work (λ none h. h)
+            (λ begun met. shapes.if_keeps P (is_owner line.client begun.owner) (owner_command line.client begun.tid line.command work) (elim begun.tid [ None ↦ work | Some tid ↦ borrower_command line.client tid line.command work ]) work
+            (λ own. owner_keeps begun.tid (record { begun = begun; met = met; own_is = own; of_is = refl }))
+            (λ own. shapes.elim_keeps P begun.tid work (λ tid. borrower_command line.client tid line.command work) work (λ none h. h)
+            (λ tid of. borrower_keeps line.client (fresh_command line) work there false tid (record { begun = begun; met = met; own_is = own; of_is = of }))))
 
-      by : (c : Command) → line.command ≡ c → Keeps work (obey line c work)
-      by commands.Begin is = begin_keeps line work there came is
-      by commands.Commit is = subst (λ (c : Command). Keeps work (met_by c)) is labels
-      by commands.Abort is = subst (λ (c : Command). Keeps work (met_by c)) is labels
-      by commands.Take is = subst (λ (c : Command). Keeps work (met_by c)) is labels
-      by commands.Yield is = subst (λ (c : Command). Keeps work (met_by c)) is labels
-      by (commands.Request member op) is = subst (λ (c : Command). Keeps work (met_by c)) is labels
+        by : (c : Command) → line.command ≡ c → Keeps work (obey line c work)
+        by commands.Begin is = begin_keeps is
+        by commands.Commit is = subst (λ (c : Command). Keeps work (met_by c)) is labels
+        by commands.Abort is = subst (λ (c : Command). Keeps work (met_by c)) is labels
+        by commands.Take is = subst (λ (c : Command). Keeps work (met_by c)) is labels
+        by commands.Yield is = subst (λ (c : Command). Keeps work (met_by c)) is labels
+        by (commands.Request member op) is = subst (λ (c : Command). Keeps work (met_by c)) is labels

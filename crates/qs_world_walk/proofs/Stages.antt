@@ -17,7 +17,7 @@ use Rattle.qs_node_step.specs.Restarts.{begin_incarnation}
 use Rattle.qs_node_step.specs.Serving.{serve_next}
 use Rattle.qs_node_step.specs.Settling.{answer_superior, due_tids, forget_rule, is_pass_due, is_quiet, may_answer, pass_rule, ready, ready_rule, refuse_elsewhere, refuse_home, refuse_rule, say_yes, settle, settle_tid, try}
 use Rattle.qs_node_step.specs.State.{NodeValue, client_cmp, work_on}
-use Rattle.qs_node_step.specs.Step.{age_rule, borrower_waits, command_came, happen, is_owner, message_came, owner_waits, wait_command, wait_on, waiting_clients, waits_at, with_command}
+use Rattle.qs_node_step.specs.Step.{answer_waiting, age_rule, borrower_waits, command_came, happen, is_owner, message_came, owner_waits, wait_command, wait_on, waiting_clients, waits_at, with_command}
 use Rattle.qs_node_step.specs.Telling.{forget}
 use Rattle.qs_node_step.specs.Voting.{vote_pass}
 use Rattle.qs_node_step.specs.declared.state.Issued.{Issued}
@@ -111,6 +111,9 @@ module _ (event : Event) (I : Stage → Work → Type 0) (r : Whole event I) whe
           (λ own. owners command there begun.tid (record { begun = begun; met = is; own_is = own; of_is = refl }))
           (λ own. borrowers command there command.issued refl begun.tid (record { begun = begun; met = is; own_is = own; of_is = refl }))))
 
+  pub answers_keep : (work : Work) → Keeps work (answer_waiting work)
+  answers_keep work = shapes.fold_keeps P wait_on wait_keeps (waiting_clients work) work
+
   pub waits_keep : (clients : List ClientNo) (work : Work) → P work → AtEach (λ (w : Work) (client : ClientNo). P w) wait_on work clients
   waits_keep [] work h = tt
   waits_keep (client ∷ clients) work h = (h, waits_keep clients (wait_on work client) (wait_keeps work client h))
@@ -171,5 +174,5 @@ module _ (event : Event) (I : Stage → Work → Type 0) (r : Whole event I) whe
       done = done;
       settles = turns_keep (due_tids (done_work node event free)) (done_work node event free) done;
       waits = waits_keep (waiting_clients settled) settled (settle_keeps (done_work node event free) done);
-      all = shapes.fold_keeps P wait_on wait_keeps (waiting_clients settled) settled (settle_keeps (done_work node event free) done);
+      all = answers_keep settled (settle_keeps (done_work node event free) done);
     }

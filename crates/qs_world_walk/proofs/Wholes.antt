@@ -129,7 +129,7 @@ module _ (event : Event) (I : Stage → Work → Type 0) (k : Table event I) whe
     notices = told.notice_keeps event I k;
     ages = λ age work is set. shapes.fold_keeps P (abort_old age) (λ w tid. rules.decided_keeps event I k tid outcomes.Abort (Some (causes.Old age)) false w (may.Old age is refl)) (tm.aged age work.node.manager) work;
     asked = λ peer tid part work may running h. asked_keeps tid part work (k (d.BecomesAsked peer tid) tt work may h);
-    asks = λ client command tid part work may h. asked_keeps tid part (enter_ask tid work) (k (d.Asks client command tid) tt work (may.came, (may.there, (may.commit, (may.met, (may.undecided, (part, (may.running, may.first))))))) h);
+    asks = λ line tid part work may h. asked_keeps tid part (enter_ask tid work) (k (d.Asks line tid) tt work (may.came, (may.there, (may.commit, (may.met, (may.undecided, (part, (may.running, may.first))))))) h);
     issues = rules.issue_as_keeps event I k;
     requests = request_keeps;
     names = told.names_keeps event I k;

@@ -94,7 +94,7 @@ pub data Deed : Type 0 where
   Answers : ClientNo → OpenCommand → Why → Deed
   Takes : ClientNo → OpenCommand → Tid → Lent → Deed
   Yields : ClientNo → OpenCommand → Tid → Lent → Deed
-  Asks : ClientNo → OpenCommand → Tid → Deed
+  Asks : ScriptLine → Tid → Deed
   -- requests and replies
   IssuesHere : Issuer → Tid → Outstanding → Op → Deed
   IssuesAway : Issuer → Tid → Outstanding → Op → Deed
@@ -236,7 +236,7 @@ did (Takes client command tid loan) work =
 did (Yields client command tid loan) work =
     closed client command answers.Done
     (with_doings tid (λ doings. record doings { yielded = true }) (enter (acts.Yield tid client) (with_kept (λ kept. record kept { loans = give_back client tid kept.loans }) work)))
-did (Asks client command tid) work = with_manager (tm.ask tid) (enter_ask tid work)
+did (Asks line tid) work = with_manager (tm.ask tid) (enter_ask tid work)
 did (IssuesHere by tid request op) work = waits_here tid request op (issued_by by tid request work)
 did (IssuesAway by tid request op) work = goes_away tid request op (issued_by by tid request work)
 did (Serves server delivery reply) work = served server delivery reply work

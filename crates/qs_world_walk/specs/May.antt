@@ -139,7 +139,7 @@ pub record IsReady (tid : Tid) (part : Participant) (work : Work) : Type 0 where
   pub quiet : is_quiet (doings_of tid work) ≡ true
 
 pub data MayAbort (event : Event) (tid : Tid) (cause : Option Cause) (work : Work) : Type 0 where
-  Commanded : (client : ClientNo) (command : OpenCommand) (part : Participant) → event ≡ command_of command.line → InHand client command work → command.line.command ≡ commands.Abort → IsMet client command true (Some tid) work → kept_outcome tid work.node ≡ None → IsOpen tid part work
+  Commanded : (line : ScriptLine) (part : Participant) → event ≡ command_of line → InHand line.client (fresh_command line) work → line.command ≡ commands.Abort → IsMet line.client (fresh_command line) true (Some tid) work → kept_outcome tid work.node ≡ None → IsOpen tid part work
       → cause ≡ Some causes.Asked → MayAbort event tid cause work
   Old : (age : ℕ) → event ≡ events.Tick → cause ≡ Some (causes.Old age) → MayAbort event tid cause work
   Refused : (part : Participant) (first : Cause) (more : List Cause) → IsOpen tid part work → part.engage.home ≡ true → part.causes ≡ first ∷ more → cause ≡ Some first → MayAbort event tid cause work
@@ -208,7 +208,7 @@ May event (d.Refuses line need room) work = InHand line.client (fresh_command li
 May event (d.Answers client command why) work = InHand client command work × MayAnswer client command why work
 May event (d.Takes client command tid loan) work = InHand client command work × ((command.line.command ≡ commands.Take) × (IsMet client command false (Some tid) work × (first_untaken client tid work.node.kept.now.loans ≡ Some loan)))
 May event (d.Yields client command tid loan) work = InHand client command work × ((command.line.command ≡ commands.Yield) × (IsMet client command false (Some tid) work × HasLoan client tid loan work))
-May event (d.Asks client command tid) work = (event ≡ command_of command.line) × (InHand client command work × ((command.line.command ≡ commands.Commit) × (IsMet client command true (Some tid) work × ((kept_outcome tid work.node ≡ None) × ((part : Participant) × (IsOpen tid part work × (part.asked ≡ false)))))))
+May event (d.Asks line tid) work = (event ≡ command_of line) × (InHand line.client (fresh_command line) work × ((line.command ≡ commands.Commit) × (IsMet line.client (fresh_command line) true (Some tid) work × ((kept_outcome tid work.node ≡ None) × ((part : Participant) × (IsOpen tid part work × (part.asked ≡ false)))))))
 May event (d.IssuesHere by tid request op) work = IsMine true request work × ((next_number tid request.member.node work ≡ Some request.number) × MayIssue by tid request op work)
 May event (d.IssuesAway by tid request op) work = IsMine false request work × ((next_number tid request.member.node work ≡ Some request.number) × MayIssue by tid request op work)
 May event (d.Serves server delivery reply) work = MayServe server delivery reply work × ((same_node delivery.from (here work) ≡ true) ⊎ (delivery.stale ≡ true))

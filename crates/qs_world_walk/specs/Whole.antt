@@ -1,13 +1,13 @@
 -- The same by whole rules, each of which is several deeds that one test lets be done: a decision, a vote pass, an outcome that is learnt, and so on. By these go facts
 -- that hang on why those deeds are done, or that do not hold between them. A table of deeds gives all of them.
 use Rattle.std.specs.Prelude.{◌≡◌, ℕ, ⊤, fold, Bool, true, false, List, Option, Some, None}
-use Rattle.qs_base.specs.declared.identifiers.ClientNo.{ClientNo}
 use Rattle.qs_base.specs.declared.identifiers.Member.{Member}
 use Rattle.qs_base.specs.declared.identifiers.NodeNo.{NodeNo}
 use Rattle.qs_base.specs.declared.identifiers.Outcome.{Outcome}
 use Rattle.qs_base.specs.declared.identifiers.ServerNo.{ServerNo}
 use Rattle.qs_base.specs.declared.identifiers.Tid.{Tid}
 use Rattle.qs_book_journal.specs.declared.script_line.Command.TheVariants as commands
+use Rattle.qs_book_journal.specs.declared.script_line.ScriptLine.{ScriptLine}
 use Rattle.qs_ops.specs.declared.answer.Cause.{Cause}
 use Rattle.qs_ops.specs.declared.operation.Op.{Op}
 use Rattle.qs_packet.specs.declared.message.Message.{Message}
@@ -27,11 +27,10 @@ use Rattle.qs_node_step.specs.Telling.{names_at, take_names, take_outcome}
 use Rattle.qs_node_step.specs.Voting.{vote_pass}
 use Rattle.qs_node_step.specs.declared.event.Event.{Event}
 use Rattle.qs_node_step.specs.declared.event.Event.TheVariants as events
-use Rattle.qs_node_step.specs.declared.state.OpenCommand.{OpenCommand}
 use Rattle.qs_tm.specs.Manager as tm
 use Rattle.qs_tm.specs.declared.participant.Outstanding.{Outstanding}
 use Rattle.qs_tm.specs.declared.participant.Participant.{Participant}
-use Rattle.qs_world_walk.specs.Deed.{Deed, Issuer, did, issued_by}
+use Rattle.qs_world_walk.specs.Deed.{Deed, Issuer, did, fresh_command, issued_by}
 use Rattle.qs_world_walk.specs.Deed as d
 use Rattle.qs_world_walk.specs.May.{InHand, IsHome, IsMet, IsOpen, May, MayDecide, MayIssue, command_of}
 use Rattle.qs_world_walk.specs.Stage.{Settles, Stage, after, before, during, in_turn}
@@ -47,7 +46,7 @@ IsAlone (d.TakesIn peer tid member number op) = ⊥
 IsAlone (d.Logs tid rec) = ⊥
 IsAlone (d.Ends tid server) = ⊥
 IsAlone (d.Learns tid outcome server) = ⊥
-IsAlone (d.Asks client command tid) = ⊥
+IsAlone (d.Asks line tid) = ⊥
 IsAlone (d.BecomesAsked peer tid) = ⊥
 IsAlone (d.IssuesHere by tid request op) = ⊥
 IsAlone (d.IssuesAway by tid request op) = ⊥
@@ -73,12 +72,12 @@ abbrev pub MayAlone : Event → Deed → Work → Type 0
 MayAlone event (d.Sends to message) work = MaySay event to message work
 MayAlone event deed work = May event deed work
 
--- a client's own command that asks, with what stands then
-pub record MayAsk (event : Event) (client : ClientNo) (command : OpenCommand) (tid : Tid) (part : Participant) (work : Work) : Type 0 where
-  pub came : event ≡ command_of command.line
-  pub there : InHand client command work
-  pub commit : command.line.command ≡ commands.Commit
-  pub met : IsMet client command true (Some tid) work
+-- an owner's command that asks, with what stands then
+pub record MayAsk (event : Event) (line : ScriptLine) (tid : Tid) (part : Participant) (work : Work) : Type 0 where
+  pub came : event ≡ command_of line
+  pub there : InHand line.client (fresh_command line) work
+  pub commit : line.command ≡ commands.Commit
+  pub met : IsMet line.client (fresh_command line) true (Some tid) work
   pub undecided : kept_outcome tid work.node ≡ None
   pub running : IsOpen tid part work
   pub first : part.asked ≡ false
@@ -93,7 +92,7 @@ pub record Whole (event : Event) (I : Stage → Work → Type 0) : Type 0 where
   pub notices : (peer : NodeNo) (old new : ℕ) (tid : Tid) (part : Participant) (work : Work) → event ≡ events.PeerRestarted peer old new → part_of tid work ≡ Some part → I after work → I after (notice_part peer old new tid part (with_manager (tm.restarted tid peer) work))
   pub ages : (age : ℕ) (work : Work) → event ≡ events.Tick → work.node.setting.age ≡ Some age → I after work → I after (fold (abort_old age) work (tm.aged age work.node.manager))
   pub asked : (peer : NodeNo) (tid : Tid) (part : Participant) (work : Work) → May event (d.BecomesAsked peer tid) work → IsOpen tid part work → I after work → I after (become_asked tid part work)
-  pub asks : (client : ClientNo) (command : OpenCommand) (tid : Tid) (part : Participant) (work : Work) → MayAsk event client command tid part work → I after work → I after (become_asked tid part (enter_ask tid work))
+  pub asks : (line : ScriptLine) (tid : Tid) (part : Participant) (work : Work) → MayAsk event line tid part work → I after work → I after (become_asked tid part (enter_ask tid work))
   pub issues : (by : Issuer) (tid : Tid) (request : Outstanding) (op : Op) (when : WhenIssued by) (work : Work) → next_number tid request.member.node work ≡ Some request.number → MayIssue by tid request op work
       → I (issuing by tid when) work → I (issuing by tid when) (issue_as tid request op (issued_by by tid request work))
   pub requests : (peer : NodeNo) (tid : Tid) (label : List ℕ) (member : Member) (number : ℕ) (issuer : ServerNo) (op : Op) (work : Work) → event ≡ events.Received peer (messages.Request tid label member number issuer op) → I before work → I after (request_came peer tid label member number op work)
