@@ -49,6 +49,7 @@ pub mod JoinedGone
 pub mod StoreRules
 pub mod StoreTold
 pub mod StoreCommands
+pub mod NoVotes
 pub mod StoreStages
 pub mod FewShares
 pub mod RoomsStep
@@ -240,9 +241,6 @@ pub mod BatchSources
 pub mod BatchCommits
 pub mod BatchBeyond
 pub mod BatchFits
-pub mod StockRules
-pub mod StockTold
-pub mod StockCommands
 pub mod StockStages
 pub mod SameShares
 pub mod SameVotes
