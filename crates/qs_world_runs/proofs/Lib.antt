@@ -46,9 +46,6 @@ pub mod JoinedClocks
 pub mod JoinedLogged
 pub mod OwedBefore
 pub mod JoinedGone
-pub mod StoreRules
-pub mod StoreTold
-pub mod StoreCommands
 pub mod NoVotes
 pub mod StoreStages
 pub mod FewShares

@@ -9,8 +9,7 @@ use Rattle.qs_node_step.specs.State.{NodeValue}
 use Rattle.qs_node_step.specs.declared.event.Event.TheVariants as events
 use Rattle.qs_world_runs.specs.OwnChanges.{HasNone, HasOwn, HasOwnStore, HaveOwn}
 use Rattle.qs_world_runs.proofs.OwnShares.{changes_none, for_same, notice_none, notice_own, serving_none, serving_own, share_own, voting_none, voting_own}
-use Rattle.qs_world_runs.proofs.StoreStages.{answers_keep, happens_keep, settle_keeps}
-use Rattle.qs_world_runs.proofs.StoreTold.{begin_incarnation_keeps}
+use Rattle.qs_world_runs.proofs.StoreStages.{answers_keep, begin_incarnation_keeps, happens_keep, settle_keeps}
 
 -- ---- one server of a node changes
 
