@@ -17,11 +17,7 @@ pub mod AgreesPasses
 pub mod JoinedParts
 pub mod JoinedFacts
 pub mod JoinedHomes
-pub mod TraceFirst
 pub mod TraceKept
-pub mod TraceRules
-pub mod TraceTold
-pub mod TraceCommands
 pub mod TraceStages
 pub mod Unnoted
 pub mod CommitsFirst
