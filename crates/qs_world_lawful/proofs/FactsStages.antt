@@ -29,7 +29,7 @@ use Rattle.qs_world_lawful.proofs.FactsLabelled.{begin_facts, command_in, comman
 use Rattle.qs_world_lawful.proofs.FactsQuiet.{causes_quiet, released_quiet, voted_quiet}
 use Rattle.qs_world_lawful.proofs.FactsIssued.{issue_as_keeps, issue_keeps}
 use Rattle.qs_world_lawful.proofs.FactsRules.{Keeps, answer_keeps, ask_came_keeps, become_asked_keeps, closer_keeps, commit_keeps, decided_keeps, elim_keeps, ended_keeps, fold_keeps, if_keeps, log_if_keeps, part_keeps, refusal_keeps, reply_keeps, request_keeps, send_keeps, serve_all_keeps, undecided_keeps}
-use Rattle.qs_world_lawful.proofs.SameSettingTold.{begin_same}
+use Rattle.qs_world_lawful.proofs.SameSetting.{begin_same}
 use Rattle.qs_world_lawful.proofs.Truths.{clash, left_true, not_true, right_true, same_self}
 use Rattle.qs_world_lawful.proofs.FactsTold.{begin_incarnation_keeps, inquiry_keeps, peer_restarted_keeps, tell_keeps, told_keeps}
 

@@ -73,8 +73,6 @@ pub mod ReadAlone
 pub mod Replied
 pub mod RequestingAny
 pub mod SameSetting
-pub mod SameSettingTold
-pub mod SameSettings
 pub mod Settled
 pub mod Stages
 pub mod Taken

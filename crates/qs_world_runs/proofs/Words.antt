@@ -211,8 +211,8 @@ pub use Rattle.qs_world_lawful.proofs.OtherWays.{HoldsOps}
 pub use Rattle.qs_world_lawful.proofs.ParcelsKept.{every_more, at_two, channels_moved}
 pub use Rattle.qs_world_lawful.proofs.Recordless.{Quiet, quiet_send}
 pub use Rattle.qs_world_lawful.proofs.RisesWhole.{rises_well}
-pub use Rattle.qs_world_lawful.proofs.SameSettingTold.{begin_same}
-pub use Rattle.qs_world_lawful.proofs.SameSettings.{step_same, happen_same}
+pub use Rattle.qs_world_lawful.proofs.SameSetting.{begin_same}
+pub use Rattle.qs_world_lawful.proofs.SameSetting.{step_same, happen_same}
 pub use Rattle.qs_world_lawful.proofs.Still.{still_held, held_at}
 pub use Rattle.qs_world_lawful.proofs.Truths.{of_some, clash, left_true, right_true, same_self}
 pub use Rattle.qs_world_lawful.proofs.Turning.{Turns, turned_by}
