@@ -206,8 +206,6 @@ pub mod GivenByWorld
 pub mod FactsKept
 pub mod FactsLabelled
 pub mod FactsQuiet
-pub mod FactsRules
-pub mod FactsTold
 pub mod FactsStages
 pub mod FactsOpened
 pub mod TriedWorldRuns

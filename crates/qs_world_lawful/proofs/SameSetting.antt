@@ -21,7 +21,7 @@ module _ (event : Event) (work : Work) where
   abbrev I : Stage → Work → Type 0
   I stage w = IsSame work w
 
-  setting_table : Table event I
+  pub setting_table : Table event I
   setting_table d.Lets when w m h = h
   setting_table deed when w m h = h
 

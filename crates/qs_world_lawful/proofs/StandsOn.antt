@@ -2,9 +2,9 @@
 use Rattle.qs_world_lawful.proofs.Words.{◌≡◌, ℕ, refl, ap, sym, subst, ◌∙◌, BookValue, serve_next, forget_rule, is_pass_due, pass_rule, ready_rule, refuse_rule, try, Work, work_on, happen, wait_on, forget, vote_pass, Event, Setting, is_forgotten, HoldsBeside, HoldsWork, book_at, MayStep, first_work, FitsEvent, HasNodeFacts, HoldsHomes, KeepsStanding, Stands, StandsBy, StepStands}
 use Rattle.qs_node_step.specs.State.{NodeValue}
 use Rattle.qs_world_lawful.specs.StandingOn.{KeepsBeside, StepBeside}
-use Rattle.qs_world_lawful.proofs.FactsRules.{serve_next_keeps}
+use Rattle.qs_world_lawful.proofs.FactsStages.{serve_next_keeps}
 use Rattle.qs_world_lawful.proofs.FactsStages.{forgets_keep, happens_keep, passes_keep, readies_keep, refuses_keep, waits_keep}
-use Rattle.qs_world_lawful.proofs.FactsTold.{begin_incarnation_keeps}
+use Rattle.qs_world_lawful.proofs.FactsStages.{begin_incarnation_keeps}
 use Rattle.qs_world_lawful.proofs.GivenWhole.{may_step}
 use Rattle.qs_world_lawful.proofs.HomesStand.{homes_stand}
 use Rattle.qs_world_lawful.proofs.SameSetting.{begin_same, forgets_same, happen_same, passes_same, readies_same, refuses_same, serve_next_same, wait_same}

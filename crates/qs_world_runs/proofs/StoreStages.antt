@@ -10,7 +10,7 @@ use Rattle.qs_world_walk.specs.May.{May, command_of}
 use Rattle.qs_world_walk.specs.Stage.{Stage, after}
 use Rattle.qs_world_walk.specs.Walked.{Table, TableOver}
 use Rattle.qs_world_walk.specs.Whole.{Whole}
-use Rattle.qs_world_lawful.specs.Given.{AtEach}
+use Rattle.qs_world_walk.specs.Walked.{AtEach}
 use Rattle.qs_world_runs.proofs.NoVotes.{no_vote}
 use Rattle.qs_world_runs.specs.Stores.{IsKeptStore, MayAsk, Store, managed, store_of}
 use Rattle.qs_ops.specs.declared.reply.Reply.TheVariants as replies

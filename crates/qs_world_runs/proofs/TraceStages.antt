@@ -11,7 +11,7 @@ use Rattle.qs_world_walk.specs.May.{IsLet, MayDecide, MaySend}
 use Rattle.qs_world_walk.specs.Stage.{Early, Later, Stage}
 use Rattle.qs_world_walk.specs.Walked.{Table}
 use Rattle.qs_world_walk.specs.Whole.{Whole}
-use Rattle.qs_world_lawful.specs.Given.{AtEach}
+use Rattle.qs_world_walk.specs.Walked.{AtEach}
 use Rattle.qs_world_runs.proofs.TraceKept.{kept_at, kept_first, taken_at}
 use Rattle.qs_world_runs.specs.Deeds.{TakesInSo, traced}
 use Rattle.qs_world_runs.specs.DeedsReplied.{IsNotice, IsPlain}
