@@ -1,5 +1,5 @@
 -- What deeds and whole rules keep, the commands of clients keep: as they come, and as they are tried again in the turn of the client.
-use Rattle.qs_world_walk.proofs.Words.{Bool, ClientNo, Event, InHand, Member, None, Op, OpenCommand, Option, Some, Stage, Tid, Waits, Whole, Work, after, answer, become_asked, decide, false, if◌then◌else◌, inl, inr, label_at, met}
+use Rattle.qs_world_walk.proofs.Words.{Bool, ClientNo, Event, InHand, Member, None, Op, OpenCommand, Option, Some, Stage, Tid, Waits, Whole, Work, after, answer, become_asked, decide, false, if◌then◌else◌, inl, inr, label_at}
 use Rattle.qs_world_walk.proofs.Words.{next_number, refl, subst, true, with_doings, with_manager, ◌≡◌}
 use Rattle.qs_book_journal.specs.declared.script_line.Command.{Command}
 use Rattle.qs_book_journal.specs.declared.script_line.ScriptLine.{ScriptLine}
@@ -11,7 +11,7 @@ use Rattle.qs_node_step.specs.Answering.{kept_outcome}
 use Rattle.qs_node_step.specs.Borrowing.{borrower_command, is_void, lent_command, loan_command, take, with_loan}
 use Rattle.qs_node_step.specs.Bringing.{enter}
 use Rattle.qs_node_step.specs.Commands.{ask, begin_command, begin_or_refuse, decided_answer, enter_ask, open_command, owner_command, request_as, request_command}
-use Rattle.qs_node_step.specs.Serving.{put_label}
+use Rattle.qs_node_step.specs.Serving.{met, put_label}
 use Rattle.qs_node_step.specs.State.{with_kept}
 use Rattle.qs_node_step.specs.Step.{is_owner, labelled, obey}
 use Rattle.qs_world_walk.specs.Deed.{closed, fresh_command}

@@ -1,6 +1,6 @@
 -- What deeds and whole rules keep, the rules keep that bring them about: answers, requests and replies, serving, decisions and causes.
 use Rattle.qs_world_walk.proofs.Words.{Bool, ClientNo, Event, InHand, Later, List, Member, Message, NodeNo, None, Op, OpenCommand, Option, Outcome, Participant, ServerNo, Settles, Some, Stage, Table, Tid, Waits, Whole, Work, [], after, answer}
-use Rattle.qs_world_walk.proofs.Words.{become_asked, count, decide, during, false, here, if◌then◌else◌, inl, inr, is_at, is_undecided, issue_as, lookup, next_number, not, part_of, refl, same_node, send, subst, sym, true, with_doings, with_manager}
+use Rattle.qs_world_walk.proofs.Words.{become_asked, decide, during, false, here, if◌then◌else◌, inl, inr, is_at, is_undecided, issue_as, lookup, next_number, not, part_of, refl, same_node, send, subst, sym, true, with_doings, with_manager}
 use Rattle.qs_world_walk.proofs.Words.{with_queues, ℕ, ◌&&◌, ◌++◌, ◌∷◌, ◌≡◌}
 use Rattle.std.proofs.lemmas.Bool.{and_parts, not-true}
 use Rattle.std.proofs.lemmas.Option.{same_Some}
@@ -18,7 +18,7 @@ use Rattle.qs_tm.specs.declared.manager.Decision.{Decision}
 use Rattle.qs_tm.specs.declared.participant.Outstanding.{Outstanding}
 use Rattle.qs_node_kept.specs.Keeping.{with_now}
 use Rattle.qs_node_servers.specs.Servers.{client_of, is_client, with_server}
-use Rattle.qs_node_step.specs.Asking.{ask_came, asked_by, block, closer_came, pass_unknown, refusal_came}
+use Rattle.qs_node_step.specs.Asking.{ask_came, asked_by, block, closer_came, count, pass_unknown, refusal_came}
 use Rattle.qs_node_step.specs.Bringing.{enter, log_if, member_here}
 use Rattle.qs_node_step.specs.Deciding.{decide_commit, give_notices, keep_outcome}
 use Rattle.qs_node_step.specs.Requests.{answer_issuer, ask_on, enqueue, enter_issue, is_asked, issue_away, issue_here, label_of, reply_came, take_reply, waiting_at, waits_as, with_local}

@@ -1,6 +1,6 @@
 -- A table of deeds gives the whole rules: each is its deeds, one after another.
 use Rattle.qs_world_walk.proofs.Words.{Bool, Event, Later, List, Member, NodeNo, None, Op, Option, Participant, ServerNo, Settles, Some, Stage, Table, Tid, Whole, Work, [], after, become_asked, before, doings_of, during, end_members, false}
-use Rattle.qs_world_walk.proofs.Words.{fold, here, issue_as, label_at, listed, met, next_number, part_of, refl, same_node, subst, sym, true, with_manager, ℕ, ◌∷◌, ◌≡◌}
+use Rattle.qs_world_walk.proofs.Words.{fold, here, issue_as, label_at, listed, next_number, part_of, refl, same_node, subst, sym, true, with_manager, ℕ, ◌∷◌, ◌≡◌}
 use Rattle.std.proofs.Common.{is_none}
 use Rattle.qs_base_lemmas.proofs.Tests.{none_is}
 use Rattle.qs_ops.specs.Server.{vote_of}
@@ -11,7 +11,7 @@ use Rattle.qs_engage.specs.declared.engage.Engaged.{Engaged}
 use Rattle.qs_ipc.specs.declared.delivery.Delivery.{Delivery}
 use Rattle.qs_node_servers.specs.Servers.{audit_no, server_at}
 use Rattle.qs_node_step.specs.Commands.{enter_ask}
-use Rattle.qs_node_step.specs.Serving.{cover_from, engage, is_dropped, learn_label, put_label, request_came, take_in}
+use Rattle.qs_node_step.specs.Serving.{cover_from, engage, is_dropped, learn_label, met, put_label, request_came, take_in}
 use Rattle.qs_node_step.specs.Settling.{is_put_off, refusal_goes_to, send_refusal}
 use Rattle.qs_node_step.specs.Step.{abort_old}
 use Rattle.qs_node_step.specs.Voting.{change_count, due_votes, enter_vote, issue_note, log_vote, note_text, owes_note, vote_frame, vote_next, vote_pass, vote_with}

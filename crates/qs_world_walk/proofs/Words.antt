@@ -13,11 +13,11 @@ pub use Rattle.qs_engage.specs.Nodes.{listed, same_node}
 pub use Rattle.qs_tm.specs.Participant.{is_undecided}
 pub use Rattle.qs_tm.specs.declared.participant.Participant.{Participant}
 pub use Rattle.qs_packet.specs.declared.message.Message.{Message}
-pub use Rattle.qs_node_step.specs.Asking.{become_asked, count}
+pub use Rattle.qs_node_step.specs.Asking.{become_asked}
 pub use Rattle.qs_node_step.specs.Bringing.{answer, send}
 pub use Rattle.qs_node_step.specs.Deciding.{decide, end_members}
 pub use Rattle.qs_node_step.specs.Requests.{issue_as, next_number}
-pub use Rattle.qs_node_step.specs.Serving.{label_at, met}
+pub use Rattle.qs_node_step.specs.Serving.{label_at}
 pub use Rattle.qs_node_step.specs.State.{Work, doings_of, here, part_of, with_doings, with_manager, with_queues}
 pub use Rattle.qs_node_step.specs.declared.event.Event.{Event}
 pub use Rattle.qs_node_step.specs.declared.state.OpenCommand.{OpenCommand}
