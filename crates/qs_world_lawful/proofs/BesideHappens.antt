@@ -1,10 +1,10 @@
 -- What comes in a step, and all that waits being served: what stands before stands after.
-use Rattle.qs_world_lawful.proofs.Words.{◌≡◌, inl, ℕ, true, false, List, [], ◌∷◌, Option, Some, None, refl, sym, ap, ◌∙◌, fold, if◌then◌else◌, ◌&&◌, not, is_some, slice_get, NodeNo, ServerNo, Tid, is_node, same_node, BookValue, find_transaction, TransactionValue, is_commit, Cause, Message, ask_came, asked_by, become_asked, block, closer_came, pass_unknown, refusal_came, send, serve_next, Work, here, with_manager, happen, message_came, Event, is_undecided, Participant, InRun, IsTrueCause}
+use Rattle.qs_world_lawful.proofs.Words.{◌≡◌, inl, ℕ, true, false, List, [], ◌∷◌, Option, Some, None, refl, sym, ap, ◌∙◌, fold, if◌then◌else◌, ◌&&◌, not, is_some, slice_get, NodeNo, ServerNo, Tid, is_node, same_node, BookValue, find_transaction, TransactionValue, is_commit, Cause, Message, ask_came, asked_by, become_asked, block, closer_came, refusal_came, send, serve_next, Work, here, with_manager, happen, message_came, Event, is_undecided, Participant, InRun, IsTrueCause}
 use Rattle.qs_world_lawful.proofs.Words.{ComesMessage, ComesTo, HoldsWork, book_at, face_of, AtEach, HoldsTid, CanCount, HoldsHomes, Stands}
 use Rattle.qs_ipc.specs.Ipc as ipc
 use Rattle.qs_book_machine.specs.Nodes as machine
 use Rattle.qs_packet.specs.declared.message.Message.TheVariants as messages
-use Rattle.qs_node_step.specs.Asking.{count}
+use Rattle.qs_node_step.specs.Asking.{count, pass_unknown}
 use Rattle.qs_node_step.specs.State.{NodeValue, part_of}
 use Rattle.qs_node_step.specs.declared.event.Event.TheVariants as events
 use Rattle.qs_tm.specs.Manager as tm
@@ -21,7 +21,7 @@ use Rattle.qs_world_lawful.proofs.BesideRestarts.{goes_restarted, goes_tick}
 use Rattle.qs_world_lawful.proofs.BesideTold.{goes_inquiry, goes_tell, goes_told}
 use Rattle.qs_world_lawful.proofs.Clauses.{of_tid}
 use Rattle.qs_world_lawful.proofs.FactsQuiet.{counted_quiet}
-use Rattle.qs_world_lawful.proofs.FactsRules.{serve_next_keeps}
+use Rattle.qs_world_lawful.proofs.FactsStages.{serve_next_keeps}
 use Rattle.qs_world_lawful.proofs.GivenServing.{may_serve}
 use Rattle.qs_world_lawful.proofs.GivenSettling.{uncommitted}
 use Rattle.qs_world_lawful.proofs.Replied.{by_served}

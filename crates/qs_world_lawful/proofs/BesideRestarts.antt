@@ -1,6 +1,7 @@
 -- Another node restarts, or this one begins, and time goes on: what stands before stands after.
-use Rattle.qs_world_lawful.proofs.Words.{◌≡◌, ℕ, ◌+◌, ◌<◌, ◌-◌, ◌^◌, Bool, true, false, List, [], ◌∷◌, Option, Some, None, refl, sym, ap, subst, ◌∙◌, arith, fold, if◌then◌else◌, ◌&&◌, not, NodeNo, Outcome, Tid, listed, same_node, BookValue, effect_act, block, send, give_notices, begin_incarnation, find_gone, inquire, is_orphaned_by, known_tids, name_again, notice_decided, notice_part, notice_tid, peer_restarted, resume_home, resume_part, resume_tid, tell_again, Work, here, with_manager}
+use Rattle.qs_world_lawful.proofs.Words.{◌≡◌, ℕ, ◌+◌, ◌<◌, ◌-◌, ◌^◌, Bool, true, false, List, [], ◌∷◌, Option, Some, None, refl, sym, ap, subst, ◌∙◌, arith, fold, if◌then◌else◌, ◌&&◌, not, NodeNo, Outcome, Tid, listed, same_node, BookValue, effect_act, block, send, give_notices, begin_incarnation, find_gone, inquire, is_orphaned_by, known_tids, notice_decided, notice_part, notice_tid, peer_restarted, resume_home, resume_part, resume_tid, Work, here, with_manager}
 use Rattle.qs_world_lawful.proofs.Words.{with_queues, abort_old, age_rule, tick, is_told_again, named_by, is_owed_by, Participant, InRun, book_at, AtEach, tick_work, HasOutcome}
+use Rattle.qs_node_step.specs.Restarts.{name_again, tell_again}
 use Rattle.std.proofs.Common.{min}
 use Rattle.qs_base.specs.declared.identifiers.Outcome.TheVariants as outcomes
 use Rattle.qs_ipc.specs.Ipc as ipc

@@ -5,7 +5,7 @@ use Rattle.qs_world_lawful.proofs.BesideWhole.{held_after, sent_so}
 use Rattle.qs_world_lawful.proofs.LogFrames.{every_on}
 use Rattle.qs_world_lawful.proofs.ParcelsKept.{channels_posted}
 use Rattle.qs_world_lawful.proofs.SaidStays.{channels_stay}
-use Rattle.qs_world_lawful.proofs.SameSettings.{step_same}
+use Rattle.qs_world_lawful.proofs.SameSetting.{step_same}
 use Rattle.qs_world_lawful.proofs.Truths.{left_true, not_true, right_true}
 
 -- a message that is so, from a node of the run

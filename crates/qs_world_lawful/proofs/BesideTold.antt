@@ -1,12 +1,12 @@
 -- An outcome that is told is taken in, told on and forgotten: what stands before these rules stands after them.
-use Rattle.qs_world_lawful.proofs.Words.{◌≡◌, inl, ℕ, Bool, true, false, List, [], ◌∷◌, ◌++◌, Option, Some, None, refl, sym, ap, subst, ◌∙◌, if◌then◌else◌, list_any, ◌||◌, is_some, same_tid, NodeNo, Outcome, Tid, listed, same_node, Act, Decided, BookValue, cell_of_transaction, find_transaction, book_after, TransactionValue, cell_of, is_commit, is_outcome, Cell, Message, Record, answer_known, answer_unknown, inquiry_at_home, inquiry_came, is_kept_commit, kept_outcome, is_other, log, log_if, send}
+use Rattle.qs_world_lawful.proofs.Words.{◌≡◌, inl, ℕ, Bool, true, false, List, [], ◌∷◌, ◌++◌, Option, Some, None, refl, sym, ap, subst, ◌∙◌, if◌then◌else◌, list_any, ◌||◌, is_some, same_tid, NodeNo, Outcome, Tid, listed, same_node, Act, Decided, BookValue, cell_of_transaction, find_transaction, book_after, TransactionValue, cell_of, is_commit, is_outcome, Cell, Message, Record, answer_known, answer_unknown, inquiry_came, is_kept_commit, kept_outcome, is_other, log, log_if, send}
 use Rattle.qs_world_lawful.proofs.Words.{tid_of, give_notices, Work, here, with_manager, end_record, end_told, forget, is_other_node, keep_abort_told, learn_unknown, names_at, record_learnt, take_names, take_outcome, take_told, tell_came, told_at_home, told_came, told_known, told_unknown, is_undecided, Participant, entries_of, InRun, IsSent, HoldsBeside, HoldsEnded, HoldsWork, book_at, face_of, HasEnded, HoldsTid, HasAborted, HasCommitted, HasOutcome, HasNodeFacts, GoesTo, IsSaid, eqb-true}
 use Rattle.qs_base.specs.declared.identifiers.Outcome.TheVariants as outcomes
 use Rattle.qs_book_machine.specs.Transaction.{is_abort}
 use Rattle.qs_book_machine.specs.declared.transaction.Cell.TheVariants as cells
 use Rattle.qs_packet.specs.declared.message.Message.TheVariants as messages
 use Rattle.qs_record.specs.declared.record.Record.TheVariants as records
-use Rattle.qs_node_step.specs.Answering.{was_committed}
+use Rattle.qs_node_step.specs.Answering.{inquiry_at_home, was_committed}
 use Rattle.qs_node_step.specs.State.{NodeValue, part_of}
 use Rattle.qs_node_step.specs.Telling.{learn, names_of}
 use Rattle.qs_tm.specs.Manager as tm
@@ -19,7 +19,7 @@ use Rattle.qs_world_lawful.proofs.BesideLearnt.{Ended, goes_notices, notices_sti
 use Rattle.qs_world_lawful.proofs.BesideParts.{PartOn, part_ended}
 use Rattle.qs_world_lawful.proofs.Clauses.{of_tid}
 use Rattle.qs_world_lawful.proofs.FactsQuiet.{acknowledged_quiet}
-use Rattle.qs_world_lawful.proofs.FactsRules.{log_if_keeps, part_keeps}
+use Rattle.qs_world_lawful.proofs.FactsStages.{log_if_keeps, part_keeps}
 use Rattle.qs_world_lawful.proofs.Faces.{part_apart, part_changed, part_unknown}
 use Rattle.qs_world_lawful.proofs.LogRecords.{every_append}
 use Rattle.qs_world_lawful.proofs.Truths.{clash, node_is, of_some}

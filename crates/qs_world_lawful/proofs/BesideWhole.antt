@@ -17,7 +17,7 @@ use Rattle.qs_world_lawful.proofs.BesideRestarts.{goes_incarnation}
 use Rattle.qs_world_lawful.proofs.BesideSettle.{goes_forgets, goes_ready, goes_refuse, unkept}
 use Rattle.qs_world_lawful.proofs.CommandCame.{by_answer_waiting}
 use Rattle.qs_world_lawful.proofs.ComesFirst.{comes_first, fits_so}
-use Rattle.qs_world_lawful.proofs.FactsTold.{begin_incarnation_keeps}
+use Rattle.qs_world_lawful.proofs.FactsStages.{begin_incarnation_keeps}
 use Rattle.qs_world_lawful.proofs.GivenSettling.{may_pass}
 use Rattle.qs_world_lawful.proofs.GivenStages.{s_passed, s_refused, s_settled}
 use Rattle.qs_world_lawful.proofs.GivenWhole.{done, given_so, settled}

@@ -1,6 +1,7 @@
 -- A borrower takes a loan, and gives it back: each command as a whole, with its answer.
-use Rattle.qs_world_lawful.proofs.Words.{◌≡◌, ℕ, ◌==◌, Bool, true, false, List, [], ◌∷◌, Option, Some, None, suc, refl, sym, ap, subst, ◌∙◌, length, nat_lt, true≢false, not, ◌||◌, if◌then◌else◌, filter, same_tid, ClientNo, NodeNo, Tid, same_tid-self, Command, TransactionValue, BookValue, find_transaction, first_untaken, take_first, last_taken, Lent, take, take_command, yield, lent_command, with_loan, loan_command, is_void, is_aborted, enter, Work, with_kept, with_doings, face_of, is_loan_in}
+use Rattle.qs_world_lawful.proofs.Words.{◌≡◌, ℕ, ◌==◌, Bool, true, false, List, [], ◌∷◌, Option, Some, None, suc, refl, sym, ap, subst, ◌∙◌, length, nat_lt, true≢false, not, ◌||◌, if◌then◌else◌, filter, same_tid, ClientNo, NodeNo, Tid, same_tid-self, Command, TransactionValue, BookValue, find_transaction, first_untaken, take_first, last_taken, Lent, take, take_command, yield, lent_command, loan_command, is_void, is_aborted, enter, Work, with_kept, with_doings, face_of, is_loan_in}
 use Rattle.qs_world_lawful.proofs.Words.{is_loan_here, is_given_back, HoldsTid, HoldsAt, IsAsking, HoldsWork, book_at}
+use Rattle.qs_node_step.specs.Borrowing.{with_loan}
 use Rattle.qs_ops.specs.declared.answer.Answer.TheVariants as answers
 use Rattle.qs_book_journal.specs.declared.entry.Act.TheVariants as acts
 use Rattle.qs_book_journal.specs.declared.script_line.Command.TheVariants as commands

@@ -1,5 +1,6 @@
 -- A client commands that a transaction begins: the rule as a whole, with its answer.
-use Rattle.qs_world_lawful.proofs.Words.{◌≡◌, ℕ, true, Option, Some, None, refl, sym, ap, ◌∙◌, lookup, is_at, ClientNo, Tid, ScriptLine, BookValue, is_fresh, BeginFault, begin_command, begin_or_refuse, begin_as, refuse_begin, put_label, Work, client_cmp, OpenCommand, IsAsking, HoldsWork, book_at, none-some, some_same}
+use Rattle.qs_world_lawful.proofs.Words.{◌≡◌, ℕ, true, Option, Some, None, refl, sym, ap, ◌∙◌, lookup, is_at, ClientNo, Tid, ScriptLine, BookValue, is_fresh, BeginFault, begin_or_refuse, begin_as, refuse_begin, put_label, Work, client_cmp, OpenCommand, IsAsking, HoldsWork, book_at, none-some, some_same}
+use Rattle.qs_node_step.specs.Commands.{begin_command}
 use Rattle.qs_ops.specs.declared.answer.Answer.TheVariants as answers
 use Rattle.qs_book_journal.specs.declared.script_line.Command.TheVariants as commands
 use Rattle.qs_tm.specs.Manager as tm

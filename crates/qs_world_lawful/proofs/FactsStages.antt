@@ -1,217 +1,59 @@
--- What holds of a node by itself through commands, votes and settling, and so at each stage of a step.
-use Rattle.qs_world_lawful.proofs.Words.{nat_lt, ◌≡◌, ℕ, true, false, List, [], ◌∷◌, Option, Some, None, refl, sym, ap, subst, ◌∙◌, insert_entry, is_at, lookup, not, ◌&&◌, if◌then◌else◌, ClientNo, Member, NodeNo, ServerNo, Tid, release_of, listed, same_node, Command, ScriptLine, first_untaken, last_taken, take_first, changes_in, vote_of, Cause, Op, Note, Vote, Message, client_server, server_at, kept_outcome, become_asked, borrower_command, is_aborted, is_void, lent_command, loan_command, take}
-use Rattle.qs_world_lawful.proofs.Words.{take_command, with_loan, enter, ask, begin_command, begin_or_refuse, decided_answer, enter_ask, open_command, owner_command, request_as, request_command, with_issued, decide_commit, end_members, next_number, begin_incarnation, label_at, put_label, answer_superior, due_tids, forget_rule, is_pass_due, is_quiet, may_answer, pass_rule, ready, ready_rule, refusal_goes_to, refuse_elsewhere, refuse_home, refuse_rule, say_yes, send_refusal, settle, settle_tid, try}
-use Rattle.qs_world_lawful.proofs.Words.{Work, client_cmp, doings_of, here, with_doings, with_kept, with_manager, work_on, abort_old, after_step, age_rule, borrower_waits, command_came, happen, is_owner, labelled, message_came, obey, owner_waits, wait_command, wait_on, waiting_clients, waits_at, with_command, forget, change_count, due_votes, enter_vote, issue_note, log_vote, owes_note, served_count, vote_frame, vote_next, vote_pass, vote_with, Event, Issued, OpenCommand, told_with_own}
-use Rattle.qs_world_lawful.proofs.Words.{is_forgotten, is_owed_by, is_undecided, BeginFault, Participant, tick_work, FitsEvent, HasNodeFacts, IsCommand, locals_of, Setting}
-use Rattle.qs_base.specs.declared.identifiers.Outcome.TheVariants as outcomes
+-- What holds of a node by itself is kept at each stage of a step: the table of its deeds, where a command that comes fits the node's setting.
+use Rattle.qs_world_lawful.proofs.Words.{Answer, Bool, ClientNo, Delivery, Event, FitsEvent, HasFacts, HasNodeFacts, IsCommand, KeptLabel, Lent, List, Manager, Member, Message, NodeNo, None, Op, OpenCommand, Option, Outstanding, Participant, Record, Reply, ScriptLine, ServerNo, Setting, Some, Tid, Work, abort_old, after_step, answer_of, ap, begin_incarnation, changes_in, client_cmp, client_of, command_came}
+use Rattle.qs_world_lawful.proofs.Words.{enter_vote, false, find, forget, forget_rule, happen, has_label, if◌then◌else◌, insert_entry, is_at, is_forgotten, is_outcome_of, is_undecided, is_void, lent_to, locals_of, log, log_if, member_here, message_came, nat_lt, not, pass_rule, peer_restarted, ready_rule, refl, refuse_rule, remove_entry, same_node, serve_next, served_count, server_at, settle, subst, sym, take_first}
+use Rattle.qs_world_lawful.proofs.Words.{tick_work, tid_of, true, try, wait_on, put_label, with_command, with_kept, with_manager, work_on, ℕ, ◌&&◌, ◌∙◌, ◌≡◌}
 use Rattle.qs_ipc.specs.Queue.{is_for}
-use Rattle.qs_book_journal.specs.declared.entry.Act.TheVariants as acts
-use Rattle.qs_book_journal.specs.declared.script_line.Command.TheVariants as commands
 use Rattle.qs_node_kept.specs.Loans.{give_back}
+use Rattle.qs_node_kept.specs.declared.kept.Kept.{Kept}
+use Rattle.qs_node_step.specs.Requests.{next_local}
+use Rattle.qs_node_step.specs.State.{NodeValue, part_of}
+use Rattle.qs_world.specs.Openings.{is_audit}
+use Rattle.qs_world_walk.proofs.IsDeeds.{over}
+use Rattle.qs_world_walk.proofs.Wholes.{whole_of}
+use Rattle.qs_world_walk.specs.Deed.{Issuer, closed, fresh_command, issued_by}
+use Rattle.qs_world_walk.specs.May.{MayIssue, Old, command_of}
+use Rattle.qs_world_walk.specs.Stage.{Stage}
+use Rattle.qs_world_walk.specs.Walked.{TableOver}
+use Rattle.qs_world_walk.specs.Whole.{Whole}
+use Rattle.qs_world_lawful.proofs.FactsIssued.{issued_away, issued_here}
+use Rattle.qs_world_lawful.proofs.FactsKept.{IsQuiet, abort_facts, forget_facts, meet_facts, outcome_facts, quiet_facts}
+use Rattle.qs_world_lawful.proofs.FactsLabelled.{begin_facts, command_in, commands_facts, decide_facts, every_put, every_removed, every_set, label_facts}
+use Rattle.qs_world_lawful.proofs.FactsQuiet.{acknowledged_quiet, ask_quiet, cause_quiet, causes_quiet, counted_quiet, dropped_quiet, logged_quiet, names_quiet, noted_quiet, refused_quiet, released_quiet, requested_quiet, restarted_quiet, served_quiet, settled_quiet, tell_quiet, told_quiet, voted_quiet}
+use Rattle.qs_world_lawful.proofs.SameSetting.{IsSame, setting_table}
+use Rattle.qs_world_lawful.proofs.Truths.{clash, left_true, not_true, of_some, right_true, same_self}
+use Rattle.qs_base.specs.declared.identifiers.Outcome.TheVariants as outcomes
 use Rattle.qs_ops.specs.declared.answer.Answer.TheVariants as answers
 use Rattle.qs_ops.specs.declared.answer.Cause.TheVariants as causes
 use Rattle.qs_ops.specs.declared.vote.Vote.TheVariants as votes
-use Rattle.qs_packet.specs.declared.message.Message.TheVariants as messages
 use Rattle.qs_record.specs.declared.record.Record.TheVariants as records
-use Rattle.qs_node_servers.specs.Servers.{audit_no}
-use Rattle.qs_node_step.specs.Bringing.{answer}
-use Rattle.qs_node_step.specs.Deciding.{decide}
-use Rattle.qs_node_step.specs.State.{NodeValue, part_of}
-use Rattle.qs_node_step.specs.Voting.{note_text}
-use Rattle.qs_node_step.specs.declared.event.Event.TheVariants as events
+use Rattle.qs_book_journal.specs.declared.script_line.Command.TheVariants as commands
 use Rattle.qs_tm.specs.Manager as tm
-use Rattle.qs_tm.specs.Members as rules
+use Rattle.qs_tm.specs.Outcomes as outcome_rules
 use Rattle.qs_tm.specs.Participant as participant
-use Rattle.qs_tm.specs.declared.manager.BeginFault.TheVariants as faults
-use Rattle.qs_world.specs.Openings.{is_audit}
-use Rattle.qs_world_lawful.proofs.FactsKept.{forget_facts, quiet_facts}
-use Rattle.qs_world_lawful.proofs.FactsLabelled.{begin_facts, command_in, commands_facts, every_put, every_set, label_facts}
-use Rattle.qs_world_lawful.proofs.FactsQuiet.{causes_quiet, released_quiet, voted_quiet}
-use Rattle.qs_world_lawful.proofs.FactsIssued.{issue_as_keeps, issue_keeps}
-use Rattle.qs_world_lawful.proofs.FactsRules.{Keeps, answer_keeps, ask_came_keeps, become_asked_keeps, closer_keeps, commit_keeps, decided_keeps, elim_keeps, ended_keeps, fold_keeps, if_keeps, log_if_keeps, part_keeps, refusal_keeps, reply_keeps, request_keeps, send_keeps, serve_all_keeps, undecided_keeps}
-use Rattle.qs_world_lawful.proofs.SameSettingTold.{begin_same}
-use Rattle.qs_world_lawful.proofs.Truths.{clash, left_true, not_true, right_true, same_self}
-use Rattle.qs_world_lawful.proofs.FactsTold.{begin_incarnation_keeps, inquiry_keeps, peer_restarted_keeps, tell_keeps, told_keeps}
+use Rattle.qs_node_step.specs.declared.event.Event.TheVariants as events
+use Rattle.qs_world_walk.proofs.First as firsts
+use Rattle.qs_world_walk.proofs.Rules as rules
+use Rattle.qs_world_walk.proofs.Stages as stages
+use Rattle.qs_world_walk.specs.Deed as d
 
--- ---- commands
+abbrev pub Keeps : Work → Work → Type 0
+Keeps work new = HasNodeFacts work.node → HasNodeFacts new.node
 
--- a request goes to a node of the run
-abbrev GoesInRun : Command → Work → Type 0
-GoesInRun command work = (member : Member) (op : Op) → command ≡ commands.Request member op → nat_lt member.node.0 work.node.setting.nodes ≡ true
+-- ---- what deeds do
 
-request_command_keeps : (client : ClientNo) (tid : Tid) (member : Member) (op : Op) (work : Work) → nat_lt member.node.0 work.node.setting.nodes ≡ true → Keeps work (request_command client tid member op work)
-request_command_keeps client tid member op work in_run = elim_keeps (next_number tid member.node work) work (λ number. request_as client tid member op number work) work (λ h. h)
-    (λ number is h. issue_as_keeps tid (record { issuer = client_server client; member = member; number = number; count = 0 }) op (with_issued client (record { tid = tid; member = member; number = number }) work) in_run is (issued number h))
-  where
-    issued : (number : ℕ) → Keeps work (with_issued client (record { tid = tid; member = member; number = number }) work)
-    issued number h = commands_facts work.node.setting work.node.manager work.node.kept.now (locals_of work.node) work.node.commands (tm.changed_value (is_at (client_cmp client)) (λ command. record command { issued = Some (record { tid = tid; member = member; number = number }) }) work.node.commands)
-        (every_set (λ (entry : ClientNo × OpenCommand). IsCommand work.node.setting entry.0 entry.1) (is_at (client_cmp client)) (λ command. record command { issued = Some (record { tid = tid; member = member; number = number }) })
-        (λ who command is. record { small = is.small; fits = is.fits }) work.node.commands h.commands) h
+pub part_keeps : (tid : Tid) (f : Participant → Participant) → IsQuiet f → (work : Work) → Keeps work (with_manager (tm.with_part tid f) work)
+part_keeps tid f quiet work h = quiet_facts work.node.setting work.node.kept.now work.node.commands (locals_of work.node) tid f quiet work.node.manager h
 
-begin_command_keeps : (line : ScriptLine) (work : Work) → Keeps work (begin_command line work)
-begin_command_keeps line work = by (tm.begin_fault work.room work.node.manager)
-  where
-    by : (fault : Option BeginFault) → Keeps work (begin_or_refuse line fault work)
-    by None h = answer_keeps line.client answers.Done (enter (acts.Begin (tm.next_tid work.node.manager) line.label line.client) (put_label (record { label = line.label; tid = Some (tm.next_tid work.node.manager); owner = Some line.client }) (with_manager (tm.begin line.client) work)))
-        (begin_facts work.node.setting work.node.commands (locals_of work.node) line.client line.label work.node.manager work.node.kept.now h)
-    by (Some (faults.LogFull need room)) h = answer_keeps line.client (answers.LogFull need room) (put_label (record { label = line.label; tid = None; owner = Some line.client }) work)
-        (label_facts work.node.setting work.node.commands (locals_of work.node) (record { label = line.label; tid = None; owner = Some line.client }) (λ tid client of owned. cc of) work.node.manager work.node.kept.now h)
-    by (Some (faults.Last value)) h = h
-    by (Some faults.NoMemory) h = h
+pub log_if_keeps : (o : Option Record) (work : Work) → Keeps work (log_if o work)
+log_if_keeps None work h = h
+log_if_keeps (Some rec) work h = part_keeps (tid_of rec) (outcome_rules.logged rec) (logged_quiet rec) work h
 
-owner_keeps : (client : ClientNo) (o : Option Tid) (command : Command) (work : Work) → GoesInRun command work → Keeps work (owner_command client o command work)
-owner_keeps client None command work goes = answer_keeps client answers.NotBegun work
-owner_keeps client (Some tid) command work goes = elim_keeps (kept_outcome tid work.node) (open_command client tid command work) (λ decided. answer client (decided_answer decided command) work) work (opens command goes) (λ decided is. answer_keeps client (decided_answer decided command) work)
-  where
-    opens : (c : Command) → GoesInRun c work → Keeps work (open_command client tid c work)
-    opens commands.Begin goes = λ h. h
-    opens commands.Commit goes = undecided_keeps tid (ask tid) work (λ part known unknown. if_keeps part.asked work (become_asked tid part (enter_ask tid work)) work (λ is h. h) (λ is. become_asked_keeps tid part (enter_ask tid work)))
-    opens commands.Abort goes = undecided_keeps tid (λ part. decide tid outcomes.Abort (Some causes.Asked)) work (λ part known unknown. decided_keeps tid outcomes.Abort (Some causes.Asked) work)
-    opens commands.Take goes = λ h. h
-    opens commands.Yield goes = λ h. h
-    opens (commands.Request member op) goes = request_command_keeps client tid member op work (goes member op refl)
+closes : (client : ClientNo) (command : OpenCommand) (said : Answer) (w : Work) → Keeps w (closed client command said w)
+closes client command said w h = commands_facts w.node.setting w.node.manager w.node.kept.now (locals_of w.node) w.node.commands (remove_entry (is_at (client_cmp client)) w.node.commands)
+    (every_removed (λ (entry : ClientNo × OpenCommand). IsCommand w.node.setting entry.0 entry.1) (is_at (client_cmp client)) w.node.commands h.commands) h
 
-borrower_keeps : (client : ClientNo) (tid : Tid) (command : Command) (work : Work) → GoesInRun command work → Keeps work (borrower_command client tid command work)
-borrower_keeps client tid command work goes = by command goes
-  where
-    takes : Keeps work (take_command client tid work)
-    takes = elim_keeps (first_untaken client tid work.node.kept.now.loans) work (λ loan. take client tid loan work) work (λ h. h)
-        (λ loan is h. answer_keeps client (if is_void tid loan work.node then answers.Ended else answers.Done) (with_kept (λ kept. record kept { loans = take_first client tid kept.loans }) work)
-        (record { setting = h.setting; room = h.room; rising = h.rising; parts = h.parts; labels = record { homed = h.labels.homed; runs = h.labels.runs }; commands = h.commands }))
-
-    lent : (c : Command) → GoesInRun c work → Keeps work (lent_command client tid c work)
-    lent commands.Begin goes = λ h. h
-    lent commands.Commit goes = λ h. h
-    lent commands.Abort goes = λ h. h
-    lent commands.Take goes = λ h. h
-    lent commands.Yield goes = λ h. answer_keeps client answers.Done (with_doings tid (λ doings. record doings { yielded = true }) (enter (acts.Yield tid client) (with_kept (λ kept. record kept { loans = give_back client tid kept.loans }) work)))
-        (record { setting = h.setting; room = h.room; rising = h.rising; parts = h.parts; labels = record { homed = h.labels.homed; runs = h.labels.runs }; commands = h.commands })
-    lent (commands.Request member op) goes = request_command_keeps client tid member op work (goes member op refl)
-
-    loans : (c : Command) → GoesInRun c work → Keeps work (loan_command client tid c work)
-    loans c goes = elim_keeps (last_taken client tid work.node.kept.now.loans) work (λ loan. with_loan client tid c loan work) work (λ h. h)
-        (λ loan is. if_keeps loan.yielded (answer client answers.NotYours work) (if is_void tid loan work.node then answer client answers.Ended work else lent_command client tid c work) work (λ yielded. answer_keeps client answers.NotYours work)
-        (λ yielded. if_keeps (is_void tid loan work.node) (answer client answers.Ended work) (lent_command client tid c work) work (λ void. answer_keeps client answers.Ended work) (λ void. lent c goes)))
-
-    by : (c : Command) → GoesInRun c work → Keeps work (borrower_command client tid c work)
-    by commands.Take goes = takes
-    by commands.Begin goes = loans commands.Begin goes
-    by commands.Commit goes = loans commands.Commit goes
-    by commands.Abort goes = loans commands.Abort goes
-    by commands.Yield goes = loans commands.Yield goes
-    by (commands.Request member op) goes = loans (commands.Request member op) goes
-
-pub command_keeps : (line : ScriptLine) (work : Work) → nat_lt line.client.0 64 ≡ true → ((member : Member) (op : Op) → line.command ≡ commands.Request member op → (is_for member.server op ≡ true) × (nat_lt member.node.0 work.node.setting.nodes ≡ true)) → Keeps work (command_came line work)
-command_keeps line work small fits h = by line.command (λ member op is. (fits member op is).1) (came_keeps h)
-  where
-    came_keeps : Keeps work (with_command line work)
-    came_keeps h = commands_facts work.node.setting work.node.manager work.node.kept.now (locals_of work.node) work.node.commands (insert_entry client_cmp work.node.commands line.client (record { line = line; issued = None }))
-        (every_put (λ (entry : ClientNo × OpenCommand). IsCommand work.node.setting entry.0 entry.1) line.client (record { line = line; issued = None }) work.node.commands h.commands
-        (λ who same. record { small = ap (λ (i : ℕ). nat_lt i 64) same ∙ small; fits = fits })) h
-
-    labels : (c : Command) → GoesInRun c work → Keeps (with_command line work) (elim (label_at line.label (with_command line work).node) [ None ↦ with_command line work | Some begun ↦ labelled line.client begun c (with_command line work) ])
-    labels c goes = elim_keeps (label_at line.label (with_command line work).node) (with_command line work) (λ begun. labelled line.client begun c (with_command line work)) (with_command line work) (λ h. h)
-        (λ begun is. if_keeps (is_owner line.client begun.owner) (owner_command line.client begun.tid c (with_command line work)) (elim begun.tid [ None ↦ with_command line work | Some tid ↦ borrower_command line.client tid c (with_command line work) ]) (with_command line work)
-        (λ own. owner_keeps line.client begun.tid c (with_command line work) goes) (λ own. elim_keeps begun.tid (with_command line work) (λ tid. borrower_command line.client tid c (with_command line work)) (with_command line work) (λ h. h) (λ tid of. borrower_keeps line.client tid c (with_command line work) goes)))
-
-    by : (c : Command) → GoesInRun c work → Keeps (with_command line work) (obey line c (with_command line work))
-    by commands.Begin goes = begin_command_keeps line (with_command line work)
-    by commands.Commit goes = labels commands.Commit goes
-    by commands.Abort goes = labels commands.Abort goes
-    by commands.Take goes = labels commands.Take goes
-    by commands.Yield goes = labels commands.Yield goes
-    by (commands.Request member op) goes = labels (commands.Request member op) goes
-
--- ---- the vote pass, and settling
-
-vote_next_keeps : (tid : Tid) (work : Work) (server : ServerNo) → Keeps work (vote_next tid work server)
-vote_next_keeps tid work server = if_keeps (owes_note tid server work) (issue_note tid work.node.setting.audit work) (vote_with tid server ballot work) work (λ is h. note work.node.setting.audit h.setting.audit h) (λ is h. logged ballot (voted h))
-  where
-    ballot : Vote
-    ballot = vote_of (server_at work.node.servers server) tid work.room (vote_frame work)
-
-    note : (o : Option NodeNo) → is_audit work.node.setting.nodes o ≡ true → Keeps work (issue_note tid o work)
-    note None in_run h = h
-    note (Some node) in_run h = issue_keeps tid rules.files_no (record { node = node; server = audit_no }) (Note (note_text tid (here work) (change_count tid work.node))) (change_count tid work.node) work in_run h
-
-    voted : Keeps work (enter_vote tid server ballot work)
-    voted h = quiet_facts work.node.setting work.node.kept.now work.node.commands (locals_of work.node) tid (participant.voted (record { node = here work; server = server }) ballot (served_count tid server work)) (voted_quiet (record { node = here work; server = server }) ballot (served_count tid server work)) work.node.manager h
-
-    logged : (b : Vote) → Keeps (enter_vote tid server ballot work) (log_vote b tid server (enter_vote tid server ballot work))
-    logged (votes.Abort reason) h = h
-    logged votes.ReadOnly h = h
-    logged votes.Volatile h = h
-    logged votes.Recoverable h = log_if_keeps (Some (records.Prepare tid server (served_count tid server (enter_vote tid server ballot work)) (changes_in (server_at (enter_vote tid server ballot work).node.servers server) tid))) (with_doings tid (λ doings. record doings { prepared = true }) (enter_vote tid server ballot work)) h
-
-pub pass_keeps : (tid : Tid) (work : Work) → Keeps work (vote_pass tid work)
-pass_keeps tid work h = fold_keeps (vote_next tid) (vote_next_keeps tid) (due_votes tid work) (end_members tid work) (ended_keeps tid work h)
-
-pub passes_keep : (work : Work) (tid : Tid) → Keeps work (try tid pass_rule work)
-passes_keep work tid = undecided_keeps tid (pass_rule tid) work (λ part known unknown. if_keeps (is_pass_due tid part work) (vote_pass tid work) work work (λ is. pass_keeps tid work) (λ is h. h))
-
-pub readies_keep : (work : Work) (tid : Tid) → Keeps work (try tid ready_rule work)
-readies_keep work tid = undecided_keeps tid (ready_rule tid) work (λ part known unknown. if_keeps (may_answer tid part work) (ready tid part work) work work
-    (λ is. if_keeps part.engage.home (if is_quiet (doings_of tid work) then decide_commit tid work else work) (answer_superior tid part work) work
-    (λ home. if_keeps (is_quiet (doings_of tid work)) (decide_commit tid work) work work (λ quiet. commit_keeps tid work) (λ quiet h. h))
-    (λ home. elim_keeps (release_of part.engage) work (λ superior. say_yes tid part superior work) work (λ h. h)
-    (λ superior to h. send_keeps superior.0 (messages.VotedYes tid superior.1 (listed (told_with_own (here work) part))) (with_manager (tm.released tid) work) (part_keeps tid participant.released released_quiet work h)))) (λ is h. h))
-
-pub refuses_keep : (work : Work) (tid : Tid) → Keeps work (try tid refuse_rule work)
-refuses_keep work tid = undecided_keeps tid (refuse_rule tid) work (λ part known unknown. if_keeps part.engage.home (refuse_home tid part work) (refuse_elsewhere tid part work) work (λ home. first part.causes)
-    (λ home h. fold_keeps (send_refusal tid (refusal_goes_to tid part)) (λ w cause. send_keeps (refusal_goes_to tid part) (messages.VotedAbort tid cause) w) part.causes (with_manager (tm.take_causes tid) work) (part_keeps tid participant.take_causes causes_quiet work h)))
-  where
-    first : (cs : List Cause) → Keeps work (elim cs [ [] ↦ work | cause ∷ more ↦ decide tid outcomes.Abort (Some cause) work ])
-    first [] h = h
-    first (cause ∷ more) h = decided_keeps tid outcomes.Abort (Some cause) work h
-
-pub forgets_keep : (work : Work) (tid : Tid) → Keeps work (try tid forget_rule work)
-forgets_keep work tid = undecided_keeps tid (forget_rule tid) work (λ part known unknown. if_keeps (is_forgotten part) (forget tid work) work work (λ is h. forgotten part known is h) (λ is h. h))
-  where
-    forgotten : (part : Participant) → part_of tid work ≡ Some part → is_forgotten part ≡ true → Keeps work (forget tid work)
-    forgotten part known is h = forget_facts work.node.setting work.node.kept.now work.node.commands (locals_of work.node) tid work.node.manager (λ label begun client found of owned kept. clash (sym away ∙ ((h.parts tid part known).homed ∙ (ap (λ (n : NodeNo). same_node n work.node.setting.node) (h.labels.homed label begun tid client found of owned) ∙ same_self work.node.setting.node.0)))) h
-      where
-        away : part.engage.home ≡ false
-        away = not_true part.engage.home (right_true (is_undecided part) (not part.engage.home) (left_true (is_undecided part && not part.engage.home) _ is))
-
-pub settle_tid_keeps : (work : Work) (tid : Tid) → Keeps work (settle_tid work tid)
-settle_tid_keeps work tid h = forgets_keep (try tid refuse_rule (try tid ready_rule (try tid pass_rule work))) tid (refuses_keep (try tid ready_rule (try tid pass_rule work)) tid (readies_keep (try tid pass_rule work) tid (passes_keep work tid h)))
-
--- ---- commands that stayed open
-
-pub waits_keep : (work : Work) (client : ClientNo) → Keeps work (wait_on work client)
-waits_keep work client h = elim_keeps (lookup (is_at (client_cmp client)) work.node.commands) work (λ command. wait_command client command work) work (λ h. h)
-    (λ command is. elim_keeps (label_at command.line.label work.node) work (λ begun. waits_at client command begun work) work (λ h. h)
-    (λ begun of. if_keeps (is_owner client begun.owner) (owner_waits client begun.tid command.line.command work) (borrower_waits client command.issued begun.tid command.line.command work) work
-    (λ own. owners command.line.command begun.tid) (λ own. borrowers command.line.command command.issued begun.tid (λ member op at. ((of_client command is).fits member op at).1)))) h
-  where
-    owners : (c : Command) (o : Option Tid) → Keeps work (owner_waits client o c work)
-    owners c None = λ h. h
-    owners c (Some tid) = elim_keeps (kept_outcome tid work.node) work (λ decided. answer client (decided_answer decided c) work) work (λ h. h) (λ decided is. answer_keeps client (decided_answer decided c) work)
-
-    of_client : (command : OpenCommand) → lookup (is_at (client_cmp client)) work.node.commands ≡ Some command → IsCommand work.node.setting client command
-    of_client command is = command_in (λ (entry : ClientNo × OpenCommand). IsCommand work.node.setting entry.0 entry.1) client command work.node.commands h.commands is
-
-    borrowers : (c : Command) (i : Option Issued) (o : Option Tid) → GoesInRun c work → Keeps work (borrower_waits client i o c work)
-    borrowers c (Some issued) o goes = if_keeps (is_aborted issued.tid work.node) (answer client answers.Ended work) work work (λ is. answer_keeps client answers.Ended work) (λ is h. h)
-    borrowers c None None goes = λ h. h
-    borrowers c None (Some tid) goes = borrower_keeps client tid c work goes
-
--- ---- messages, and time
-
-pub message_keeps : (peer : NodeNo) (message : Message) (work : Work) → Keeps work (message_came peer message work)
-message_keeps peer messages.Hello work = λ h. h
-message_keeps peer (messages.Request tid label member number issuer op) work = request_keeps peer tid label member number op work
-message_keeps peer (messages.Answered tid member number reply) work = reply_keeps tid member number reply work
-message_keeps peer (messages.AskVote tid) work = ask_came_keeps peer tid work
-message_keeps peer (messages.Covered tid up_to) work = closer_keeps peer tid up_to [] work
-message_keeps peer (messages.VotedYes tid up_to told) work = closer_keeps peer tid up_to told work
-message_keeps peer (messages.VotedAbort tid cause) work = refusal_keeps tid cause work
-message_keeps peer (messages.Tell tid outcome) work = tell_keeps peer tid outcome work
-message_keeps peer (messages.Told tid further) work = told_keeps peer tid further work
-message_keeps peer (messages.Inquire tid) work = inquiry_keeps peer tid work
-
-pub old_keeps : (work : Work) (age : ℕ) (tid : Tid) → Keeps work (abort_old age work tid)
-old_keeps work age tid = decided_keeps tid outcomes.Abort (Some (causes.Old age)) work
+loaned : (s : Setting) (m : Manager) (k : Kept) (c : List (ClientNo × OpenCommand)) (local : Tid → ℕ) (loans : List Lent) → HasFacts s m k c local → HasFacts s m (record k { loans = loans }) c local
+loaned s m k c local loans h = record { setting = h.setting; room = h.room; rising = h.rising; parts = h.parts; labels = record { homed = h.labels.homed; runs = h.labels.runs }; commands = h.commands }
 
 -- timers count on, and transactions are older
 pub ticks_keep : (work : Work) → Keeps work (tick_work work)
@@ -224,26 +66,154 @@ ticks_keep work h = record {
   commands = h.commands;
 }
 
-age_keeps : (age : Option ℕ) (work : Work) → Keeps work (age_rule age work)
-age_keeps None work = λ h. h
-age_keeps (Some age) work = fold_keeps (abort_old age) (λ w tid. old_keeps w age tid) (tm.aged age work.node.manager) work
+-- a client's command is noted as its request, and that goes to a node of the run
+issued : (by : Issuer) (tid : Tid) (request : Outstanding) (w : Work) → Keeps w (issued_by by tid request w)
+issued (d.Client client command) tid request w h = commands_facts w.node.setting w.node.manager w.node.kept.now (locals_of w.node) w.node.commands (d.commands_by (d.Client client command) tid request w.node.commands)
+    (every_set (λ (entry : ClientNo × OpenCommand). IsCommand w.node.setting entry.0 entry.1) (is_at (client_cmp client)) (λ command. record command { issued = Some (record { tid = tid; member = request.member; number = request.number }) })
+    (λ who command is. record { small = is.small; fits = is.fits }) w.node.commands h.commands) h
+issued (d.Files server) tid request w h = h
 
--- ---- what comes
+in_run : (by : Issuer) (tid : Tid) (request : Outstanding) (op : Op) (w : Work) → MayIssue by tid request op w → HasNodeFacts w.node → nat_lt request.member.node.0 w.node.setting.nodes ≡ true
+in_run (d.Client client command) tid request op w (there, (is, m)) h = ((command_in (λ (entry : ClientNo × OpenCommand). IsCommand w.node.setting entry.0 entry.1) client command w.node.commands h.commands there).fits request.member op is).1
+in_run (d.Files server) tid request op w (owes, (off, (is, m))) h = subst (λ (o : Option NodeNo). is_audit w.node.setting.nodes o ≡ true) is h.setting.audit
+
+served : (server : ServerNo) (delivery : Delivery) (reply : Reply) (w : Work) → Keeps w (d.served server delivery reply w)
+served server delivery reply w h = loaned w.node.setting (tm.served delivery.tid server w.node.manager) w.node.kept.now w.node.commands (locals_of w.node) (d.lent delivery.tid w.node.setting.inc (lent_to delivery.op) w.node.kept.now.loans)
+    (part_keeps delivery.tid (participant.served server) (served_quiet server) w h)
+
+aborted : (tid : Tid) (w : Work) → Keeps w (with_manager (tm.keep_abort tid) w)
+aborted tid w h = abort_facts w.node.setting w.node.kept.now w.node.commands (locals_of w.node) tid w.node.manager h
+
+-- no client here waits for what is decided and not kept
+decided_unowned : (tid : Tid) (part : Participant) (work : Work) → HasNodeFacts work.node → part_of tid work ≡ Some part → (part.outcome ≡ None → ⊥)
+    → (label : List ℕ) (begun : KeptLabel) (client : ClientNo) → find (has_label label) work.node.kept.now.labels ≡ Some begun → begun.tid ≡ Some tid → begun.owner ≡ Some client → find (is_outcome_of tid) work.node.kept.now.outcomes ≡ None → ⊥
+decided_unowned tid part work h known decided label begun client found of owned kept =
+    let r = h.labels.runs label begun tid client found of owned kept in decided (subst (λ (p : Participant). p.outcome ≡ None) (of_some (sym r.known ∙ known)) r.undecided)
+
+ends : (tid : Tid) (peer : NodeNo) (part : Participant) (w : Work) → part_of tid w ≡ Some part → part.outcome ≡ Some outcomes.Commit → Keeps w (forget tid (log (records.End tid) (with_manager (tm.acknowledged tid peer) w)))
+ends tid peer part w known commits h = forget_facts w.node.setting w.node.kept.now w.node.commands (locals_of w.node) tid (log (records.End tid) (with_manager (tm.acknowledged tid peer) w)).node.manager
+    (λ label begun client. decided_unowned tid part w h known (λ e. cc (commits, e)) label begun client)
+    (log_if_keeps (Some (records.End tid)) (with_manager (tm.acknowledged tid peer) w) (part_keeps tid (outcome_rules.acknowledged peer) (acknowledged_quiet peer) w h))
+
+-- what is forgotten elsewhere than at its home no client here owns
+forgotten : (tid : Tid) (part : Participant) (w : Work) → part_of tid w ≡ Some part → is_forgotten part ≡ true → Keeps w (forget tid w)
+forgotten tid part w known is h = forget_facts w.node.setting w.node.kept.now w.node.commands (locals_of w.node) tid w.node.manager
+    (λ label begun client found of owned kept. clash (sym away ∙ ((h.parts tid part known).homed ∙ (ap (λ (n : NodeNo). same_node n w.node.setting.node) (h.labels.homed label begun tid client found of owned) ∙ same_self w.node.setting.node.0)))) h
+  where
+    away : part.engage.home ≡ false
+    away = not_true part.engage.home (right_true (is_undecided part) (not part.engage.home) (left_true (is_undecided part && not part.engage.home) _ is))
+
+-- ---- the table
+
+module _ (event : Event) (came : Work) (fits : FitsEvent came.node.setting event) where
+  opens : (line : ScriptLine) (w : Work) → event ≡ command_of line → IsSame came w → Keeps w (with_command line w)
+  opens line w is same h = commands_facts w.node.setting w.node.manager w.node.kept.now (locals_of w.node) w.node.commands (insert_entry client_cmp w.node.commands line.client (fresh_command line))
+      (every_put (λ (entry : ClientNo × OpenCommand). IsCommand w.node.setting entry.0 entry.1) line.client (fresh_command line) w.node.commands h.commands
+      (λ who at. record { small = ap (λ (i : ℕ). nat_lt i 64) at ∙ its.0; fits = its.1 })) h
+    where
+      its : FitsEvent w.node.setting (command_of line)
+      its = subst (λ (s : Setting). FitsEvent s (command_of line)) (sym same) (subst (FitsEvent came.node.setting) is fits)
+
+  facts_table : TableOver event (λ stage w. IsSame came w) (λ stage w. HasNodeFacts w.node)
+  facts_table (d.Opens line) when w is same h = opens line w is same h
+  facts_table (d.Labels label tid) when w m same h = label_facts w.node.setting w.node.commands (locals_of w.node) (record { label = label; tid = Some tid; owner = None }) (λ t client of owned. cc owned) w.node.manager w.node.kept.now h
+  facts_table (d.Meets tid) when w (away, m) same h = meet_facts w.node.setting w.node.kept.now w.node.commands (locals_of w.node) tid w.node.manager away h
+  facts_table (d.Engages tid peer number) when w m same h = part_keeps tid (participant.requested peer number) (requested_quiet peer number) w h
+  facts_table d.Ticks when w m same h = ticks_keep w h
+  facts_table (d.Logs tid rec) when w m same h = log_if_keeps (Some rec) w h
+  facts_table (d.Ends tid server) when w m same h = part_keeps tid (outcome_rules.settled server) (settled_quiet server) w h
+  facts_table (d.Learns tid outcome server) when w m same h = part_keeps tid (outcome_rules.settled server) (settled_quiet server) w h
+  facts_table (d.Begins line) when w m same h = closes line.client (fresh_command line) answers.Done (put_label (record { label = line.label; tid = Some (tm.next_tid w.node.manager); owner = Some line.client }) (with_manager (tm.begin line.client) w))
+      (begin_facts w.node.setting w.node.commands (locals_of w.node) line.client line.label w.node.manager w.node.kept.now h)
+  facts_table (d.Refuses line need room) when w m same h = closes line.client (fresh_command line) (answers.LogFull need room) (put_label (record { label = line.label; tid = None; owner = Some line.client }) w)
+      (label_facts w.node.setting w.node.commands (locals_of w.node) (record { label = line.label; tid = None; owner = Some line.client }) (λ tid client of owned. cc of) w.node.manager w.node.kept.now h)
+  facts_table (d.Answers client command why) when w m same h = closes client command (d.answer_by command why) w h
+  facts_table (d.Takes client command tid loan) when w m same h = closes client command (if is_void tid loan w.node then answers.Ended else answers.Done) (with_kept (λ kept. record kept { loans = take_first client tid kept.loans }) w)
+      (loaned w.node.setting w.node.manager w.node.kept.now w.node.commands (locals_of w.node) (take_first client tid w.node.kept.now.loans) h)
+  facts_table (d.Yields client command tid loan) when w m same h = closes client command answers.Done (with_kept (λ kept. record kept { loans = give_back client tid kept.loans }) w)
+      (loaned w.node.setting w.node.manager w.node.kept.now w.node.commands (locals_of w.node) (give_back client tid w.node.kept.now.loans) h)
+  facts_table (d.Asks line tid) when w m same h = part_keeps tid participant.ask ask_quiet w h
+  facts_table (d.IssuesHere by tid request op) when w (near, (next, reason)) same h = issued_here tid request op (issued_by by tid request w) near
+      (sym (ap (λ (b : Bool). if b then next_local tid w.node else tm.sent_as tid request.member.node w.node.manager) near) ∙ next) (issued by tid request w h)
+  facts_table (d.IssuesAway by tid request op) when w (away, (next, reason)) same h = issued_away tid request op (issued_by by tid request w) away (in_run by tid request op w reason h)
+      (sym (ap (λ (b : Bool). if b then next_local tid w.node else tm.sent_as tid request.member.node w.node.manager) away) ∙ next) (issued by tid request w h)
+  facts_table (d.Serves server delivery reply) when w m same h = served server delivery reply w h
+  facts_table (d.ServesAway server delivery reply) when w m same h = served server delivery reply w h
+  facts_table (d.NotesReply tid member number request) when w m same h = part_keeps tid (participant.note_served request.count) (noted_quiet request.count) (d.taken_reply tid member number w)
+      (part_keeps tid (participant.drop_waiting member number) (dropped_quiet member number) w h)
+  facts_table (d.GivesReply tid member number request command reply) when w m same h = closes (client_of request.issuer) command (answer_of reply) (d.taken_reply tid member number w)
+      (part_keeps tid (participant.drop_waiting member number) (dropped_quiet member number) w h)
+  facts_table (d.LosesReply tid member number request) when w m same h = part_keeps tid (participant.drop_waiting member number) (dropped_quiet member number) w h
+  facts_table (d.BecomesAsked peer tid) when w m same h = part_keeps tid participant.ask ask_quiet w h
+  facts_table (d.Counts peer tid up_to told) when w m same h = part_keeps tid (participant.counted tid.home peer up_to told) (counted_quiet tid.home peer up_to told) w h
+  facts_table (d.Blocks tid cause) when w m same h = part_keeps tid (participant.add_cause cause) (cause_quiet cause) (with_manager (tm.refused tid) w) (part_keeps tid participant.refused refused_quiet w h)
+  facts_table (d.Votes tid server ballot) when w m same h = part_keeps tid (participant.voted (member_here w server) ballot (served_count tid server w)) (voted_quiet (member_here w server) ballot (served_count tid server w)) w h
+  facts_table (d.Prepares tid server) when w m same h = part_keeps tid _ (logged_quiet (records.Prepare tid server (served_count tid server (enter_vote tid server votes.Recoverable w)) (changes_in (server_at (enter_vote tid server votes.Recoverable w).node.servers server) tid)))
+      (enter_vote tid server votes.Recoverable w) (part_keeps tid (participant.voted (member_here w server) votes.Recoverable (served_count tid server w)) (voted_quiet (member_here w server) votes.Recoverable (served_count tid server w)) w h)
+  facts_table (d.SaysYes tid part superior) when w m same h = part_keeps tid participant.released released_quiet w h
+  facts_table (d.TakesCauses tid) when w m same h = part_keeps tid participant.take_causes causes_quiet w h
+  facts_table (d.Forgets tid part) when w (running, is) same h = forgotten tid part w running.known is h
+  facts_table (d.Decides tid outcome cause) when w m same h = decide_facts w.node.setting w.node.commands (locals_of w.node) tid (outcome_rules.decided outcome) (λ p. refl) (λ p. refl) (λ p l is. l is) (λ p e. cc e) (λ p here local h. h)
+      (record { tid = tid; outcome = outcome; cause = cause }) refl w.node.manager w.node.kept.now h
+  facts_table (d.TakesOutcome tid outcome) when w (away, m) same h = outcome_facts w.node.setting w.node.kept.now w.node.commands (locals_of w.node) tid outcome w.node.manager away h
+  facts_table (d.KeepsAbort tid) when w m same h = aborted tid w h
+  facts_table (d.KeepsTold tid peer) when w m same h = part_keeps tid (outcome_rules.add_tell peer) (tell_quiet peer) (with_manager (tm.keep_abort tid) w) (aborted tid w h)
+  facts_table (d.TakesNames tid further) when w m same h = part_keeps tid (outcome_rules.take_names tid.home further) (names_quiet tid.home further) w h
+  facts_table (d.Acknowledges tid peer) when w m same h = part_keeps tid (outcome_rules.acknowledged peer) (acknowledged_quiet peer) w h
+  facts_table (d.EndsCommit tid peer) when w (home, (came, ((part, (known, commits)), all))) same h = ends tid peer part w known commits h
+  facts_table (d.AddsTold tid peer) when w m same h = part_keeps tid (participant.add_told peer) (told_quiet peer) w h
+  facts_table (d.AddsTell tid peer) when w m same h = part_keeps tid (outcome_rules.add_tell peer) (tell_quiet peer) w h
+  facts_table (d.Notices tid peer) when w m same h = part_keeps tid (participant.restarted peer) (restarted_quiet peer) w h
+  facts_table deed when w m same h = h
+
+  abbrev I : Stage → Work → Type 0
+  I stage w = IsSame came w × HasNodeFacts w.node
+
+  whole : Whole event I
+  whole = whole_of event I (over event (λ stage w. IsSame came w) (λ stage w. HasNodeFacts w.node) (setting_table event came) facts_table)
+
+-- ---- the stages of a step
+
+pub begin_incarnation_keeps : (work : Work) → Keeps work (begin_incarnation work)
+begin_incarnation_keeps work h = (firsts.begin_incarnation_keeps events.ServeAll (I events.ServeAll work tt) (whole events.ServeAll work tt) work (refl, h)).1
 
 pub happens_keep : (event : Event) (work : Work) → FitsEvent work.node.setting event → Keeps work (happen event work)
-happens_keep (events.Command client line label command) work fits = command_keeps (record { client = client; line = line; label = label; command = command }) work fits.0 fits.1
-happens_keep (events.Received peer message) work fits = message_keeps peer message work
-happens_keep events.ServeAll work fits = serve_all_keeps work
-happens_keep (events.PeerRestarted peer old new) work fits = peer_restarted_keeps peer old new work
-happens_keep events.Tick work fits = λ h. age_keeps work.node.setting.age (tick_work work) (ticks_keep work h)
+happens_keep event work fits h = (stages.happens_keep event (I event work fits) (whole event work fits) event work refl (refl, h)).1
+
+pub command_keeps : (line : ScriptLine) (work : Work) → nat_lt line.client.0 64 ≡ true → ((member : Member) (op : Op) → line.command ≡ commands.Request member op → (is_for member.server op ≡ true) × (nat_lt member.node.0 work.node.setting.nodes ≡ true)) → Keeps work (command_came line work)
+command_keeps line work small fits = happens_keep (command_of line) work (small, fits)
+
+pub message_keeps : (peer : NodeNo) (message : Message) (work : Work) → Keeps work (message_came peer message work)
+message_keeps peer message work = happens_keep (events.Received peer message) work tt
+
+pub peer_restarted_keeps : (peer : NodeNo) (old new : ℕ) (work : Work) → Keeps work (peer_restarted peer old new work)
+peer_restarted_keeps peer old new work = happens_keep (events.PeerRestarted peer old new) work tt
+
+pub serve_next_keeps : (work : Work) (server : ServerNo) → Keeps work (serve_next work server)
+serve_next_keeps work server h = (rules.serve_turn_keeps events.ServeAll (I events.ServeAll work tt) (whole events.ServeAll work tt) server refl work (refl, h)).1
+
+pub old_keeps : (work : Work) (age : ℕ) (tid : Tid) → Keeps work (abort_old age work tid)
+old_keeps work age tid h = ((whole events.Tick work tt).decides tid outcomes.Abort (Some (causes.Old age)) false work (Old age refl refl) (refl, h)).1
+
+pub passes_keep : (work : Work) (tid : Tid) → Keeps work (try tid pass_rule work)
+passes_keep work tid h = (stages.passes_keep events.ServeAll (I events.ServeAll work tt) (whole events.ServeAll work tt) tid work (refl, h)).1
+
+pub readies_keep : (work : Work) (tid : Tid) → Keeps work (try tid ready_rule work)
+readies_keep work tid h = (stages.readies_keep events.ServeAll (I events.ServeAll work tt) (whole events.ServeAll work tt) tid work (refl, h)).1
+
+pub refuses_keep : (work : Work) (tid : Tid) → Keeps work (try tid refuse_rule work)
+refuses_keep work tid h = (stages.refuses_keep events.ServeAll (I events.ServeAll work tt) (whole events.ServeAll work tt) tid work (refl, h)).1
+
+pub forgets_keep : (work : Work) (tid : Tid) → Keeps work (try tid forget_rule work)
+forgets_keep work tid h = (stages.forgets_keep events.ServeAll (I events.ServeAll work tt) (whole events.ServeAll work tt) tid work (refl, h)).1
+
+pub settle_keeps : (work : Work) → Keeps work (settle work)
+settle_keeps work h = (stages.settle_keeps events.ServeAll (I events.ServeAll work tt) (whole events.ServeAll work tt) work (refl, h)).1
+
+pub waits_keep : (work : Work) (client : ClientNo) → Keeps work (wait_on work client)
+waits_keep work client h = (stages.wait_keeps events.ServeAll (I events.ServeAll work tt) (whole events.ServeAll work tt) work client (refl, h)).1
 
 -- ---- the whole step
 
-pub settle_keeps : (work : Work) → Keeps work (settle work)
-settle_keeps work = fold_keeps settle_tid settle_tid_keeps (due_tids work) work
-
 pub step_keeps : (node : NodeValue) (event : Event) (free : ℕ) → FitsEvent node.setting event → HasNodeFacts node → HasNodeFacts (after_step node event free)
-step_keeps node event free fits h =
-    fold_keeps wait_on waits_keep (waiting_clients (settle (happen event (begin_incarnation (work_on node free))))) (settle (happen event (begin_incarnation (work_on node free))))
-    (settle_keeps (happen event (begin_incarnation (work_on node free)))
-    (happens_keep event (begin_incarnation (work_on node free)) (subst (λ (s : Setting). FitsEvent s event) (sym (begin_same (work_on node free))) fits) (begin_incarnation_keeps (work_on node free) h)))
+step_keeps node event free fits h = (stages.turns_kept event (I event (work_on node free) fits) (whole event (work_on node free) fits) node free (refl, h)).all.1

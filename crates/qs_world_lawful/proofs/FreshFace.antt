@@ -1,7 +1,8 @@
 -- What a node has of each transaction as an incarnation of it begins is what the machine has of it, where that has nothing else of the
 -- incarnation.
 use Rattle.qs_world_lawful.proofs.Words.{◌≡◌, ◌⊎◌, inl, inr, ℕ, ◌<◌, ◌==◌, Bool, true, false, List, [], length, Option, Some, None, fold, refl, sym, ap, subst, ◌∙◌, arith, is_some, nat_lt, nat_tests, Global, filter, list_all, same_tid, same_tid-true, ClientNo, NodeNo, Outcome, Tid, same_node, Lent, BookValue, cell_of_transaction, find_transaction, is_recoverable, is_among, member_at, TransactionValue, has_note, is_outcome, learnt_abort, no_part, sent_in, sent_on, Cell, Part, ServerValue, client_no}
-use Rattle.qs_world_lawful.proofs.Words.{applied, no_table, share_of, Share, Prepared, Recovery, is_in_doubt, opened_servers, recovered_as, Setting, Participant, doubt_at, member_as, share_as, IsEmpty, at_server, face_of, is_given_back, is_loan_here, is_loan_in, HoldsAt, HoldsMember, HoldsTid, StandsOnce, HasAborted, HasCommitted, Every, HoldsWaits, HoldsWaitsAt, is_idle, and_right, and_left, eqb-true, and_parts}
+use Rattle.qs_world_lawful.proofs.Words.{applied, no_table, share_of, Share, Prepared, Recovery, is_in_doubt, opened_servers, recovered_as, Setting, Participant, doubt_at, member_as, share_as, IsEmpty, at_server, face_of, is_given_back, is_loan_here, is_loan_in, HoldsAt, HoldsMember, HoldsTid, StandsOnce, HasAborted, HasCommitted, Every, HoldsWaits, HoldsWaitsAt, is_idle, and_right, eqb-true, and_parts}
+use Rattle.std.proofs.lemmas.Bool.{and_left}
 use Rattle.qs_base.specs.declared.identifiers.Outcome.TheVariants as outcomes
 use Rattle.qs_node_kept.specs.declared.kept.Kept.{Kept}
 use Rattle.qs_book_machine.specs.Clauses.{note_text}

@@ -1,6 +1,7 @@
 -- What settling a transaction is given, from what stands at each of its stages and from what the agreement protocol gives.
 use Rattle.qs_world_lawful.proofs.Words.{◌≡◌, ℕ, ◌==◌, ◌+◌, ◌<◌, ◌≤◌, Bool, true, false, List, [], ◌∷◌, ◌++◌, length, fold, suc, Option, Some, None, refl, sym, ap, subst, ◌∙◌, arith, nat_lt, nat_tests, list_any, not, ◌&&◌, ◌||◌, slice_get, if◌then◌else◌, NodeNo, Tid, is_no_node, listed, same_node, BookValue, find_transaction, TransactionValue, has_refusal, is_commit, is_unanimous, has_no_record, Cause, Work, is_forgotten, Participant, IsTrueCause, book_at, HoldsNode, HasCause, IsUncommitted}
-use Rattle.qs_world_lawful.proofs.Words.{MayCommit, MayDecide, MayPass, IsPart, locals_of, Stands, StandsBy, eqb-self, and_from, not-false, eqb-true}
+use Rattle.qs_world_lawful.proofs.Words.{MayCommit, MayDecide, MayPass, IsPart, locals_of, Stands, StandsBy, eqb-self, and_from, eqb-true}
+use Rattle.std.proofs.lemmas.Bool.{not-false}
 use Rattle.std.proofs.Common.{length-append}
 use Rattle.qs_engage.specs.Nodes.{all_nodes, has_node, with_listed}
 use Rattle.qs_engage.specs.declared.nodes.Nodes.{Nodes}

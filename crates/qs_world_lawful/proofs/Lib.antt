@@ -73,8 +73,6 @@ pub mod ReadAlone
 pub mod Replied
 pub mod RequestingAny
 pub mod SameSetting
-pub mod SameSettingTold
-pub mod SameSettings
 pub mod Settled
 pub mod Stages
 pub mod Taken
@@ -208,8 +206,6 @@ pub mod GivenByWorld
 pub mod FactsKept
 pub mod FactsLabelled
 pub mod FactsQuiet
-pub mod FactsRules
-pub mod FactsTold
 pub mod FactsStages
 pub mod FactsOpened
 pub mod TriedWorldRuns

@@ -1,11 +1,11 @@
 -- As a world begins the machine has on record what stands in doubt in each log, and of contents and changes what the log says.
 use Rattle.qs_world_lawful.proofs.Words.{◌≡◌, ◌⊎◌, inl, inr, ℕ, ◌==◌, ◌&&◌, ◌||◌, not, Bool, true, false, List, [], ◌∷◌, length, map, Option, Some, fold, refl, sym, ap, subst, ◌∙◌, if◌then◌else◌, option_map, filter, list_any, lookup, insert_entry, is_at, same_tid, same_tid-self, same_tid-true, Tid, voter_equal, voter_exact, lookup_put, lookup_put_apart, tied_itself, voter, voter_cmp, is_same_vote, votes_once, Pending, OnRecord, Voter, Prepared, is_in_doubt, names_transaction, open_vote, last_doubt}
-use Rattle.qs_world_lawful.proofs.Words.{Every, found_of, eqb-self, some_same, and_left, and_right, not-true, or_right, and_parts, eqb-true}
+use Rattle.qs_world_lawful.proofs.Words.{Every, found_of, eqb-self, some_same, and_right, not-true, or_right, and_parts, eqb-true}
 use Rattle.qs_book_laws.proofs.Rising.{voter_total}
 use Rattle.qs_book_machine.specs.Opening.{put_record}
 use Rattle.qs_world.specs.Moves as moves
 use Rattle.qs_world_lawful.proofs.OpenedBook.{is_pending_of, last_pending}
-use Rattle.std.proofs.lemmas.Bool.{or_parts}
+use Rattle.std.proofs.lemmas.Bool.{and_left, or_parts}
 
 -- ---- the last vote of a member goes on record
 

@@ -1,7 +1,8 @@
 -- Another node restarted: what waits here of its dead incarnation is marked, and each transaction that has to do with it is looked
 -- at. Nothing is entered, and nothing is held of what that changes.
-use Rattle.qs_world_lawful.proofs.Words.{◌≡◌, ℕ, ◌==◌, Bool, true, false, List, [], ◌∷◌, Option, Some, None, suc, refl, sym, ap, subst, ◌∙◌, length, map, fold, not, ◌&&◌, unwrap_or, if◌then◌else◌, filter, lookup, is_at, NodeNo, Outcome, ServerNo, Tid, with_last, listed, same_node, IpcValue, queue_at, server_cmp, no_queue, Delivery, BookValue, find_transaction, TransactionValue, RequestNo, Op, block, send, find_gone, inquire, is_orphaned_by, name_again, notice_decided, notice_part, notice_tid}
-use Rattle.qs_world_lawful.proofs.Words.{peer_restarted, tell_again, Work, with_manager, with_queues, is_told_again, named_by, is_owed_by, Participant, HoldsWork, book_at, face_of, HoldsWaitsAt, IsWithin, standing_ops, waiting_ops}
+use Rattle.qs_world_lawful.proofs.Words.{◌≡◌, ℕ, ◌==◌, Bool, true, false, List, [], ◌∷◌, Option, Some, None, suc, refl, sym, ap, subst, ◌∙◌, length, map, fold, not, ◌&&◌, unwrap_or, if◌then◌else◌, filter, lookup, is_at, NodeNo, Outcome, ServerNo, Tid, with_last, listed, same_node, IpcValue, queue_at, server_cmp, no_queue, Delivery, BookValue, find_transaction, TransactionValue, RequestNo, Op, block, send, find_gone, inquire, is_orphaned_by, notice_decided, notice_part, notice_tid}
+use Rattle.qs_world_lawful.proofs.Words.{peer_restarted, Work, with_manager, with_queues, is_told_again, named_by, is_owed_by, Participant, HoldsWork, book_at, face_of, HoldsWaitsAt, IsWithin, standing_ops, waiting_ops}
+use Rattle.qs_node_step.specs.Restarts.{name_again, tell_again}
 use Rattle.qs_ipc.specs.Ipc as ipc
 use Rattle.qs_ipc.specs.Ipc.{mark_queue}
 use Rattle.qs_ipc.specs.Queue.{is_of, mark_stale}

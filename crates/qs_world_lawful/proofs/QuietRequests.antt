@@ -1,6 +1,6 @@
 -- Requests that are issued, come, wait and are served, and replies: none of these rules makes a record.
 use Rattle.qs_world_lawful.proofs.Words.{◌≡◌, ℕ, ◌==◌, Bool, true, false, List, [], ◌∷◌, ◌++◌, Option, Some, None, refl, sym, ap, subst, ◌+◌, if◌then◌else◌, ◌||◌, is_none, lookup, is_at, ClientNo, Member, NodeNo, ServerNo, Tid, same_node, Engaged, is_client, Delivery, Op, Reply, KeptLabel, is_told_class, class_here, member_of, Outstanding, Participant, last_number, enter, send, member_here, enqueue, enter_issue, with_local, issue_here, ask_on, issue_away, issue_as, next_number, is_asked, label_of}
-use Rattle.qs_world_lawful.proofs.Words.{answer_issuer, waits_as, take_reply, reply_came, label_at, put_label, learn_label, met, cover_from, engage, take_in, is_dropped, request_came, reply_here, enter_serve, lent_to, make_loan, give_reply, may_serve, serve_or_drop, serve_next, serve_all, Work, with_manager, with_queues, with_kept, with_doings, here, client_cmp, or_left}
+use Rattle.qs_world_lawful.proofs.Words.{answer_issuer, waits_as, take_reply, reply_came, label_at, put_label, learn_label, met, cover_from, engage, take_in, is_dropped, request_came, reply_here, enter_serve, lent_to, make_loan, serve_or_drop, serve_next, Work, with_manager, with_queues, with_kept, with_doings, here, client_cmp, or_left}
 use Rattle.qs_engage.specs.declared.engage.Engaged.TheVariants as engagements
 use Rattle.qs_ipc.specs.Ipc as ipc
 use Rattle.qs_ipc.specs.Queue.{is_for}
@@ -10,7 +10,7 @@ use Rattle.qs_tm.specs.Manager as tm
 use Rattle.qs_tm.specs.Participant as participant
 use Rattle.qs_tm.specs.Participant.{is_by_files}
 use Rattle.qs_node_step.specs.Requests.{issue, waiting_at}
-use Rattle.qs_node_step.specs.Serving.{change_served, serve}
+use Rattle.qs_node_step.specs.Serving.{change_served, give_reply, may_serve, serve, serve_all}
 use Rattle.qs_node_step.specs.State.{part_of}
 use Rattle.qs_world_lawful.proofs.Marks.{SameMarks, KnowsOn, knows_self}
 use Rattle.qs_world_lawful.proofs.Recordless.{Quiet, quiet_of, quiet_self, quiet_then, quiet_if, quiet_elim, quiet_fold, quiet_enter, quiet_part, quiet_send, quiet_answer, quiet_meet}

@@ -1,5 +1,6 @@
 -- A reply comes, to a client's request or to a note of files, which is noted then: the rule as a whole; and all that waits is served.
-use Rattle.qs_world_lawful.proofs.Words.{◌≡◌, ℕ, Bool, true, false, List, [], ◌∷◌, Option, Some, None, refl, sym, ap, subst, ◌∙◌, cond, if◌then◌else◌, lookup, set_value, is_at, tid_cmp, Member, ServerNo, Tid, lookup_set, Reply, BookValue, find_transaction, TransactionValue, client_of, answer_issuer, reply_came, take_reply, serve_all, serve_next, Work, with_manager, waiting_for, Manager, Outstanding, Participant, HoldsWork, book_at, AreNoted, AtEach, MayServe}
+use Rattle.qs_world_lawful.proofs.Words.{◌≡◌, ℕ, Bool, true, false, List, [], ◌∷◌, Option, Some, None, refl, sym, ap, subst, ◌∙◌, cond, if◌then◌else◌, lookup, set_value, is_at, tid_cmp, Member, ServerNo, Tid, lookup_set, Reply, BookValue, find_transaction, TransactionValue, client_of, answer_issuer, reply_came, take_reply, serve_next, Work, with_manager, waiting_for, Manager, Outstanding, Participant, HoldsWork, book_at, AreNoted, AtEach, MayServe}
+use Rattle.qs_node_step.specs.Serving.{serve_all}
 use Rattle.qs_ipc.specs.Ipc as ipc
 use Rattle.qs_node_step.specs.Requests as requests
 use Rattle.qs_tm.specs.Manager as tm

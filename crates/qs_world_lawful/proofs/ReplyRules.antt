@@ -1,6 +1,7 @@
 -- Whatever a server here replies is the reply by the rules of its kind, whether its transaction is crossed there or not.
 use Rattle.qs_world_lawful.proofs.Words.{◌≡◌, ◌⊎◌, inl, inr, ℕ, ◌==◌, ◌+◌, Bool, true, false, List, [], ◌∷◌, Option, Some, None, refl, sym, ap, subst, ◌∙◌, arith, nat_lt, nat_le, true≢false, nat_tests, not, ◌&&◌, ◌||◌, length, if◌then◌else◌, same_tid, Member, NodeNo, ServerNo, Tid, same_tid-self, same_tid-true, BookValue, find_transaction, is_reply, takes_lock, TransactionValue, is_crossed, standing_request, ServerValue, reply_of, names_no, windows_no, scratch_no, client_no, is_client_no}
-use Rattle.qs_world_lawful.proofs.Words.{TableValue, reply_to, share_of, Op, Put, Append, Del, Get, Listing, Note, Notes, Bind, Find, Timer, Left, Window, Title, Keep, Fetch, Lend, Extra, Reply, ServerKind, server_at, is_client, reply_here, at_server, face_of, part_or_new, Holds, HoldsTable, is_seen, seen_in, HoldsWaitsAt, IsWithin, standing_ops, is_idle, Delivery, broken, Request, RequestNo, Participant, entry_of, not-false, eqb-true, or_left, or_right, some_same}
+use Rattle.qs_world_lawful.proofs.Words.{TableValue, reply_to, share_of, Op, Put, Append, Del, Get, Listing, Note, Notes, Bind, Find, Timer, Left, Window, Title, Keep, Fetch, Lend, Extra, Reply, ServerKind, server_at, is_client, reply_here, at_server, face_of, part_or_new, Holds, HoldsTable, is_seen, seen_in, HoldsWaitsAt, IsWithin, standing_ops, is_idle, Delivery, broken, Request, RequestNo, Participant, entry_of, eqb-true, or_left, or_right, some_same}
+use Rattle.std.proofs.lemmas.Bool.{not-false}
 use Rattle.qs_ipc.specs.Queue.{is_for}
 use Rattle.qs_book_machine.specs.Clauses.{has_reply, is_server_reply, is_crossed_busy, may_hold, holds_as}
 use Rattle.qs_book_machine.specs.Transaction.{part_of}

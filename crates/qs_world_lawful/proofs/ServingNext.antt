@@ -1,6 +1,6 @@
 -- The request that waits first at a server leaves its queue and is served, with its loan and its reply: as a whole.
 use Rattle.qs_world_lawful.proofs.Words.{◌≡◌, ◌⊎◌, ℕ, ◌==◌, ◌≤◌, ◌+◌, Bool, true, false, List, [], ◌∷◌, Option, Some, None, refl, sym, ap, subst, ◌∙◌, drop, not, ◌&&◌, ◌||◌, if◌then◌else◌, filter, list_any, ClientNo, Member, ServerNo, Tid, same_tid-self, last_number, same_node, queue_at, Delivery, after_serving, reply_of, Reply, TransactionValue, served_in, has_note, RequestNo, BookValue, find_transaction, class_here, is_told_class, member_of, has_noted, awaits_note, is_answered_by, is_undecided}
-use Rattle.qs_world_lawful.proofs.Words.{waiting_for, Outstanding, Participant, is_client, server_at, member_here, send, reply_came, take_reply, enter_serve, make_loan, lent_to, give_reply, serve_or_drop, serve_next, reply_here, Work, here, with_manager, with_queues, change_server, face_of, at_server, HoldsFiles, HoldsAt, HoldsWork, book_at, IsWithin, waiting_ops, standing_ops, Op, none_is, some_same, eqb-true, eq-eqb}
+use Rattle.qs_world_lawful.proofs.Words.{waiting_for, Outstanding, Participant, is_client, server_at, member_here, send, reply_came, take_reply, enter_serve, make_loan, lent_to, serve_or_drop, serve_next, reply_here, Work, here, with_manager, with_queues, change_server, face_of, at_server, HoldsFiles, HoldsAt, HoldsWork, book_at, IsWithin, waiting_ops, standing_ops, Op, none_is, some_same, eqb-true, eq-eqb}
 use Rattle.qs_ipc.specs.Ipc as ipc
 use Rattle.qs_ipc.specs.Queue.{is_of, is_for, first_of}
 use Rattle.qs_ops.specs.Servers as numbers
@@ -12,7 +12,7 @@ use Rattle.qs_tm.specs.Manager as tm
 use Rattle.qs_tm.specs.Participant as participant
 use Rattle.qs_tm.specs.Participant.{is_by_files}
 use Rattle.qs_node_step.specs.Requests as requests
-use Rattle.qs_node_step.specs.Serving.{serve}
+use Rattle.qs_node_step.specs.Serving.{give_reply, serve}
 use Rattle.qs_world_lawful.specs.Face.{waiting_at}
 use Rattle.qs_world_lawful.specs.Holds.{is_kept}
 use Rattle.qs_world_lawful.proofs.Asking.{by_send}

@@ -2,14 +2,12 @@
 use Rattle.qs_world_lawful.proofs.Words.{◌≡◌, ℕ, refl, ap, sym, subst, ◌∙◌, BookValue, serve_next, forget_rule, is_pass_due, pass_rule, ready_rule, refuse_rule, try, Work, work_on, happen, wait_on, forget, vote_pass, Event, Setting, is_forgotten, HoldsBeside, HoldsWork, book_at, MayStep, first_work, FitsEvent, HasNodeFacts, HoldsHomes, KeepsStanding, Stands, StandsBy, StepStands}
 use Rattle.qs_node_step.specs.State.{NodeValue}
 use Rattle.qs_world_lawful.specs.StandingOn.{KeepsBeside, StepBeside}
-use Rattle.qs_world_lawful.proofs.FactsRules.{serve_next_keeps}
+use Rattle.qs_world_lawful.proofs.FactsStages.{serve_next_keeps}
 use Rattle.qs_world_lawful.proofs.FactsStages.{forgets_keep, happens_keep, passes_keep, readies_keep, refuses_keep, waits_keep}
-use Rattle.qs_world_lawful.proofs.FactsTold.{begin_incarnation_keeps}
+use Rattle.qs_world_lawful.proofs.FactsStages.{begin_incarnation_keeps}
 use Rattle.qs_world_lawful.proofs.GivenWhole.{may_step}
 use Rattle.qs_world_lawful.proofs.HomesStand.{homes_stand}
-use Rattle.qs_world_lawful.proofs.SameSetting.{if_same, serve_next_same, undecided_same}
-use Rattle.qs_world_lawful.proofs.SameSettingTold.{begin_same}
-use Rattle.qs_world_lawful.proofs.SameSettings.{happen_same, pass_same, ready_same, refuse_same, wait_same}
+use Rattle.qs_world_lawful.proofs.SameSetting.{begin_same, forgets_same, happen_same, passes_same, readies_same, refuses_same, serve_next_same, wait_same}
 
 module _ (stamp : ℕ) (before : BookValue) (size : ℕ) (nodes : ℕ → NodeValue) (n : ℕ) (homes : HoldsHomes before size nodes n) where
   -- what stands after a rule that keeps the setting and the node's own facts
@@ -27,10 +25,10 @@ module _ (stamp : ℕ) (before : BookValue) (size : ℕ) (nodes : ℕ → NodeVa
 
   pub keeps_standing : KeepsBeside stamp before size nodes n → KeepsStanding stamp before size nodes n
   keeps_standing k = record {
-    passes = λ work tid so s held. stands_on work (try tid pass_rule work) (undecided_same tid (pass_rule tid) work (λ part. if_same (is_pass_due tid part work) (vote_pass tid work) work work (pass_same tid work) refl)) (passes_keep work tid) s held (k.passes work tid so s held);
-    readies = λ work tid s held. stands_on work (try tid ready_rule work) (undecided_same tid (ready_rule tid) work (λ part. ready_same tid part work)) (readies_keep work tid) s held (k.readies work tid s held);
-    refuses = λ work tid s held. stands_on work (try tid refuse_rule work) (undecided_same tid (refuse_rule tid) work (λ part. refuse_same tid part work)) (refuses_keep work tid) s held (k.refuses work tid s held);
-    forgets = λ work tid s held. stands_on work (try tid forget_rule work) (undecided_same tid (forget_rule tid) work (λ part. if_same (is_forgotten part) (forget tid work) work work refl refl)) (forgets_keep work tid) s held (k.forgets work tid s held);
+    passes = λ work tid so s held. stands_on work (try tid pass_rule work) (passes_same work tid) (passes_keep work tid) s held (k.passes work tid so s held);
+    readies = λ work tid s held. stands_on work (try tid ready_rule work) (readies_same work tid) (readies_keep work tid) s held (k.readies work tid s held);
+    refuses = λ work tid s held. stands_on work (try tid refuse_rule work) (refuses_same work tid) (refuses_keep work tid) s held (k.refuses work tid s held);
+    forgets = λ work tid s held. stands_on work (try tid forget_rule work) (forgets_same work tid) (forgets_keep work tid) s held (k.forgets work tid s held);
     serves = λ work server room s held. stands_on work (serve_next work server) (serve_next_same work server) (serve_next_keeps work server) s held (k.serves work server room s held);
     waits = λ work client s held. stands_on work (wait_on work client) (wait_same work client) (waits_keep work client) s held (k.waits work client s held);
   }

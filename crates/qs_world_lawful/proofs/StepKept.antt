@@ -8,7 +8,7 @@ use Rattle.qs_world_lawful.proofs.BesideWhole.{beside_after, held_after, logged_
 use Rattle.qs_world_lawful.proofs.ComesFirst.{fits_so}
 use Rattle.qs_world_lawful.proofs.FactsStages.{step_keeps}
 use Rattle.qs_world_lawful.proofs.HomesStand.{homes_stand}
-use Rattle.qs_world_lawful.proofs.SameSettings.{step_same}
+use Rattle.qs_world_lawful.proofs.SameSetting.{step_same}
 use Rattle.qs_world_lawful.proofs.WholeStep.{by_whole_step}
 
 -- a run goes on

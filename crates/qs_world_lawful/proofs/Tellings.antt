@@ -1,10 +1,11 @@
 -- What is told and asked of outcomes, and causes that are passed on: nothing is entered, and nothing is held of it.
-use Rattle.qs_world_lawful.proofs.Words.{◌≡◌, ℕ, Bool, true, false, Option, Some, None, refl, if◌then◌else◌, NodeNo, Outcome, Tid, same_node, BookValue, find_transaction, TransactionValue, is_outcome, Cell, Cause, answer_known, answer_unknown, inquiry_at_home, inquiry_came, block, pass_unknown, refusal_came, Work, here, with_manager, send, keep_abort_told, learn_unknown, names_at, take_outcome, tell_came, is_undecided, Participant, HoldsWork, IsAborted, book_at, none_is}
+use Rattle.qs_world_lawful.proofs.Words.{◌≡◌, ℕ, Bool, true, false, Option, Some, None, refl, if◌then◌else◌, NodeNo, Outcome, Tid, same_node, BookValue, find_transaction, TransactionValue, is_outcome, Cell, Cause, answer_known, answer_unknown, inquiry_came, block, refusal_came, Work, here, with_manager, send, keep_abort_told, learn_unknown, names_at, take_outcome, tell_came, is_undecided, Participant, HoldsWork, IsAborted, book_at, none_is}
+use Rattle.qs_node_step.specs.Asking.{pass_unknown}
 use Rattle.qs_base.specs.declared.identifiers.Outcome.TheVariants as outcomes
 use Rattle.qs_book_machine.specs.Transaction.{is_abort}
 use Rattle.qs_book_machine.specs.declared.transaction.Cell.TheVariants as cells
 use Rattle.qs_packet.specs.declared.message.Message.TheVariants as messages
-use Rattle.qs_node_step.specs.Answering.{was_committed}
+use Rattle.qs_node_step.specs.Answering.{inquiry_at_home, was_committed}
 use Rattle.qs_node_step.specs.Telling.{learn}
 use Rattle.qs_tm.specs.Manager as tm
 use Rattle.qs_tm.specs.Outcomes as outcome_rules

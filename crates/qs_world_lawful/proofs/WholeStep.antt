@@ -14,7 +14,7 @@ use Rattle.qs_world_lawful.proofs.FilesHeld.{files_held}
 use Rattle.qs_world_lawful.proofs.FirstSteps.{by_begin_incarnation}
 use Rattle.qs_world_lawful.proofs.Frames.{at_none, clients_on, held_on}
 use Rattle.qs_world_lawful.proofs.PeerRestarts.{by_peer_restarted}
-use Rattle.qs_world_lawful.proofs.SameSettings.{step_same}
+use Rattle.qs_world_lawful.proofs.SameSetting.{step_same}
 use Rattle.qs_world_lawful.proofs.Replied.{by_replied, by_serve_all}
 use Rattle.qs_world_lawful.proofs.RequestsCame.{by_request_came}
 use Rattle.qs_world_lawful.proofs.Settled.{aborted, by_settle}

@@ -1,6 +1,6 @@
 -- The words that this crate's proofs share, each from where it is defined: a proof names here what it speaks of.
 pub use Rattle.std.proofs.Common.{◌≡◌, refl, ℕ, true, sym, false, ◌∙◌, ap, Some, Bool, List, subst, None, Option, [], ◌∷◌, if◌then◌else◌, ◌==◌, inl, inr, ◌&&◌, ◌++◌, not, is_some, ◌⊎◌, length, fold, arith, ◌||◌, nat_lt, ◌+◌, ◌≤◌, ◌<◌, suc, map, unwrap_or, ◌≢◌, zero, Equal, true≢false, Less, append-nil, Greater, is_none, append_assoc, flat_map, nat_le, ◌^◌, drop, ◌-◌, le_refl, replicate}
-pub use Rattle.std.proofs.lemmas.Bool.{eqb-true, and_parts, eqb-false, false≢true, not-true, or_right, or_left, and_from, both_ways, eq-eqb, and_right, false_from_ne_true, ltb-true, and_left, lt-ltb, not-false}
+pub use Rattle.std.proofs.lemmas.Bool.{eqb-true, and_parts, eqb-false, false≢true, not-true, or_right, or_left, and_from, both_ways, eq-eqb, and_right, false_from_ne_true, ltb-true, lt-ltb}
 pub use Rattle.std.proofs.lemmas.Bool.Decides.{nat_tests}
 pub use Rattle.std.proofs.lemmas.Cmp.{tied_itself, nat_cmp_total}
 pub use Rattle.std.proofs.lemmas.Grind.{flat_map-append}
@@ -117,16 +117,16 @@ pub use Rattle.qs_node_kept.specs.declared.kept.KeptLabel.{KeptLabel}
 pub use Rattle.qs_node_kept.specs.declared.kept.Decided.{Decided}
 pub use Rattle.qs_node_kept.specs.declared.kept.Lent.{Lent}
 pub use Rattle.qs_node_servers.specs.Servers.{ServersValue, with_server, server_at, is_client, client_server, client_of}
-pub use Rattle.qs_node_step.specs.Answering.{kept_outcome, answer_known, answer_unknown, inquiry_came, inquiry_at_home, is_kept_commit}
-pub use Rattle.qs_node_step.specs.Asking.{become_asked, block, where_undecided, ask_came, asked_by, closer_came, refusal_came, pass_unknown}
-pub use Rattle.qs_node_step.specs.Borrowing.{borrower_command, is_aborted, is_void, lent_command, loan_command, take, take_command, with_loan, yield}
+pub use Rattle.qs_node_step.specs.Answering.{kept_outcome, answer_known, answer_unknown, inquiry_came, is_kept_commit}
+pub use Rattle.qs_node_step.specs.Asking.{become_asked, block, where_undecided, ask_came, asked_by, closer_came, refusal_came}
+pub use Rattle.qs_node_step.specs.Borrowing.{borrower_command, is_aborted, is_void, lent_command, loan_command, take, take_command, yield}
 pub use Rattle.qs_node_step.specs.Bringing.{send, enter, member_here, log, log_if, send_each, tid_of, is_other}
-pub use Rattle.qs_node_step.specs.Commands.{request_command, ask, decided_answer, open_command, outcome_answer, owner_command, begin_or_refuse, enter_ask, with_issued, request_as, begin_as, begin_command, refuse_begin}
+pub use Rattle.qs_node_step.specs.Commands.{request_command, ask, decided_answer, open_command, outcome_answer, owner_command, begin_or_refuse, enter_ask, with_issued, request_as, begin_as, refuse_begin}
 pub use Rattle.qs_node_step.specs.Deciding.{give_notices, end_member, end_members, learn_member, learners_at, decide_commit, keep_outcome, due_endings, notice_of, learn_members, decide_as}
 pub use Rattle.qs_node_step.specs.Opening.{recovered_of, new_manager, recovered_as, take_up, close_outcome, close_tid, is_left_open, opened_servers, outcome_in_log}
 pub use Rattle.qs_node_step.specs.Requests.{issue_here, next_number, enter_issue, issue_away, local_count, reply_came, take_reply, answer_issuer, ask_on, is_asked, label_of, with_local, enqueue, issue_as, next_local, waits_as}
-pub use Rattle.qs_node_step.specs.Restarts.{begin_incarnation, known_tids, resume_home, resume_part, resume_tid, notice_tid, find_gone, inquire, is_orphaned_by, notice_decided, notice_part, name_again, peer_restarted, tell_again}
-pub use Rattle.qs_node_step.specs.Serving.{label_at, put_label, enter_serve, serve_next, make_loan, lent_to, reply_here, cover_from, engage, is_dropped, learn_label, met, request_came, serve_or_drop, take_in, serve_all, give_reply, may_serve}
+pub use Rattle.qs_node_step.specs.Restarts.{begin_incarnation, known_tids, resume_home, resume_part, resume_tid, notice_tid, find_gone, inquire, is_orphaned_by, notice_decided, notice_part, peer_restarted}
+pub use Rattle.qs_node_step.specs.Serving.{label_at, put_label, enter_serve, serve_next, make_loan, lent_to, reply_here, cover_from, engage, is_dropped, learn_label, met, request_came, serve_or_drop, take_in}
 pub use Rattle.qs_node_step.specs.Settling.{forget_rule, pass_rule, ready_rule, refuse_rule, settle, settle_tid, try, due_tids, is_pass_due, is_quiet, may_answer, answer_superior, refusal_goes_to, refuse_elsewhere, send_refusal, ready, refuse_home, say_yes, is_lent, is_put_off}
 pub use Rattle.qs_node_step.specs.State.{Work, here, with_manager, client_cmp, with_queues, change_server, doings_of, with_doings, work_on, with_kept}
 pub use Rattle.qs_node_step.specs.Step.{happen, is_owner, wait_on, with_command, command_came, effects_of, abort_old, after_step, labelled, obey, step_work, age_rule, message_came, owner_waits, waiting_clients, borrower_waits, wait_command, waits_at, answer_waiting, tick}
@@ -145,6 +145,7 @@ pub use Rattle.qs_world.specs.Moves.{moved, may_move, Rise, Meet, Source, event_
 pub use Rattle.qs_world.specs.Openings.{IsOpening, are_rising, labels_begun, is_earlier, is_record}
 pub use Rattle.qs_world.specs.Posting.{entry_of, entries_of, next_parcel, post_all, post_next}
 pub use Rattle.qs_world.specs.World.{World, Parcel, Opening, Host, inc_of, known_of, start}
+pub use Rattle.qs_world_walk.specs.Walked.{AtEach, done_work}
 pub use Rattle.qs_world_lawful.specs.Agreed.{AgreementGives}
 pub use Rattle.qs_world_lawful.specs.Amid.{InRun, IsSent}
 pub use Rattle.qs_world_lawful.specs.Aside.{IsOfStep, IsAside}
@@ -156,8 +157,8 @@ pub use Rattle.qs_world_lawful.specs.Doubts.{HoldsDoubts, doubted, has_name, is_
 pub use Rattle.qs_world_lawful.specs.Entering.{book_at, HoldsWork, entries_so_far, IsAborted}
 pub use Rattle.qs_world_lawful.specs.Face.{face_of, at_server, part_or_new, part_in, is_loan_here, is_given_back, is_held, is_loan_in, IsEmpty}
 pub use Rattle.qs_world_lawful.specs.Filed.{HoldsFiles}
-pub use Rattle.qs_world_lawful.specs.Given.{AtEach, AreNoted, HasCause, MayDecide, MayPass, IsUncommitted, MayCommit, MayServe, MaySettle}
-pub use Rattle.qs_world_lawful.specs.GivenStep.{first_work, tick_work, MayStep, done_work, MayAge, MayRequest, MayWait}
+pub use Rattle.qs_world_lawful.specs.Given.{AreNoted, HasCause, MayDecide, MayPass, IsUncommitted, MayCommit, MayServe, MaySettle}
+pub use Rattle.qs_world_lawful.specs.GivenStep.{first_work, tick_work, MayStep, MayAge, MayRequest, MayWait}
 pub use Rattle.qs_world_lawful.specs.Holds.{HoldsTid, Holds, HoldsAt, HoldsMember, IsOwner, IsAsking, HoldsClients, HoldsHome, HasEnded, IsBehind, MayBeTold, HoldsStill, is_next, HoldsNode, HoldsVoter, covers_at_most}
 pub use Rattle.qs_world_lawful.specs.Issues.{next_to}
 pub use Rattle.qs_world_lawful.specs.Lasting.{Lasts, StandsOnce, IsOfNow, IsBefore}

@@ -18,10 +18,10 @@ use Rattle.qs_node_step.specs.declared.event.Event.TheVariants as events
 use Rattle.qs_tm.specs.Manager as tm
 use Rattle.qs_tm.specs.Participant.{is_forgotten, is_undecided, needs_pass}
 use Rattle.qs_tm.specs.declared.participant.Participant.{Participant}
+use Rattle.qs_world_walk.specs.Walked.{AtEach, done_work}
 use Rattle.qs_world_lawful.specs.Beside.{is_committed_at}
 use Rattle.qs_world_lawful.specs.Entering.{book_at}
-use Rattle.qs_world_lawful.specs.Given.{AtEach}
-use Rattle.qs_world_lawful.specs.GivenStep.{done_work, first_work}
+use Rattle.qs_world_lawful.specs.GivenStep.{first_work}
 
 -- ---- what all nodes have: node n is in the middle of a step, the others stand as they are
 

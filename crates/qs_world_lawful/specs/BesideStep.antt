@@ -17,9 +17,10 @@ use Rattle.qs_node_step.specs.declared.event.Event.TheVariants as events
 use Rattle.qs_tm.specs.Manager as tm
 use Rattle.qs_tm.specs.Participant.{is_owed_by}
 use Rattle.qs_tm.specs.declared.participant.Participant.{Participant}
+use Rattle.qs_world_walk.specs.Walked.{AtEach}
 use Rattle.qs_world_lawful.specs.Beside.{IsTrueCause}
 use Rattle.qs_world_lawful.specs.Entering.{book_at}
-use Rattle.qs_world_lawful.specs.Given.{AtEach, MayPass}
+use Rattle.qs_world_lawful.specs.Given.{MayPass}
 use Rattle.qs_world_lawful.specs.Logged.{HasCommitted}
 
 -- what a node owes that restarted, the machine finds gone

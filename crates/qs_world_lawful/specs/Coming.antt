@@ -20,8 +20,8 @@ use Rattle.qs_node_step.specs.State.{NodeValue, Work, client_cmp}
 use Rattle.qs_node_step.specs.declared.event.Event.{Event}
 use Rattle.qs_node_step.specs.declared.event.Event.TheVariants as events
 use Rattle.qs_world.specs.Moves.{client_count}
+use Rattle.qs_world_walk.specs.Walked.{AtEach}
 use Rattle.qs_world_lawful.specs.Face.{waiting_at}
-use Rattle.qs_world_lawful.specs.Given.{AtEach}
 use Rattle.qs_world_lawful.specs.Holds.{IsBehind}
 use Rattle.qs_world_lawful.specs.NodeFacts.{AreYoung}
 use Rattle.qs_world_lawful.specs.Parcels.{GoesTo, IsSaid}

@@ -32,11 +32,6 @@ use Rattle.qs_world_lawful.specs.Entering.{book_at}
 use Rattle.qs_world_lawful.specs.Face.{at_server}
 use Rattle.qs_world_lawful.specs.Holds.{is_kept}
 
--- it is given at each stage of a fold
-abbrev pub AtEach : {A : Type 0} → (Work → A → Type 0) → (Work → A → Work) → Work → List A → Type 0
-AtEach P f work [] = ⊤
-AtEach P f work (x ∷ xs) = P work x × AtEach P f (f work x) xs
-
 -- ---- a transaction in the machine
 
 -- it is not committed

@@ -36,16 +36,17 @@ use Rattle.qs_node_step.specs.Restarts.{begin_incarnation}
 use Rattle.qs_node_step.specs.Serving.{label_at, serve_next}
 use Rattle.qs_node_step.specs.Settling.{due_tids, settle, settle_tid}
 use Rattle.qs_node_step.specs.State.{NodeValue, Work, change_server, client_cmp, with_manager, work_on}
-use Rattle.qs_node_step.specs.Step.{abort_old, happen, is_owner, wait_on, waiting_clients}
+use Rattle.qs_node_step.specs.Step.{abort_old, is_owner, wait_on, waiting_clients}
 use Rattle.qs_node_step.specs.declared.event.Event.{Event}
 use Rattle.qs_node_step.specs.declared.event.Event.TheVariants as events
 use Rattle.qs_node_step.specs.declared.state.OpenCommand.{OpenCommand}
 use Rattle.qs_tm.specs.Manager as tm
 use Rattle.qs_tm.specs.Participant.{is_undecided}
 use Rattle.qs_tm.specs.declared.participant.Participant.{Participant}
+use Rattle.qs_world_walk.specs.Walked.{AtEach, done_work}
 use Rattle.qs_world_lawful.specs.Entering.{IsAborted, book_at}
 use Rattle.qs_world_lawful.specs.Face.{waiting_at}
-use Rattle.qs_world_lawful.specs.Given.{AtEach, HasCause, IsUncommitted, MayDecide, MayReply, MayServe, MaySettle}
+use Rattle.qs_world_lawful.specs.Given.{HasCause, IsUncommitted, MayDecide, MayReply, MayServe, MaySettle}
 use Rattle.qs_world_lawful.specs.Holds.{IsBehind}
 use Rattle.qs_world_lawful.specs.Waits.{IsWithin, standing_ops, waiting_ops}
 
@@ -169,12 +170,9 @@ MayHappen stamp before events.ServeAll work = AtEach (MayServe stamp before) ser
 MayHappen stamp before (events.PeerRestarted peer old new) work = ⊤
 MayHappen stamp before events.Tick work = MayAge stamp before work.node.setting.age (tick_work work)
 
--- the work as the event comes, and once it was done
+-- the work as the event comes
 abbrev pub first_work : NodeValue → ℕ → Work
 first_work node free = begin_incarnation (work_on node free)
-
-abbrev pub done_work : NodeValue → Event → ℕ → Work
-done_work node event free = happen event (first_work node free)
 
 -- the whole step
 pub record MayStep (stamp : ℕ) (before : BookValue) (node : NodeValue) (event : Event) (free : ℕ) : Type 0 where

@@ -10,13 +10,13 @@ use Rattle.qs_node_step.specs.State.{NodeValue, Work}
 use Rattle.qs_node_step.specs.Step.{happen, wait_on}
 use Rattle.qs_node_step.specs.declared.event.Event.{Event}
 use Rattle.qs_node_step.specs.declared.event.Event.TheVariants as events
+use Rattle.qs_world_walk.specs.Walked.{AtEach, done_work}
 use Rattle.qs_world_lawful.specs.Agreed.{StepAgrees}
 use Rattle.qs_world_lawful.specs.Beside.{HoldsBeside}
 use Rattle.qs_world_lawful.specs.BesideStep.{HasCountRoom, PassesSo}
 use Rattle.qs_world_lawful.specs.Coming.{ComesTo}
 use Rattle.qs_world_lawful.specs.Entering.{HoldsWork, book_at}
-use Rattle.qs_world_lawful.specs.Given.{AtEach}
-use Rattle.qs_world_lawful.specs.GivenStep.{MayAge, done_work, first_work, tick_work}
+use Rattle.qs_world_lawful.specs.GivenStep.{MayAge, first_work, tick_work}
 use Rattle.qs_world_lawful.specs.NodeFacts.{FitsEvent, HasNodeFacts}
 use Rattle.qs_world_lawful.specs.Standing.{CanCount, HoldsHomes, Stands}
 

@@ -7,13 +7,13 @@ use Rattle.qs_node_step.specs.Settling.{due_tids, settle_tid}
 use Rattle.qs_node_step.specs.State.{NodeValue, work_on}
 use Rattle.qs_node_step.specs.declared.event.Event.{Event}
 use Rattle.qs_node_step.specs.declared.event.Event.TheVariants as events
+use Rattle.qs_world_walk.specs.Walked.{AtEach, done_work}
 use Rattle.qs_world_lawful.specs.Agreed.{StepAgrees}
 use Rattle.qs_world_lawful.specs.Amid.{InRun}
 use Rattle.qs_world_lawful.specs.Beside.{HoldsBeside}
 use Rattle.qs_world_lawful.specs.BesideStep.{AreCommitted, HappensSo, HasCountRoom}
 use Rattle.qs_world_lawful.specs.Coming.{ComesTo}
-use Rattle.qs_world_lawful.specs.Given.{AtEach}
-use Rattle.qs_world_lawful.specs.GivenStep.{done_work, first_work}
+use Rattle.qs_world_lawful.specs.GivenStep.{first_work}
 use Rattle.qs_world_lawful.specs.Holds.{Holds}
 use Rattle.qs_world_lawful.specs.NodeFacts.{HasNodeFacts}
 use Rattle.qs_world_lawful.specs.Standing.{CanCount, HoldsHomes}

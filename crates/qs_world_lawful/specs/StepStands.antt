@@ -6,12 +6,12 @@ use Rattle.qs_node_step.specs.State.{NodeValue}
 use Rattle.qs_node_step.specs.Step.{happen}
 use Rattle.qs_node_step.specs.declared.event.Event.{Event}
 use Rattle.qs_node_step.specs.declared.event.Event.TheVariants as events
+use Rattle.qs_world_walk.specs.Walked.{AtEach, done_work}
 use Rattle.qs_world_lawful.specs.Agreed.{StepAgrees}
 use Rattle.qs_world_lawful.specs.BesideStep.{HasCountRoom}
 use Rattle.qs_world_lawful.specs.Coming.{ComesTo}
 use Rattle.qs_world_lawful.specs.Entering.{book_at}
-use Rattle.qs_world_lawful.specs.Given.{AtEach}
-use Rattle.qs_world_lawful.specs.GivenStep.{MayAge, done_work, first_work, tick_work}
+use Rattle.qs_world_lawful.specs.GivenStep.{MayAge, first_work, tick_work}
 use Rattle.qs_world_lawful.specs.Standing.{GoesOn, KeepsStanding, Stands}
 
 pub record StepStands (stamp : ℕ) (before : BookValue) (size : ℕ) (nodes : ℕ → NodeValue) (n : ℕ) (node : NodeValue) (event : Event) (free : ℕ) : Type 0 where

@@ -23,9 +23,10 @@ use Rattle.qs_world.specs.Faults.{both, places_from}
 use Rattle.qs_world.specs.Histories.{book_of}
 use Rattle.qs_world.specs.Moves.{Source, event_of}
 use Rattle.qs_world.specs.World.{Opening, World, start}
+use Rattle.qs_world_walk.specs.Walked.{done_work}
 use Rattle.qs_world_lawful.specs.Entering.{book_at}
 use Rattle.qs_world_lawful.specs.Face.{at_server}
-use Rattle.qs_world_lawful.specs.GivenStep.{done_work, first_work}
+use Rattle.qs_world_lawful.specs.GivenStep.{first_work}
 use Rattle.qs_world_lawful.specs.GivenTests.{holds_beside_test, node_test}
 use Rattle.qs_world_lawful.specs.Tests.{holds_test}
 use Rattle.qs_world_lawful.specs.Tried.{rich}

@@ -6,7 +6,7 @@ use Rattle.qs_node_step.specs.Serving.{serve_next}
 use Rattle.qs_node_step.specs.State.{work_on}
 use Rattle.qs_world.specs.Moves.{Queues, Source}
 use Rattle.qs_world.specs.World.{Opening, World}
-use Rattle.qs_world_lawful.specs.Given.{AtEach}
+use Rattle.qs_world_walk.specs.Walked.{AtEach}
 use Rattle.qs_world_lawful.specs.NodeFacts.{AreYoung}
 use Rattle.qs_world_lawful.specs.Parcels.{HoldsChannels, HoldsWays}
 use Rattle.qs_world_lawful.specs.Scripts.{HoldsScripts}

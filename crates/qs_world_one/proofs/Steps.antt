@@ -10,7 +10,7 @@ use Rattle.qs_cell_chronicle.specs.declared.occasion.Occasion.{Occasion}
 use Rattle.qs_cell_chronicle.specs.declared.occasion.Occasion.TheVariants as occasions
 use Rattle.qs_disk.specs.Fuse.{FusedValue}
 use Rattle.qs_node_host.specs.Host.{free_of, log_after, node_after}
-use Rattle.qs_world_lawful.proofs.SameSettings.{step_same}
+use Rattle.qs_world_lawful.proofs.SameSetting.{step_same}
 use Rattle.qs_world_one.proofs.AsHost.{stepped as stepped_as_host}
 use Rattle.qs_world_one.specs.InWorld.{host_of}
 use Rattle.qs_log.specs.Log.{LogValue}

@@ -1,6 +1,6 @@
 -- A step answers commands that are in hand, each once: so it is after each thing that a rule does.
 use Rattle.qs_world_runs.proofs.Words.{◌≡◌, ◌≢◌, ◌⊎◌, inl, inr, ℕ, ◌==◌, Bool, true, false, ◌||◌, List, [], ◌∷◌, ◌++◌, Option, Some, None, Equal, refl, sym, ap, subst, ◌∙◌, nat_cmp_total, tied_itself, list_any-append, insert_entry, is_at, IsTotalOrder, list_any, lookup, remove_entry, ClientNo, Act, ScriptLine, changed_apart, changed_none, IsRising, put_rises, remove_rises, removed, Answer, client_cmp, step_work, ClientAnswer, Event, Issued, OpenCommand, command_of, IsOfOpen, with_event}
-use Rattle.qs_world_runs.proofs.Words.{IsKept, IsOrdinary, Trace, entered, fresh_command, trace_of, Every, AreApart, client_exact, same_client_or, every_on, every_more, eqb-true, eqb-self, some_same}
+use Rattle.qs_world_runs.proofs.Words.{IsKept, IsOrdinary, Trace, fresh_command, trace_of, Every, AreApart, client_exact, same_client_or, every_on, every_more, eqb-true, eqb-self, some_same}
 use Rattle.std.proofs.lemmas.Cmp.{on_total}
 use Rattle.std.proofs.lemmas.Map.Lookups.{exact_unsigned}
 use Rattle.qs_book_journal.specs.declared.entry.Act.TheVariants as acts
@@ -12,7 +12,7 @@ use Rattle.qs_node_step.specs.declared.event.Event.TheVariants as events
 use Rattle.qs_tm.specs.Manager as tm
 use Rattle.qs_world.specs.Posting.{is_answer_to}
 use Rattle.qs_world_runs.specs.Answering.{Answering, Commands, IsFree, IsOpenStill, WasOpen}
-use Rattle.qs_world_runs.specs.Traces.{answered, noted, with_issued, with_line}
+use Rattle.qs_world_runs.specs.Traces.{answered, entered, noted, with_issued, with_line}
 use Rattle.qs_world_lawful.proofs.OtherShares.{removed_apart}
 use Rattle.qs_world_lawful.proofs.TellingOn.{changed_rises}
 use Rattle.qs_world_runs.proofs.TraceStages.{step_traced}

@@ -1,6 +1,7 @@
 -- What holds of each thing that a step does holds of what is asked, counted, refused and inquired, and of what clients command.
-use Rattle.qs_world_runs.proofs.Words.{◌≡◌, ℕ, true, List, Option, Some, None, refl, ◌∙◌, if◌then◌else◌, not, ◌&&◌, list_any, ClientNo, Member, NodeNo, Tid, uncovered, is_node, same_node, listed, Command, ScriptLine, Cause, Op, first_untaken, take_first, last_taken, give_back, Lent, client_server, Participant, answer_unknown, answer_known, inquiry_came, become_asked, asked_by, ask_came, count, closer_came, block, refusal_came, is_void, take, take_command, yield, lent_command, loan_command}
+use Rattle.qs_world_runs.proofs.Words.{◌≡◌, ℕ, true, List, Option, Some, None, refl, ◌∙◌, if◌then◌else◌, not, ◌&&◌, list_any, ClientNo, Member, NodeNo, Tid, uncovered, same_node, listed, Command, ScriptLine, Cause, Op, first_untaken, take_first, last_taken, give_back, Lent, client_server, Participant, answer_unknown, answer_known, inquiry_came, become_asked, asked_by, ask_came, count, closer_came, block, refusal_came, is_void, take, take_command, yield, lent_command, loan_command}
 use Rattle.qs_world_runs.proofs.Words.{borrower_command, enter, send, refuse_begin, request_as, request_command, enter_ask, ask, put_label, Work, with_manager, with_kept, with_doings, here, keep_abort_told, learn_unknown, take_names, is_other_node, told_unknown}
+use Rattle.qs_engage.specs.Engage.{is_node}
 use Rattle.qs_base.specs.declared.identifiers.Outcome.{Outcome}
 use Rattle.qs_base.specs.declared.identifiers.Outcome.TheVariants as outcomes
 use Rattle.qs_book_journal.specs.declared.entry.Act.TheVariants as acts

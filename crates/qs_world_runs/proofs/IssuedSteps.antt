@@ -2,7 +2,7 @@
 use Rattle.qs_world_runs.proofs.Words.{◌≡◌, ◌⊎◌, inl, inr, ℕ, ◌==◌, true, false, List, [], ◌∷◌, fold, sym, subst, ClientNo, Member, NodeNo, Tid, same_node, Op, due_tids, settle, Work, work_on, happen, step_work, wait_on, waiting_clients, Event, Opening, World, is_sound, IsSteady, StepMay, step_may, steady_gives, AtEach, done_work, first_work, begin_incarnation_keeps, happen_same, begin_same, SoundStages, EachIssueWaits}
 use Rattle.qs_node_step.specs.State.{NodeValue}
 use Rattle.qs_node_step.specs.declared.event.Event.TheVariants as events
-use Rattle.qs_world_lawful.proofs.SameSettings.{wait_same}
+use Rattle.qs_world_lawful.proofs.SameSetting.{wait_same}
 use Rattle.qs_world_runs.proofs.AgreesPasses.{stages_sound}
 use Rattle.qs_world_runs.proofs.AwaitedRules.{fold_on, then_on}
 use Rattle.qs_world_runs.proofs.AwaitedSettles.{settles_on}

@@ -1,13 +1,13 @@
 -- A step keeps the labels that its node has, keeps the label of what it begins as its owner's, and learns none of a transaction of its own that has
 -- no owner: so it is after each thing that a rule does.
-use Rattle.qs_world_runs.proofs.Words.{◌≡◌, ℕ, Bool, true, false, ◌||◌, List, [], ◌∷◌, ◌++◌, Some, None, refl, sym, ap, subst, ◌∙◌, list_any-append, list_any, ⊤, same_tid-self, ClientNo, Member, NodeNo, ServerNo, Tid, Act, KeptLabel, Op, step_work, Event, Every, every_on, every_more, AreOwned, IsKept, IsOrdinary, Trace, entered, trace_of, same_Some}
+use Rattle.qs_world_runs.proofs.Words.{◌≡◌, ℕ, Bool, true, false, ◌||◌, List, [], ◌∷◌, ◌++◌, Some, None, refl, sym, ap, subst, ◌∙◌, list_any-append, list_any, ⊤, same_tid-self, ClientNo, Member, NodeNo, ServerNo, Tid, Act, KeptLabel, Op, step_work, Event, Every, every_on, every_more, AreOwned, IsKept, IsOrdinary, Trace, trace_of, same_Some}
 use Rattle.qs_book_journal.specs.declared.entry.Act.TheVariants as acts
 use Rattle.qs_ops.specs.declared.answer.Answer.TheVariants as answers
 use Rattle.qs_packet.specs.declared.message.Message.TheVariants as messages
 use Rattle.qs_node_step.specs.State.{NodeValue}
 use Rattle.qs_node_step.specs.declared.event.Event.TheVariants as events
 use Rattle.qs_world_runs.specs.Labels.{is_owned_as, is_owned_in}
-use Rattle.qs_world_runs.specs.Traces.{TakesIn, noted}
+use Rattle.qs_world_runs.specs.Traces.{TakesIn, entered, noted}
 use Rattle.qs_world_runs.proofs.TraceStages.{step_traced}
 
 -- what begins has its owner's label

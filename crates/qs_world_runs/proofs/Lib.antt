@@ -17,12 +17,7 @@ pub mod AgreesPasses
 pub mod JoinedParts
 pub mod JoinedFacts
 pub mod JoinedHomes
-pub mod TraceFirst
 pub mod TraceKept
-pub mod TraceRules
-pub mod TraceTold
-pub mod TraceCommands
-pub mod PassDoings
 pub mod TraceStages
 pub mod Unnoted
 pub mod CommitsFirst
@@ -47,9 +42,7 @@ pub mod JoinedClocks
 pub mod JoinedLogged
 pub mod OwedBefore
 pub mod JoinedGone
-pub mod StoreRules
-pub mod StoreTold
-pub mod StoreCommands
+pub mod NoVotes
 pub mod StoreStages
 pub mod FewShares
 pub mod RoomsStep
@@ -241,9 +234,6 @@ pub mod BatchSources
 pub mod BatchCommits
 pub mod BatchBeyond
 pub mod BatchFits
-pub mod StockRules
-pub mod StockTold
-pub mod StockCommands
 pub mod StockStages
 pub mod SameShares
 pub mod SameVotes

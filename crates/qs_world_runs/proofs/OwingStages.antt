@@ -1,7 +1,8 @@
 -- What a node waits for stands on through votes, settling and whatever comes, and so through a whole step.
 use Rattle.qs_world_runs.proofs.Words.{◌≡◌, ℕ, true, List, [], ◌∷◌, Option, Some, None, refl, sym, subst, if◌then◌else◌, insert_entry, is_at, lookup, tied_itself, nat_cmp_total, NodeNo, ServerNo, Tid, release_of, listed, Entry, ScriptLine, BookValue, after_vote, changes_in, vote_of, Cause, Note, Vote, Message, server_at, enter, member_here, end_members, issue_as, begin_incarnation, answer_superior, due_tids, forget_rule, is_pass_due, is_quiet, may_answer, pass_rule, ready, ready_rule}
 use Rattle.qs_world_runs.proofs.Words.{refusal_goes_to, refuse_elsewhere, refuse_home, refuse_rule, say_yes, send_refusal, settle, settle_tid, try, Work, change_server, client_cmp, doings_of, here, with_doings, with_manager, work_on, abort_old, age_rule, command_came, happen, message_came, step_work, wait_on, waiting_clients, with_command, forget, change_count, due_votes, enter_vote, issue_note, log_vote, owes_note, served_count, vote_frame, vote_next, vote_pass, vote_with, Event}
-use Rattle.qs_world_runs.proofs.Words.{told_with_own, is_forgotten, tick_work, coming_first, Amid, around, fresh_command}
+use Rattle.qs_world_runs.proofs.Words.{told_with_own, is_forgotten, coming_first, Amid, around, fresh_command}
+use Rattle.qs_world_lawful.specs.GivenStep.{tick_work}
 use Rattle.qs_base.specs.declared.identifiers.Outcome.TheVariants as outcomes
 use Rattle.qs_book_journal.specs.declared.entry.Act.TheVariants as acts
 use Rattle.qs_book_laws.proofs.Maps.{lookup_put}

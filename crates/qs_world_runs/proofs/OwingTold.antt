@@ -1,7 +1,8 @@
 -- What a node waits for stands on as transactions are decided, as outcomes are told and taken in, and as nodes restart.
-use Rattle.qs_world_runs.proofs.Words.{ℕ, Bool, true, false, List, fold, Option, Some, None, refl, if◌then◌else◌, list_any, not, ◌&&◌, NodeNo, Tid, is_node, uncovered, listed, same_node, Entry, Cause, Record, answer_known, answer_unknown, inquiry_at_home, inquiry_came, ask_came, asked_by, become_asked, block, closer_came, count, pass_unknown, refusal_came, enter, log_if, member_here, send, send_each, due_endings, end_member, end_members, give_notices, keep_outcome, learn_member, learn_members}
+use Rattle.qs_world_runs.proofs.Words.{ℕ, Bool, true, false, List, fold, Option, Some, None, refl, if◌then◌else◌, list_any, not, ◌&&◌, NodeNo, Tid, uncovered, listed, same_node, Entry, Cause, Record, answer_known, answer_unknown, inquiry_at_home, inquiry_came, ask_came, asked_by, become_asked, block, closer_came, count, pass_unknown, refusal_came, enter, log_if, member_here, send, send_each, due_endings, end_member, end_members, give_notices, keep_outcome, learn_member, learn_members}
 use Rattle.qs_world_runs.proofs.Words.{learners_at, notice_of, notify, begin_incarnation, find_gone, inquire, is_orphaned_by, known_tids, name_again, notice_decided, notice_part, notice_tid, peer_restarted, resume_home, resume_part, resume_tid, tell_again, Work, here, with_manager, with_node, with_queues, end_told, is_other_node, keep_abort_told, learn, learn_unknown, names_at, record_learnt, take_names, take_outcome, tell_came, told_at_home, told_came, told_known, told_unknown, is_told_again}
 use Rattle.qs_world_runs.proofs.Words.{named_by, is_owed_by, is_undecided, Decision, Participant, entry_of, Amid, around}
+use Rattle.qs_engage.specs.Engage.{is_node}
 use Rattle.qs_base.specs.declared.identifiers.Outcome.{Outcome}
 use Rattle.qs_base.specs.declared.identifiers.Outcome.TheVariants as outcomes
 use Rattle.qs_ipc.specs.Ipc as ipc

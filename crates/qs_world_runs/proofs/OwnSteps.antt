@@ -1,5 +1,6 @@
 -- A step leaves only changes of their own pending at the servers whose votes a log keeps, and appends no Prepare with others.
-use Rattle.qs_world_runs.proofs.Words.{◌≡◌, ℕ, ◌==◌, ◌||◌, ◌++◌, not, Bool, true, false, List, [], ◌∷◌, refl, sym, ap, subst, ◌∙◌, if◌then◌else◌, eqb-true, or_right, list_all-append, list_all, ⊤, ServerNo, Tid, is_recoverable, ServerValue, after_notice, after_serving, after_vote, changes_in, Op, Message, Record, ServersValue, server_at, with_server, begin_incarnation, settle, Work, work_on, happen, step_work, Event, is_own_vote, IsKeptStore, IsNoVote, MayAsk, store_of}
+use Rattle.qs_world_runs.proofs.Words.{◌≡◌, ℕ, ◌==◌, ◌||◌, ◌++◌, not, Bool, true, false, List, [], ◌∷◌, refl, sym, ap, subst, ◌∙◌, if◌then◌else◌, eqb-true, or_right, list_all-append, list_all, ⊤, ServerNo, Tid, is_recoverable, ServerValue, after_notice, after_serving, after_vote, changes_in, Op, Message, Record, ServersValue, server_at, with_server, begin_incarnation, settle, Work, work_on, happen, step_work, Event, is_own_vote, IsNoVote, MayAsk, store_of}
+use Rattle.qs_world_runs.specs.Stores.{IsKeptStore}
 use Rattle.qs_ipc.specs.Queue.{is_for}
 use Rattle.qs_ops.specs.Servers as servers
 use Rattle.qs_packet.specs.declared.message.Message.TheVariants as messages
@@ -9,8 +10,7 @@ use Rattle.qs_node_step.specs.State.{NodeValue}
 use Rattle.qs_node_step.specs.declared.event.Event.TheVariants as events
 use Rattle.qs_world_runs.specs.OwnChanges.{HasNone, HasOwn, HasOwnStore, HaveOwn}
 use Rattle.qs_world_runs.proofs.OwnShares.{changes_none, for_same, notice_none, notice_own, serving_none, serving_own, share_own, voting_none, voting_own}
-use Rattle.qs_world_runs.proofs.StoreStages.{answers_keep, happens_keep, settle_keeps}
-use Rattle.qs_world_runs.proofs.StoreTold.{begin_incarnation_keeps}
+use Rattle.qs_world_runs.proofs.StoreStages.{answers_keep, begin_incarnation_keeps, happens_keep, settle_keeps}
 
 -- ---- one server of a node changes
 

@@ -1,7 +1,8 @@
 -- Through all that the rules of a step do, what it sent so far is of numbers that its node gave, and of requests that were served; and what waits is of
 -- incarnations that its node knows, or stale.
-use Rattle.qs_world_runs.proofs.Words.{◌≡◌, ℕ, ◌==◌, false, List, [], ◌∷◌, ◌++◌, Option, Some, None, refl, sym, ap, subst, ◌∙◌, arith, nat_tests, unwrap_or, filter, ClientNo, Member, NodeNo, ServerNo, Tid, same_node, IpcValue, queue_at, Delivery, Act, BookValue, find_transaction, inc_at, broken, effect, TransactionValue, Op, Reply, Message, drop_counts, Sending, entry_of, Every, LastsWell, every_on, every_more, Deeds, IsStill, traced, IsKeptAt, IsKeptFirst, HasGiven, IsOfKnown, IsOfLast}
+use Rattle.qs_world_runs.proofs.Words.{◌≡◌, ℕ, ◌==◌, false, List, [], ◌∷◌, ◌++◌, Option, Some, None, refl, sym, ap, subst, ◌∙◌, arith, nat_tests, unwrap_or, filter, ClientNo, Member, NodeNo, ServerNo, Tid, same_node, IpcValue, queue_at, Delivery, Act, BookValue, find_transaction, inc_at, broken, effect, TransactionValue, Op, Reply, Message, drop_counts, Sending, entry_of, Every, LastsWell, every_on, every_more, Deeds, IsStill, IsKeptAt, IsKeptFirst, HasGiven, IsOfKnown, IsOfLast}
 use Rattle.qs_world_runs.proofs.Words.{and_right}
+use Rattle.qs_world_runs.specs.Deeds.{traced}
 use Rattle.qs_ipc.specs.Ipc as ipc
 use Rattle.qs_ipc.specs.Queue.{is_of}
 use Rattle.qs_book_journal.specs.declared.entry.Act.TheVariants as acts

@@ -14,8 +14,7 @@ use Rattle.qs_world.specs.Moves.{is_in_order}
 use Rattle.qs_world_runs.specs.Rooms.{HostHasRoom, IsFewVote, RoomsAt}
 use Rattle.qs_world_runs.proofs.FewShares.{FewAt, files_changed, kept_few}
 use Rattle.qs_world_runs.proofs.RoomsStep.{room_kept}
-use Rattle.qs_world_runs.proofs.StoreStages.{answers_keep, happens_keep, settle_keeps}
-use Rattle.qs_world_runs.proofs.StoreTold.{begin_incarnation_keeps}
+use Rattle.qs_world_runs.proofs.StoreStages.{answers_keep, begin_incarnation_keeps, happens_keep, settle_keeps}
 
 module _ (T : Tid → Type 0) where
   -- ---- what a log says

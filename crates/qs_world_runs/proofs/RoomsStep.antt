@@ -1,6 +1,7 @@
 -- A step keeps few changes at files, and few in its votes; and it leaves commit asked for of none but those of which it may be.
-use Rattle.qs_world_runs.proofs.Words.{◌≡◌, ◌⊎◌, inl, inr, ℕ, ◌+◌, ◌≤◌, ◌<◌, ◌^◌, ◌==◌, arith, Bool, true, false, [], ◌∷◌, Option, Some, None, refl, sym, subst, ◌∙◌, length, if◌then◌else◌, is_at, lookup, set_value, ⊤, tid_exact, tid_cmp, ServerNo, Tid, at_exact, ServerValue, after_notice, after_serving, after_vote, changes_in, reply_of, Record, ServersValue, server_at, tid_of, aborted_participant, new_participant, Manager, Participant, Every, every_append, AreFew, HasRoom, IsKeptStore}
-use Rattle.qs_world_runs.proofs.Words.{IsNoVote, Store}
+use Rattle.qs_world_runs.proofs.Words.{◌≡◌, ◌⊎◌, inl, inr, ℕ, ◌+◌, ◌≤◌, ◌<◌, ◌^◌, ◌==◌, arith, Bool, true, false, [], ◌∷◌, Option, Some, None, refl, sym, subst, ◌∙◌, length, if◌then◌else◌, is_at, lookup, set_value, ⊤, tid_exact, tid_cmp, ServerNo, Tid, at_exact, ServerValue, after_notice, after_serving, after_vote, changes_in, reply_of, Record, ServersValue, server_at, tid_of, aborted_participant, new_participant, Manager, Participant, Every, every_append, AreFew, HasRoom}
+use Rattle.qs_world_runs.proofs.Words.{IsNoVote}
+use Rattle.qs_world_runs.specs.Stores.{IsKeptStore, Store}
 use Rattle.qs_ops.specs.Servers as servers
 use Rattle.qs_record.specs.declared.record.Record.TheVariants as records
 use Rattle.qs_tm.specs.Manager as tm

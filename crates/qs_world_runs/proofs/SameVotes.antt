@@ -1,7 +1,7 @@
 -- Each vote that a step puts on record is of what its server had pending as the step began: a server that serves a request of a transaction in the step casts
 -- no vote on it then, and by a vote or a notice all that is pending stays, or nothing is left to vote on.
 use Rattle.qs_world_runs.proofs.Words.{◌≡◌, ◌⊎◌, inl, inr, ℕ, ◌==◌, Bool, true, false, List, [], ◌∷◌, ◌++◌, Option, refl, sym, ap, subst, ◌∙◌, if◌then◌else◌, is_at, unwrap_or, tid_exact, or-true, tid_cmp, ServerNo, Tid, tid_itself, IsRising, is_empty, ServerValue, after_notice, after_serving, after_vote, changes_in, is_logged, ticked, Op, ServerKind, Record, ServersValue, server_at, with_server, is_put_off, no_doings, work_on, Doings, Opening, World, Every, HoldsStill, same_or_apart, every_append}
-use Rattle.qs_world_runs.proofs.Words.{StepMay, step_may, book_in, IsKeptStock, Stock, stock_of, IsNoVote}
+use Rattle.qs_world_runs.proofs.Words.{StepMay, step_may, book_in, IsNoVote}
 use Rattle.qs_book_laws.proofs.Maps.{lookup_put, lookup_put_apart}
 use Rattle.qs_ops.specs.Servers as numbers
 use Rattle.qs_record.specs.declared.record.Record.TheVariants as records
@@ -10,7 +10,7 @@ use Rattle.qs_node_step.specs.State.{NodeValue}
 use Rattle.qs_world_lawful.specs.Tables.{HoldsKinds, HoldsServers, is_seen}
 use Rattle.qs_world_lawful.proofs.Apart.{Apart}
 use Rattle.qs_world_refine.proofs.ServerKinds.{notice_kind, serving_kind, vote_kind}
-use Rattle.qs_world_runs.specs.Stocks.{KeepsOff, doings_in, noted}
+use Rattle.qs_world_runs.specs.Stocks.{IsKeptStock, KeepsOff, Stock, doings_in, noted, stock_of}
 use Rattle.qs_world_runs.specs.VotesSame.{EachVoteSame, IsVoteSame}
 use Rattle.qs_world_runs.proofs.SameShares.{StaysAt, either_at, notice_at, serving_at, vote_at}
 use Rattle.qs_world_runs.proofs.StockStages.{step_stocked}

@@ -90,7 +90,7 @@ module _ (D : Type 0) (t : Tid) (base : Field) (knows : ℕ → ℕ) (n stamp : 
       by None none = goes_itself D t base knows n stamp before work
       by (Some d) first = either d first (same_tid d.tid t) refl
 
-  pub serve_all_goes_on : (work : Work) → Rattle.qs_world_lawful.specs.Given.AtEach (ServesWell D t) serve_next work (ipc.turns work.node.queues) → G work (serve_all work)
+  pub serve_all_goes_on : (work : Work) → Rattle.qs_world_walk.specs.Walked.AtEach (ServesWell D t) serve_next work (ipc.turns work.node.queues) → G work (serve_all work)
   serve_all_goes_on work all = goes_fold D t base knows n stamp before (ServesWell D t) serve_next next_goes (ipc.turns work.node.queues) work all
 
 pub serve_all_goes : ServeAllGoes

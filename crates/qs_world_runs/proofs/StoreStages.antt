@@ -1,144 +1,143 @@
--- What all things that a rule does to servers, records and transactions keep, each stage of a step keeps: what comes, votes and settling, and commands
--- that stayed open.
-use Rattle.qs_world_runs.proofs.Words.{ℕ, Bool, true, false, List, [], ◌∷◌, Option, Some, None, refl, is_at, lookup, if◌then◌else◌, is_none, ClientNo, Member, NodeNo, ServerNo, Tid, release_of, listed, same_node, Delivery, Command, after_vote, vote_of, Cause, Op, Note, Vote, Message, server_at, kept_outcome, is_aborted, answer, member_here, decided_answer, end_members, engage, is_dropped, label_at, learn_label, put_label, request_came, take_in, answer_superior, due_tids, forget_rule}
-use Rattle.qs_world_runs.proofs.Words.{is_pass_due, is_quiet, may_answer, pass_rule, ready, ready_rule, refusal_goes_to, refuse_elsewhere, refuse_home, refuse_rule, say_yes, send_refusal, settle, settle_tid, try, Work, client_cmp, change_server, doings_of, here, with_manager, abort_old, age_rule, answer_waiting, borrower_waits, happen, is_owner, message_came, owner_waits, wait_command, wait_on, waiting_clients, waits_at, forget, change_count, due_votes, enter_vote, issue_note, log_vote}
-use Rattle.qs_world_runs.proofs.Words.{owes_note, served_count, vote_frame, vote_next, vote_pass, vote_with, Event, Issued, told_with_own, is_forgotten, AtEach, tick_work, IsKeptStore, MayAsk, Store, store_of}
-use Rattle.qs_base.specs.declared.identifiers.Outcome.TheVariants as outcomes
-use Rattle.qs_ops.specs.declared.answer.Answer.TheVariants as answers
-use Rattle.qs_ops.specs.declared.answer.Cause.TheVariants as causes
+-- What all things that a rule does to servers, records and what is kept of transactions keep, each stage of a step keeps: the table of its deeds. Commit is asked for
+-- as a client's command says, under its label, or as another node asks.
+use Rattle.qs_world_runs.proofs.Words.{Bool, Delivery, Event, KeptLabel, List, NodeNo, None, Option, Participant, Reply, ScriptLine, ServerNo, Some, Tid, Vote, Work, [], after_serving, after_vote, answer_waiting, begin_incarnation, change_server, class_here, enter_vote, false, find, happen, if◌then◌else◌, is_client, is_told_class, last_number, member_here, member_of, not, notice_of, refl, reply_here, reply_of}
+use Rattle.qs_world_runs.proofs.Words.{served_count, server_at, settle, settle_tid, subst, true, with_server, ◌+◌, ◌==◌, ◌||◌, ◌∷◌, ◌≡◌}
+use Rattle.qs_ipc.specs.Queue.{is_for}
+use Rattle.qs_node_kept.specs.Keeping.{has_label}
+use Rattle.qs_world_walk.proofs.IsDeeds.{over}
+use Rattle.qs_world_walk.proofs.Wholes.{whole_of}
+use Rattle.qs_world_walk.specs.May.{May, command_of}
+use Rattle.qs_world_walk.specs.Stage.{Stage, after}
+use Rattle.qs_world_walk.specs.Walked.{Table, TableOver}
+use Rattle.qs_world_walk.specs.Whole.{Whole}
+use Rattle.qs_world_walk.specs.Walked.{AtEach}
+use Rattle.qs_world_runs.proofs.NoVotes.{no_vote}
+use Rattle.qs_world_runs.specs.Stores.{IsKeptStore, MayAsk, Store, managed, store_of}
+use Rattle.qs_ops.specs.declared.reply.Reply.TheVariants as replies
+use Rattle.qs_ops.specs.declared.vote.Notice.TheVariants as notices
 use Rattle.qs_ops.specs.declared.vote.Vote.TheVariants as votes
-use Rattle.qs_packet.specs.declared.message.Message.TheVariants as messages
-use Rattle.qs_node_servers.specs.Servers.{audit_no}
-use Rattle.qs_node_step.specs.Deciding.{decide, decide_commit}
-use Rattle.qs_node_step.specs.State.{part_of}
-use Rattle.qs_node_step.specs.Voting.{note_text}
-use Rattle.qs_node_step.specs.declared.event.Event.TheVariants as events
+use Rattle.qs_record.specs.declared.record.Record.TheVariants as records
+use Rattle.qs_book_journal.specs.declared.script_line.Command.TheVariants as commands
 use Rattle.qs_tm.specs.Manager as tm
-use Rattle.qs_tm.specs.Members as members
+use Rattle.qs_tm.specs.Outcomes as outcome_rules
 use Rattle.qs_tm.specs.Participant as participant
-use Rattle.qs_world_runs.proofs.StoreCommands as commanded
-use Rattle.qs_world_runs.proofs.StoreRules as rules
-use Rattle.qs_world_runs.proofs.StoreTold as told
+use Rattle.qs_packet.specs.declared.message.Message.TheVariants as messages
+use Rattle.qs_node_step.specs.declared.event.Event.TheVariants as events
+use Rattle.qs_world_walk.proofs.First as firsts
+use Rattle.qs_world_walk.proofs.Stages as stages
+use Rattle.qs_world_walk.specs.Deed as d
+
+pub served_unasked : (server : ServerNo) (part : Participant) → (participant.served server part).asked ≡ part.asked
+served_unasked server part = by ((member_of part server).served == last_number)
+  where
+    by : (b : Bool) → (if b then part else record (participant.with_member server (record (member_of part server) { served = (member_of part server).served + 1; fresh = true }) part) {
+      involved = part.involved || is_told_class (class_here server);
+    }).asked ≡ part.asked
+    by true = refl
+    by false = refl
+
+own_reply : (a b : Bool) (o : Option Reply) (reply : Reply) → b ≡ false → (if a then None else if b then Some replies.Done else o) ≡ Some reply → o ≡ Some reply
+own_reply true b o reply own is = absurd (cc is)
+own_reply false true o reply own is = absurd (cc own)
+own_reply false false o reply own is = is
+
+own_op : (a b : Bool) (o : Option Reply) (reply : Reply) → (if not a then None else if b then Some replies.Done else o) ≡ Some reply → a ≡ true
+own_op true b o reply is = refl
+own_op false b o reply is = absurd (cc is)
+
+-- while a command to commit is done, the node has the labels that it had as that came
+abbrev IsNamed : Event → Work → Stage → Work → Type 0
+IsNamed event came stage w = (line : ScriptLine) → event ≡ command_of line → line.command ≡ commands.Commit → w.node.kept.now.labels ≡ came.node.kept.now.labels
+
+named_table : (event : Event) (came : Work) → Table event (IsNamed event came)
+named_table event came (d.Labels label tid) when w (new, (peer, (member, (number, (op, r))))) h = λ line is commit. absurd (cc (r.is, is))
+named_table event came (d.Begins begun) when w (there, (of, (begins, none))) h = λ line is commit. absurd (cc (of, is, begins, commit))
+named_table event came (d.Refuses begun need room) when w (there, (of, (begins, full))) h = λ line is commit. absurd (cc (of, is, begins, commit))
+named_table event came deed when w m h = h
 
 module _ (A : Tid → Type 0) (P : Store → Type 0) (k : IsKeptStore A P) where
-  abbrev Keeps : Work → Work → Type 0
-  Keeps work new = rules.Keeps A P k work new
+  abbrev pub Keeps : Work → Work → Type 0
+  Keeps work new = P (store_of work) → P (store_of new)
 
-  -- ---- the vote pass, and settling
+  parts : (tid : Tid) (f : Participant → Participant) → ((part : Participant) → (f part).asked ≡ part.asked) → (s : Store) → P s → P (managed (tm.with_part tid f) s)
+  parts tid f same s h = k.parts s tid f same h
 
-  vote_next_keeps : (tid : Tid) (work : Work) (server : ServerNo) → Keeps work (vote_next tid work server)
-  vote_next_keeps tid work server = rules.if_keeps A P k (owes_note tid server work) (issue_note tid work.node.setting.audit work) (vote_with tid server ballot work) work (λ is. note work.node.setting.audit) (λ is. voted ballot)
+  voted : (tid : Tid) (server : ServerNo) (ballot : Vote) (w : Work) → P (store_of w) → P (store_of (enter_vote tid server ballot w))
+  voted tid server ballot w h = parts tid (participant.voted (member_here w server) ballot (served_count tid server w)) (λ p. refl) (store_of (change_server server (λ value. after_vote value tid ballot) w)) (k.votes (store_of w) server tid ballot h)
+
+  served : (server : ServerNo) (delivery : Delivery) (reply : Reply) (w : Work) → reply_here server delivery.tid delivery.op w.node ≡ Some reply → P (store_of w) → P (store_of (d.served server delivery reply w))
+  served server delivery reply w says h = by (is_client server) refl
     where
-      ballot : Vote
-      ballot = vote_of (server_at work.node.servers server) tid work.room (vote_frame work)
+      by : (b : Bool) → is_client server ≡ b → P (managed (tm.served delivery.tid server) (record (store_of w) { servers = if b then w.node.servers else with_server server (λ value. after_serving value delivery.tid delivery.op reply) w.node.servers }))
+      by true is = parts delivery.tid (participant.served server) (served_unasked server) (store_of w) h
+      by false is = parts delivery.tid (participant.served server) (served_unasked server) (store_of (change_server server (λ value. after_serving value delivery.tid delivery.op reply) w))
+          (k.serves (store_of w) server delivery.tid delivery.op reply (own_op (is_for server delivery.op) (is_client server) (reply_of (server_at w.node.servers server) delivery.tid delivery.op) reply says)
+          (own_reply (not (is_for server delivery.op)) (is_client server) (reply_of (server_at w.node.servers server) delivery.tid delivery.op) reply is says) h)
 
-      note : (o : Option NodeNo) → Keeps work (issue_note tid o work)
-      note None h = h
-      note (Some node) h = rules.issue_keeps A P k tid members.files_no (record { node = node; server = audit_no }) (Note (note_text tid (here work) (change_count tid work.node))) (change_count tid work.node) work h
+  module _ (event : Event) (came : Work) (may : MayAsk A event came) where
+    owned : (line : ScriptLine) (tid : Tid) (w : Work) → May event (d.Asks line tid) w → IsNamed event came after w → A tid
+    owned line tid w (is, (there, (commit, (met, m)))) named = subst (λ (e : Event). MayAsk A e came) is may met.begun tid
+        (subst (λ (labels : List KeptLabel). find (has_label line.label) labels ≡ Some met.begun) (named line is commit) met.met) met.of_is met.own_is
 
-      entered : (b : Vote) → Keeps work (enter_vote tid server b work)
-      entered b h = k.parts (store_of (change_server server (λ value. after_vote value tid b) work)) tid (participant.voted (member_here work server) b (served_count tid server work)) (λ p. refl) (k.votes (store_of work) server tid b h)
+    told : (peer : NodeNo) (tid : Tid) → event ≡ events.Received peer (messages.AskVote tid) → A tid
+    told peer tid is = subst (λ (e : Event). MayAsk A e came) is may
 
-      voted : (b : Vote) → Keeps work (log_vote b tid server (enter_vote tid server b work))
-      voted (votes.Abort reason) h = entered (votes.Abort reason) h
-      voted votes.ReadOnly h = entered votes.ReadOnly h
-      voted votes.Volatile h = entered votes.Volatile h
-      voted votes.Recoverable h = k.prepares (store_of (enter_vote tid server votes.Recoverable work)) tid server (served_count tid server (enter_vote tid server votes.Recoverable work)) (entered votes.Recoverable h)
+    store_table : TableOver event (IsNamed event came) (λ stage w. P (store_of w))
+    store_table d.Ticks when w m named h = k.ticks (store_of w) h
+    store_table (d.Meets tid) when w m named h = k.meets (store_of w) tid h
+    store_table (d.Engages tid peer number) when w m named h = parts tid (participant.requested peer number) (λ p. refl) (store_of w) h
+    store_table (d.Logs tid rec) when w m named h = k.logs (store_of w) rec (no_vote tid rec w m) h
+    store_table (d.Ends tid server) when w m named h = parts tid (outcome_rules.settled server) (λ p. refl) _ (k.notices (store_of w) server tid notices.Ending h)
+    store_table (d.Learns tid outcome server) when w m named h = parts tid (outcome_rules.settled server) (λ p. refl) _ (k.notices (store_of w) server tid (notice_of outcome) h)
+    store_table (d.Begins line) when w m named h = k.begins (store_of w) line.client h
+    store_table (d.Asks line tid) when w m named h = k.asks (store_of w) tid (owned line tid w m named) h
+    store_table (d.IssuesHere by tid request op) when w m named h = parts tid (participant.issued request) (λ p. refl) (store_of w) h
+    store_table (d.IssuesAway by tid request op) when w m named h = parts tid (participant.sent request.member.node) (λ p. refl) _ (parts tid (participant.issued request) (λ p. refl) (store_of w) h)
+    store_table (d.Serves server delivery reply) when w (m, own) named h = served server delivery reply w m.says h
+    store_table (d.ServesAway server delivery reply) when w (m, far) named h = served server delivery reply w m.says h
+    store_table (d.NotesReply tid member number request) when w m named h = parts tid (participant.note_served request.count) (λ p. refl) _ (parts tid (participant.drop_waiting member number) (λ p. refl) (store_of w) h)
+    store_table (d.GivesReply tid member number request command reply) when w m named h = parts tid (participant.drop_waiting member number) (λ p. refl) (store_of w) h
+    store_table (d.LosesReply tid member number request) when w m named h = parts tid (participant.drop_waiting member number) (λ p. refl) (store_of w) h
+    store_table (d.BecomesAsked peer tid) when w (is, m) named h = k.asks (store_of w) tid (told peer tid is) h
+    store_table (d.Counts peer tid up_to names) when w m named h = parts tid (participant.counted tid.home peer up_to names) (λ p. refl) (store_of w) h
+    store_table (d.Blocks tid cause) when w m named h = parts tid (participant.add_cause cause) (λ p. refl) _ (parts tid participant.refused (λ p. refl) (store_of w) h)
+    store_table (d.Votes tid server ballot) when w m named h = voted tid server ballot w h
+    store_table (d.Prepares tid server) when w m named h = k.prepares (store_of (enter_vote tid server votes.Recoverable w)) tid server (served_count tid server (enter_vote tid server votes.Recoverable w)) (voted tid server votes.Recoverable w h)
+    store_table (d.SaysYes tid part superior) when w m named h = parts tid participant.released (λ p. refl) (store_of w) h
+    store_table (d.TakesCauses tid) when w m named h = parts tid participant.take_causes (λ p. refl) (store_of w) h
+    store_table (d.Forgets tid part) when w m named h = k.forgets (store_of w) tid h
+    store_table (d.Decides tid outcome cause) when w m named h = parts tid (outcome_rules.decided outcome) (λ p. refl) (store_of w) h
+    store_table (d.TakesOutcome tid outcome) when w m named h = parts tid (outcome_rules.took_outcome outcome) (λ p. refl) (store_of w) h
+    store_table (d.KeepsAbort tid) when w m named h = k.aborts (store_of w) tid h
+    store_table (d.KeepsTold tid peer) when w m named h = parts tid (outcome_rules.add_tell peer) (λ p. refl) _ (k.aborts (store_of w) tid h)
+    store_table (d.TakesNames tid further) when w m named h = parts tid (outcome_rules.take_names tid.home further) (λ p. refl) (store_of w) h
+    store_table (d.Acknowledges tid peer) when w m named h = parts tid (outcome_rules.acknowledged peer) (λ p. refl) (store_of w) h
+    store_table (d.EndsCommit tid peer) when w m named h = k.forgets _ tid (k.logs _ (records.End tid) tt (parts tid (outcome_rules.acknowledged peer) (λ p. refl) (store_of w) h))
+    store_table (d.AddsTold tid peer) when w m named h = parts tid (participant.add_told peer) (λ p. refl) (store_of w) h
+    store_table (d.AddsTell tid peer) when w m named h = parts tid (outcome_rules.add_tell peer) (λ p. refl) (store_of w) h
+    store_table (d.Notices tid peer) when w m named h = parts tid (participant.restarted peer) (λ p. refl) (store_of w) h
+    store_table deed when w m named h = h
 
-  pass_keeps : (tid : Tid) (work : Work) → Keeps work (vote_pass tid work)
-  pass_keeps tid work h = rules.fold_keeps A P k (vote_next tid) (vote_next_keeps tid) (due_votes tid work) (end_members tid work) (rules.ended_keeps A P k tid work h)
+    abbrev I : Stage → Work → Type 0
+    I stage w = IsNamed event came stage w × P (store_of w)
 
-  passes_keep : (work : Work) (tid : Tid) → Keeps work (try tid pass_rule work)
-  passes_keep work tid = rules.undecided_keeps A P k tid (pass_rule tid) work (λ part. rules.if_keeps A P k (is_pass_due tid part work) (vote_pass tid work) work work (λ is. pass_keeps tid work) (λ is h. h))
+    whole : Whole event I
+    whole = whole_of event I (over event (IsNamed event came) (λ stage w. P (store_of w)) (named_table event came) store_table)
 
-  readies_keep : (work : Work) (tid : Tid) → Keeps work (try tid ready_rule work)
-  readies_keep work tid = rules.undecided_keeps A P k tid (ready_rule tid) work (λ part. rules.if_keeps A P k (may_answer tid part work) (ready tid part work) work work
-      (λ is. rules.if_keeps A P k part.engage.home (if is_quiet (doings_of tid work) then decide_commit tid work else work) (answer_superior tid part work) work
-      (λ home. rules.if_keeps A P k (is_quiet (doings_of tid work)) (decide_commit tid work) work work (λ quiet. rules.commit_keeps A P k tid work) (λ quiet h. h))
-      (λ home. rules.elim_keeps A P k (release_of part.engage) work (λ superior. say_yes tid part superior work) work (λ h. h)
-      (λ superior to h. rules.send_keeps A P k superior.0 (messages.VotedYes tid superior.1 (listed (told_with_own (here work) part))) (with_manager (tm.released tid) work) (rules.part_keeps A P k tid participant.released work (λ p. refl) h)))) (λ is h. h))
+  -- ---- the stages of a step: none but what comes asks for commit
 
-  refuses_keep : (work : Work) (tid : Tid) → Keeps work (try tid refuse_rule work)
-  refuses_keep work tid = rules.undecided_keeps A P k tid (refuse_rule tid) work (λ part. rules.if_keeps A P k part.engage.home (refuse_home tid part work) (refuse_elsewhere tid part work) work (λ home. first part.causes)
-      (λ home h. rules.fold_keeps A P k (send_refusal tid (refusal_goes_to tid part)) (λ w cause. rules.send_keeps A P k (refusal_goes_to tid part) (messages.VotedAbort tid cause) w) part.causes (with_manager (tm.take_causes tid) work)
-      (rules.part_keeps A P k tid participant.take_causes work (λ p. refl) h)))
-    where
-      first : (cs : List Cause) → Keeps work (elim cs [ [] ↦ work | cause ∷ more ↦ decide tid outcomes.Abort (Some cause) work ])
-      first [] h = h
-      first (cause ∷ more) h = rules.decided_keeps A P k tid outcomes.Abort (Some cause) work h
-
-  forgets_keep : (work : Work) (tid : Tid) → Keeps work (try tid forget_rule work)
-  forgets_keep work tid = rules.undecided_keeps A P k tid (forget_rule tid) work (λ part. rules.if_keeps A P k (is_forgotten part) (forget tid work) work work (λ is. k.forgets (store_of work) tid) (λ is h. h))
-
-  settle_tid_keeps : (work : Work) (tid : Tid) → Keeps work (settle_tid work tid)
-  settle_tid_keeps work tid h = forgets_keep (try tid refuse_rule (try tid ready_rule (try tid pass_rule work))) tid (refuses_keep (try tid ready_rule (try tid pass_rule work)) tid (readies_keep (try tid pass_rule work) tid (passes_keep work tid h)))
-
-  pub settle_keeps : (work : Work) → Keeps work (settle work)
-  settle_keeps work = rules.fold_keeps A P k settle_tid settle_tid_keeps (due_tids work) work
-
-  -- so it is at each turn
-  pub turns_keep : (tids : List Tid) (work : Work) → P (store_of work) → AtEach (λ (work : Work) (tid : Tid). P (store_of work)) settle_tid work tids
-  turns_keep [] work h = tt
-  turns_keep (tid ∷ tids) work h = (h, turns_keep tids (settle_tid work tid) (settle_tid_keeps work tid h))
-
-  -- ---- commands that stayed open
-
-  waits_keep : (work : Work) (client : ClientNo) → Keeps work (wait_on work client)
-  waits_keep work client = rules.elim_keeps A P k (lookup (is_at (client_cmp client)) work.node.commands) work (λ command. wait_command client command work) work (λ h. h)
-      (λ command is. rules.elim_keeps A P k (label_at command.line.label work.node) work (λ begun. waits_at client command begun work) work (λ h. h)
-      (λ begun of. rules.if_keeps A P k (is_owner client begun.owner) (owner_waits client begun.tid command.line.command work) (borrower_waits client command.issued begun.tid command.line.command work) work
-      (λ own. owners command.line.command begun.tid) (λ own. borrowers command.line.command command.issued begun.tid)))
-    where
-      owners : (c : Command) (o : Option Tid) → Keeps work (owner_waits client o c work)
-      owners c None = λ h. h
-      owners c (Some tid) = rules.elim_keeps A P k (kept_outcome tid work.node) work (λ decided. answer client (decided_answer decided c) work) work (λ h. h) (λ decided is. rules.answer_keeps A P k client (decided_answer decided c) work)
-
-      borrowers : (c : Command) (i : Option Issued) (o : Option Tid) → Keeps work (borrower_waits client i o c work)
-      borrowers c (Some issued) o = rules.if_keeps A P k (is_aborted issued.tid work.node) (answer client answers.Ended work) work work (λ is. rules.answer_keeps A P k client answers.Ended work) (λ is h. h)
-      borrowers c None None = λ h. h
-      borrowers c None (Some tid) = commanded.borrower_keeps A P k client tid c work
-
-  pub answers_keep : (work : Work) → Keeps work (answer_waiting work)
-  answers_keep work = rules.fold_keeps A P k wait_on waits_keep (waiting_clients work) work
-
-  -- ---- what comes
-
-  age_keeps : (age : Option ℕ) (work : Work) → Keeps work (age_rule age work)
-  age_keeps None work = λ h. h
-  age_keeps (Some age) work = rules.fold_keeps A P k (abort_old age) (λ w tid. rules.decided_keeps A P k tid outcomes.Abort (Some (causes.Old age)) w) (tm.aged age work.node.manager) work
-
-  request_keeps : (peer : NodeNo) (tid : Tid) (label : List ℕ) (member : Member) (number : ℕ) (op : Op) (work : Work) → Keeps work (request_came peer tid label member number op work)
-  request_keeps peer tid label member number op work h = by (is_dropped (same_node tid.home (here work)) (part_of tid work))
-    where
-      delivery : Delivery
-      delivery = record { tid = tid; from = peer; number = number; op = op; stale = false }
-
-      engaged : Work
-      engaged = engage tid peer number (learn_label label tid work)
-
-      kept : P (store_of engaged)
-      kept = rules.engage_keeps A P k peer tid number (learn_label label tid work)
-          (rules.if_keeps A P k (is_none (label_at label work.node)) (put_label (record { label = label; tid = Some tid; owner = None }) work) work work (λ new h. h) (λ known h. h) h)
-
-      by : (b : Bool) → P (store_of (take_in b member delivery engaged))
-      by true = kept
-      by false = rules.enqueue_keeps A P k member.server delivery engaged kept
-
-  message_keeps : (peer : NodeNo) (message : Message) (work : Work) → MayAsk A (events.Received peer message) work → Keeps work (message_came peer message work)
-  message_keeps peer messages.Hello work may h = h
-  message_keeps peer (messages.Request tid label member number issuer op) work may h = request_keeps peer tid label member number op work h
-  message_keeps peer (messages.Answered tid member number reply) work may h = rules.reply_keeps A P k tid member number reply work h
-  message_keeps peer (messages.AskVote tid) work may h = rules.ask_came_keeps A P k peer tid work may h
-  message_keeps peer (messages.Covered tid up_to) work may h = rules.closer_keeps A P k peer tid up_to [] work h
-  message_keeps peer (messages.VotedYes tid up_to names) work may h = rules.closer_keeps A P k peer tid up_to names work h
-  message_keeps peer (messages.VotedAbort tid cause) work may h = rules.refusal_keeps A P k tid cause work h
-  message_keeps peer (messages.Tell tid outcome) work may h = told.tell_keeps A P k peer tid outcome work h
-  message_keeps peer (messages.Told tid further) work may h = told.told_keeps A P k peer tid further work h
-  message_keeps peer (messages.Inquire tid) work may h = told.inquiry_keeps A P k peer tid work h
+  pub begin_incarnation_keeps : (work : Work) → Keeps work (begin_incarnation work)
+  begin_incarnation_keeps work h = (firsts.begin_incarnation_keeps events.ServeAll (I events.ServeAll work tt) (whole events.ServeAll work tt) work (λ line is commit. refl, h)).1
 
   pub happens_keep : (event : Event) (work : Work) → MayAsk A event work → Keeps work (happen event work)
-  happens_keep (events.Command client line label command) work may h = commanded.command_keeps A P k (record { client = client; line = line; label = label; command = command }) work may h
-  happens_keep (events.Received peer message) work may h = message_keeps peer message work may h
-  happens_keep events.ServeAll work may h = rules.serve_all_keeps A P k work h
-  happens_keep (events.PeerRestarted peer old new) work may h = told.peer_restarted_keeps A P k peer old new work h
-  happens_keep events.Tick work may h = age_keeps work.node.setting.age (tick_work work) (k.ticks (store_of work) h)
+  happens_keep event work may h = (stages.happens_keep event (I event work may) (whole event work may) event work refl (λ line is commit. refl, h)).1
+
+  pub settle_keeps : (work : Work) → Keeps work (settle work)
+  settle_keeps work h = (stages.settle_keeps events.ServeAll (I events.ServeAll work tt) (whole events.ServeAll work tt) work (λ line is commit. refl, h)).1
+
+  pub turns_keep : (tids : List Tid) (work : Work) → P (store_of work) → AtEach (λ (work : Work) (tid : Tid). P (store_of work)) settle_tid work tids
+  turns_keep [] work h = tt
+  turns_keep (tid ∷ tids) work h = (h, turns_keep tids (settle_tid work tid) (stages.settle_tid_keeps events.ServeAll (I events.ServeAll work tt) (whole events.ServeAll work tt) tid work (λ line is commit. refl, h)).1)
+
+  pub answers_keep : (work : Work) → Keeps work (answer_waiting work)
+  answers_keep work h = (stages.answers_keep events.ServeAll (I events.ServeAll work tt) (whole events.ServeAll work tt) work (λ line is commit. refl, h)).1

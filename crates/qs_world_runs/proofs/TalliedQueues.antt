@@ -14,7 +14,7 @@ use Rattle.qs_world_lawful.proofs.Faces.{part_apart}
 use Rattle.qs_world_lawful.proofs.FactsQuiet.{served_quiet}
 use Rattle.qs_world_lawful.proofs.Marks.{changed_rises}
 use Rattle.qs_world_runs.specs.Counted.{served_in}
-use Rattle.qs_world_runs.proofs.StoreRules.{served_unasked}
+use Rattle.qs_world_runs.proofs.StoreStages.{served_unasked}
 use Rattle.qs_world_runs.proofs.TalliedParts.{less_tallied, member_apart, member_set}
 
 -- ---- numbers that were given

@@ -1,7 +1,8 @@
 -- Each stage of a step to which nothing comes from another node leaves what was served and what waits within the numbers that were given.
 use Rattle.qs_world_runs.proofs.Words.{◌≡◌, ℕ, ◌&&◌, not, Bool, true, false, List, [], ◌∷◌, fold, Option, Some, None, refl, subst, is_at, lookup, if◌then◌else◌, ClientNo, NodeNo, ServerNo, Tid, release_of, listed, Command, after_vote, changes_in, vote_of, Cause, Note, Vote, server_at, kept_outcome, is_aborted, answer, member_here, send, decided_answer, end_members, give_notices, begin_incarnation, known_tids, resume_home, resume_part, resume_tid, label_at, answer_superior, due_tids}
 use Rattle.qs_world_runs.proofs.Words.{forget_rule, is_busy, is_pass_due, is_put_off, is_quiet, may_answer, pass_rule, ready, ready_rule, refusal_goes_to, refuse_elsewhere, refuse_home, refuse_rule, say_yes, send_refusal, settle, settle_tid, try, Work, change_server, client_cmp, doings_of, here, with_doings, with_manager, with_node, work_on, abort_old, age_rule, answer_waiting, borrower_waits, happen, is_owner, owner_waits, step_work, wait_command, wait_on, waiting_clients, waits_at, forget}
-use Rattle.qs_world_runs.proofs.Words.{record_learnt, change_count, due_votes, enter_vote, issue_note, log_vote, owes_note, served_count, vote_frame, vote_next, vote_pass, vote_with, Event, Issued, told_with_own, is_forgotten, is_undecided, needs_pass, Participant, tick_work, HasNodeFacts, AreTallied, IsTallied, NoneBesides, tally_of, waits_in, and_parts}
+use Rattle.qs_world_runs.proofs.Words.{record_learnt, change_count, due_votes, enter_vote, issue_note, log_vote, owes_note, served_count, vote_frame, vote_next, vote_pass, vote_with, Event, Issued, told_with_own, is_forgotten, is_undecided, needs_pass, Participant, HasNodeFacts, AreTallied, IsTallied, NoneBesides, tally_of, waits_in, and_parts}
+use Rattle.qs_world_lawful.specs.GivenStep.{tick_work}
 use Rattle.qs_base.specs.declared.identifiers.Outcome.{Outcome}
 use Rattle.qs_base.specs.declared.identifiers.Outcome.TheVariants as outcomes
 use Rattle.qs_ipc.specs.Ipc as ipc
@@ -19,7 +20,7 @@ use Rattle.qs_tm.specs.Manager as tm
 use Rattle.qs_tm.specs.Members as members
 use Rattle.qs_tm.specs.Participant as participant
 use Rattle.qs_world_refine.proofs.Others.{forget_queues_leave}
-use Rattle.qs_world_lawful.proofs.FactsTold as facts_told
+use Rattle.qs_world_lawful.proofs.FactsStages as facts_stages
 use Rattle.qs_world_runs.proofs.TalliedCommands.{borrower_keeps, command_keeps}
 use Rattle.qs_world_runs.proofs.TalliedParts.{forget_tallied, tick_tallied}
 use Rattle.qs_world_runs.proofs.TalliedRules as rules
@@ -168,4 +169,4 @@ happens_keep _ work ticks facts = λ h. age_keeps work.node.setting.age (tick_wo
 pub step_tallied : (node : NodeValue) (event : Event) (free : ℕ) → IsOwnEvent event → HasNodeFacts node → AreTallied N (tally_of node) → AreTallied N (tally_of (step_work node event free).node)
 step_tallied node event free own facts h =
     let first : Work = begin_incarnation (work_on node free) in
-    answers_keep (settle (happen event first)) (settle_keeps (happen event first) (happens_keep event first own (facts_told.begin_incarnation_keeps (work_on node free) facts) (begin_incarnation_keeps (work_on node free) h)))
+    answers_keep (settle (happen event first)) (settle_keeps (happen event first) (happens_keep event first own (facts_stages.begin_incarnation_keeps (work_on node free) facts) (begin_incarnation_keeps (work_on node free) h)))

@@ -1,184 +1,174 @@
--- What all things that a rule does keep, a whole step keeps: votes and settling, what comes, and commands that stayed open.
-use Rattle.qs_world_runs.proofs.Words.{◌≡◌, ℕ, Bool, true, false, List, [], ◌∷◌, Option, Some, None, refl, subst, fold, insert_entry, is_at, lookup, if◌then◌else◌, is_none, tied_itself, nat_cmp_total, ClientNo, Member, NodeNo, ServerNo, Tid, release_of, listed, same_node, Act, Command, ScriptLine, vote_of, Cause, Op, Note, Vote, Message, server_at, kept_outcome, is_aborted, answer, member_here, decided_answer, end_members, begin_incarnation, engage, is_dropped, label_at, learn_label}
-use Rattle.qs_world_runs.proofs.Words.{put_label, request_came, take_in, answer_superior, due_tids, forget_rule, is_pass_due, is_put_off, is_quiet, may_answer, pass_rule, ready, ready_rule, refusal_goes_to, refuse_elsewhere, refuse_home, refuse_rule, say_yes, send_refusal, settle, settle_tid, try, Work, client_cmp, doings_of, here, with_manager, with_queues, work_on, abort_old, age_rule, borrower_waits, command_came, happen, is_owner, message_came, owner_waits, step_work, wait_command}
-use Rattle.qs_world_runs.proofs.Words.{wait_on, waiting_clients, waits_at, with_command, forget, change_count, due_votes, enter_vote, issue_note, log_vote, owes_note, served_count, vote_frame, vote_next, vote_pass, vote_with, Event, Issued, told_with_own, is_forgotten, AtEach, done_work, first_work, Deeds, IsKeptSo, IsStill, deeds_of, IsKeptAt, IsKeptFirst, TakesInAt, IsKept, IsOrdinary, Trace, fresh_command, trace_of}
-use Rattle.qs_base.specs.declared.identifiers.Outcome.TheVariants as outcomes
-use Rattle.qs_ipc.specs.Ipc as ipc
+-- What all things that a rule does to what a step has in hand, entered, sent and answered, with what it noted, a whole step keeps: the table of its deeds. Before what
+-- comes has come one fact holds, and after it another.
+use Rattle.qs_world_runs.proofs.Words.{Act, Bool, Cause, ClientNo, Deeds, Delivery, Event, IsKept, IsKeptAt, IsKeptFirst, IsKeptSo, IsOrdinary, IsStill, List, Message, NodeNo, None, Op, Option, Outstanding, Reply, ServerNo, Some, TakesInAt, Tid, Trace, Work, [], answer_of, client_of, deeds_of, doings_of, done_work, due_tids, enter_issue, enter_vote, false, here, if◌then◌else◌, is_other, is_quiet, is_void}
+use Rattle.qs_world_runs.proofs.Words.{label_of, lent_to, listed, member_here, pass_rule, refl, same_node, served_count, settle_tid, step_work, subst, told_with_own, trace_of, true, try, with_local, with_manager, work_on, ℕ, ◌++◌, ◌∷◌, ◌≡◌}
+use Rattle.qs_base.specs.declared.identifiers.Outcome.{Outcome}
 use Rattle.qs_ipc.specs.Queue.{is_for}
-use Rattle.qs_book_journal.specs.declared.entry.Act.TheVariants as acts
-use Rattle.qs_book_laws.proofs.Maps.{lookup_put}
-use Rattle.qs_ops.specs.declared.answer.Answer.TheVariants as answers
-use Rattle.qs_ops.specs.declared.answer.Cause.TheVariants as causes
-use Rattle.qs_ops.specs.declared.vote.Vote.TheVariants as votes
-use Rattle.qs_packet.specs.declared.message.Message.TheVariants as messages
-use Rattle.qs_node_servers.specs.Servers.{audit_no}
-use Rattle.qs_node_step.specs.Deciding.{decide, decide_commit}
-use Rattle.qs_node_step.specs.State.{NodeValue, part_of}
-use Rattle.qs_node_step.specs.Voting.{note_text}
-use Rattle.qs_node_step.specs.declared.event.Event.TheVariants as events
-use Rattle.qs_tm.specs.Manager as tm
-use Rattle.qs_tm.specs.Members as members
-use Rattle.qs_world_runs.specs.Deeds.{TakesInSo}
-use Rattle.qs_world_runs.specs.DeedsReplied.{IsNotice}
-use Rattle.qs_world_runs.specs.Traces.{TakesIn}
-use Rattle.qs_world_runs.proofs.PassDoings.{due_off, ended_off, vote_off}
-use Rattle.qs_world_runs.proofs.TraceCommands as commanded
-use Rattle.qs_world_runs.proofs.TraceFirst as firsts
+use Rattle.qs_node_step.specs.State.{NodeValue}
+use Rattle.qs_world_walk.proofs.Wholes.{whole_of}
+use Rattle.qs_world_walk.specs.Deed.{Issuer, answer_by, goes_away, issued_by, waiting, waits_here}
+use Rattle.qs_world_walk.specs.May.{IsLet, MayDecide, MaySend}
+use Rattle.qs_world_walk.specs.Stage.{Early, Later, Stage}
+use Rattle.qs_world_walk.specs.Walked.{Table}
+use Rattle.qs_world_walk.specs.Whole.{Whole}
+use Rattle.qs_world_walk.specs.Walked.{AtEach}
 use Rattle.qs_world_runs.proofs.TraceKept.{kept_at, kept_first, taken_at}
-use Rattle.qs_world_runs.proofs.TraceRules as rules
-use Rattle.qs_world_runs.proofs.TraceTold as told
+use Rattle.qs_world_runs.specs.Deeds.{TakesInSo, traced}
+use Rattle.qs_world_runs.specs.DeedsReplied.{IsNotice, IsPlain}
+use Rattle.qs_world_runs.specs.Traces.{TakesIn}
+use Rattle.qs_base.specs.declared.identifiers.Outcome.TheVariants as outcomes
+use Rattle.qs_ops.specs.declared.answer.Answer.TheVariants as answers
+use Rattle.qs_ops.specs.declared.vote.Vote.TheVariants as votes
+use Rattle.qs_book_journal.specs.declared.entry.Act.TheVariants as acts
+use Rattle.qs_ipc.specs.Ipc as ipc
+use Rattle.qs_tm.specs.Manager as tm
+use Rattle.qs_packet.specs.declared.message.Message.TheVariants as messages
+use Rattle.qs_node_step.specs.declared.event.Event.TheVariants as events
+use Rattle.qs_world_walk.proofs.Stages as stages
+use Rattle.qs_world_walk.specs.Deed as d
+use Rattle.qs_world_runs.specs.Traces as traces
 
-module _ (P : Deeds → Type 0) (k : IsKeptAt P) where
-  abbrev Keeps : Work → Work → Type 0
-  Keeps work new = firsts.Keeps P work new
+plain : (event : Event) (to : NodeNo) (message : Message) (w : Work) → MaySend event to message w → IsPlain message
+plain event to (messages.Request tid label member number issuer op) w m = m
+plain event to (messages.Answered tid member number reply) w m = m
+plain event to message w m = tt
 
-  -- ---- the vote pass, and settling
+let_is_none : (event : Event) → IsLet event → IsNotice event → ⊥
+let_is_none (events.PeerRestarted peer old new) lets notice = lets
+let_is_none event lets notice = notice
 
-  vote_next_keeps : (tid : Tid) (work : Work) (server : ServerNo) → is_put_off (doings_of tid work) ≡ false → Keeps work (vote_next tid work server)
-  vote_next_keeps tid work server off = firsts.if_keeps P (owes_note tid server work) (issue_note tid work.node.setting.audit work) (vote_with tid server ballot work) work (λ is. note work.node.setting.audit) (λ is. voted ballot)
-    where
-      ballot : Vote
-      ballot = vote_of (server_at work.node.servers server) tid work.room (vote_frame work)
-
-      note : (o : Option NodeNo) → Keeps work (issue_note tid o work)
-      note None h = h
-      note (Some node) h = rules.issue_keeps P k tid members.files_no (record { node = node; server = audit_no }) (Note (note_text tid (here work) (change_count tid work.node))) (change_count tid work.node) work h
-
-      voted : (b : Vote) → Keeps work (log_vote b tid server (enter_vote tid server b work))
-      voted (votes.Abort reason) h = k.votes (deeds_of work) tid (member_here work server) (votes.Abort reason) (served_count tid server work) off h
-      voted votes.ReadOnly h = k.votes (deeds_of work) tid (member_here work server) votes.ReadOnly (served_count tid server work) off h
-      voted votes.Volatile h = k.votes (deeds_of work) tid (member_here work server) votes.Volatile (served_count tid server work) off h
-      voted votes.Recoverable h = k.prepares (deeds_of (enter_vote tid server votes.Recoverable work)) tid (k.votes (deeds_of work) tid (member_here work server) votes.Recoverable (served_count tid server work) off h)
-
-  votes_keep : (tid : Tid) (servers : List ServerNo) (work : Work) → is_put_off (doings_of tid work) ≡ false → Keeps work (fold (vote_next tid) work servers)
-  votes_keep tid [] work off h = h
-  votes_keep tid (server ∷ servers) work off h = votes_keep tid servers (vote_next tid work server) (vote_off tid work server off) (vote_next_keeps tid work server off h)
-
-  pass_keeps : (tid : Tid) (work : Work) → is_put_off (doings_of tid work) ≡ false → Keeps work (vote_pass tid work)
-  pass_keeps tid work off h = votes_keep tid (due_votes tid work) (end_members tid work) (ended_off tid work off) (firsts.ended_keeps P k.first tid work h)
-
-  passes_keep : (work : Work) (tid : Tid) → Keeps work (try tid pass_rule work)
-  passes_keep work tid = firsts.undecided_keeps P tid (pass_rule tid) work (λ part. firsts.if_keeps P (is_pass_due tid part work) (vote_pass tid work) work work (λ is. pass_keeps tid work (due_off tid part work is)) (λ is h. h))
-
-  readies_keep : (work : Work) (tid : Tid) → Keeps work (try tid ready_rule work)
-  readies_keep work tid = firsts.undecided_keeps P tid (ready_rule tid) work (λ part. firsts.if_keeps P (may_answer tid part work) (ready tid part work) work work
-      (λ is. firsts.if_keeps P part.engage.home (if is_quiet (doings_of tid work) then decide_commit tid work else work) (answer_superior tid part work) work
-      (λ home. firsts.if_keeps P (is_quiet (doings_of tid work)) (decide_commit tid work) work work (λ quiet. rules.commit_keeps P k tid work quiet) (λ quiet h. h))
-      (λ home. firsts.elim_keeps P (release_of part.engage) work (λ superior. say_yes tid part superior work) work (λ h. h)
-      (λ superior to. firsts.send_keeps P k.first superior.0 (messages.VotedYes tid superior.1 (listed (told_with_own (here work) part))) (with_manager (tm.released tid) work) tt))) (λ is h. h))
-
-  refuses_keep : (work : Work) (tid : Tid) → Keeps work (try tid refuse_rule work)
-  refuses_keep work tid = firsts.undecided_keeps P tid (refuse_rule tid) work (λ part. firsts.if_keeps P part.engage.home (refuse_home tid part work) (refuse_elsewhere tid part work) work (λ home. first part.causes)
-      (λ home. firsts.fold_keeps P (send_refusal tid (refusal_goes_to tid part)) (λ w cause. firsts.send_keeps P k.first (refusal_goes_to tid part) (messages.VotedAbort tid cause) w tt) part.causes (with_manager (tm.take_causes tid) work)))
-    where
-      first : (cs : List Cause) → Keeps work (elim cs [ [] ↦ work | cause ∷ more ↦ decide tid outcomes.Abort (Some cause) work ])
-      first [] h = h
-      first (cause ∷ more) h = rules.aborted_keeps P k tid (Some cause) work h
-
-  forgets_keep : (work : Work) (tid : Tid) → Keeps work (try tid forget_rule work)
-  forgets_keep work tid = firsts.undecided_keeps P tid (forget_rule tid) work (λ part. firsts.if_keeps P (is_forgotten part) (forget tid work) work work (λ is. k.forgets (deeds_of work) tid) (λ is h. h))
-
-  settle_tid_keeps : (work : Work) (tid : Tid) → Keeps work (settle_tid work tid)
-  settle_tid_keeps work tid h = forgets_keep (try tid refuse_rule (try tid ready_rule (try tid pass_rule work))) tid (refuses_keep (try tid ready_rule (try tid pass_rule work)) tid (readies_keep (try tid pass_rule work) tid (passes_keep work tid h)))
-
-  settle_keeps : (work : Work) → Keeps work (settle work)
-  settle_keeps work = firsts.fold_keeps P settle_tid settle_tid_keeps (due_tids work) work
-
-  -- at each turn of a transaction, once its own votes are cast
-  turns_keep : (tids : List Tid) (work : Work) → P (deeds_of work) → AtEach (λ (w : Work) (tid : Tid). P (deeds_of (try tid pass_rule w))) settle_tid work tids
-  turns_keep [] work h = tt
-  turns_keep (tid ∷ tids) work h = (passes_keep work tid h, turns_keep tids (settle_tid work tid) (settle_tid_keeps work tid h))
-
-  -- ---- commands that stayed open
-
-  waits_keep : (work : Work) (client : ClientNo) → Keeps work (wait_on work client)
-  waits_keep work client = firsts.elim_keeps P (lookup (is_at (client_cmp client)) work.node.commands) work (λ command. wait_command client command work) work (λ h. h)
-      (λ command is. firsts.elim_keeps P (label_at command.line.label work.node) work (λ begun. waits_at client command begun work) work (λ h. h)
-      (λ begun of. firsts.if_keeps P (is_owner client begun.owner) (owner_waits client begun.tid command.line.command work) (borrower_waits client command.issued begun.tid command.line.command work) work
-      (λ own. owners command.line.command begun.tid) (λ own. borrowers command.line.command command.issued begun.tid)))
-    where
-      owners : (c : Command) (o : Option Tid) → Keeps work (owner_waits client o c work)
-      owners c None = λ h. h
-      owners c (Some tid) = firsts.elim_keeps P (kept_outcome tid work.node) work (λ decided. answer client (decided_answer decided c) work) work (λ h. h) (λ decided is. rules.answer_keeps P k client (decided_answer decided c) work)
-
-      borrowers : (c : Command) (i : Option Issued) (o : Option Tid) → Keeps work (borrower_waits client i o c work)
-      borrowers c (Some issued) o = firsts.if_keeps P (is_aborted issued.tid work.node) (answer client answers.Ended work) work work (λ is. rules.answer_keeps P k client answers.Ended work) (λ is h. h)
-      borrowers c None None = λ h. h
-      borrowers c None (Some tid) = commanded.borrower_keeps P k client tid c work
-
-  -- ---- time
-
-  age_keeps : (age : Option ℕ) (work : Work) → Keeps work (age_rule age work)
-  age_keeps None work = λ h. h
-  age_keeps (Some age) work = firsts.fold_keeps P (abort_old age) (λ w tid. rules.aborted_keeps P k tid (Some (causes.Old age)) w) (tm.aged age work.node.manager) work
-
-  tick_keeps : (work : Work) → Keeps work (happen events.Tick work)
-  tick_keeps work h = age_keeps work.node.setting.age _ (k.first.enters (deeds_of work) acts.Tick tt h)
+quiet : (event : Event) (tid : Tid) (outcome : Outcome) (cause : Option Cause) (w : Work) → MayDecide event tid outcome cause w → outcome ≡ outcomes.Commit → is_quiet (doings_of tid w) ≡ true
+quiet event tid outcomes.Commit cause w m is = m.1.1.1.quiet
+quiet event tid outcomes.Abort cause w m is = absurd (cc is)
 
 module _ (P Q : Deeds → Type 0) (p : IsKeptFirst P) (q : IsKeptAt Q) where
-  -- ---- what comes
+  abbrev R : Bool → Deeds → Type 0
+  R true t = Q t
+  R false t = P t
+
+  abbrev I : Stage → Work → Type 0
+  I stage w = R stage.come (deeds_of w)
+
+  kept_first_of : (c : Bool) → IsKeptFirst (R c)
+  kept_first_of true = q.first
+  kept_first_of false = p
+
+  sends : (c : Bool) (to : NodeNo) (message : Message) (w : Work) → IsPlain message → R c (deeds_of w) → R c (deeds_of (d.sent to message w))
+  sends c to message w is h = by (is_other w.node.setting to)
+    where
+      by : (b : Bool) → R c (deeds_of (record w { out = record w.out { messages = if b then w.out.messages ++ record { to = to; message = message } ∷ [] else w.out.messages } }))
+      by true = (kept_first_of c).sends (deeds_of w) to message is h
+      by false = h
+
+  issued : (by : Issuer) (tid : Tid) (request : Outstanding) (w : Work) → Q (deeds_of w) → Q (deeds_of (issued_by by tid request w))
+  issued (d.Client client command) tid request w h = q.marks (deeds_of w) client (record { tid = tid; member = request.member; number = request.number }) h
+  issued (d.Files server) tid request w h = h
+
+  -- what waits at a server of this node
+  queues : (server : ServerNo) (delivery : Delivery) (w : Work) → Q (traced (λ t. traces.with_queues (ipc.enqueue server delivery t.queues) t) (deeds_of w)) → Q (deeds_of w) → Q (deeds_of (waiting server delivery w))
+  queues server delivery w waits lets = by (is_for server delivery.op)
+    where
+      by : (b : Bool) → Q (traced (λ t. traces.with_queues (if b then ipc.enqueue server delivery t.queues else t.queues) t) (deeds_of w))
+      by true = waits
+      by false = lets
+
+  waits : (tid : Tid) (request : Outstanding) (op : Op) (w : Work) → Q (deeds_of w) → Q (deeds_of (waits_here tid request op w))
+  waits tid request op w h = queues request.member.server delivery made (q.queues (deeds_of made) request.member.server delivery refl issues) issues
+    where
+      delivery : Delivery
+      delivery = record { tid = tid; from = here w; number = request.number; op = op; stale = false }
+
+      made : Work
+      made = with_local tid request.number (enter_issue tid request op w)
+
+      issues : Q (deeds_of made)
+      issues = q.issues (deeds_of w) tid request.issuer request.member request.number op h
+
+  goes : (tid : Tid) (request : Outstanding) (op : Op) (w : Work) → same_node request.member.node (here w) ≡ false → Q (deeds_of w) → Q (deeds_of (goes_away tid request op w))
+  goes tid request op w away h = by (is_other w.node.setting request.member.node)
+    where
+      made : Work
+      made = with_manager (tm.sent tid request.member.node) (enter_issue tid request op w)
+
+      message : Message
+      message = messages.Request tid (label_of tid w.node) request.member request.number request.issuer op
+
+      by : (b : Bool) → Q (deeds_of (record made { out = record made.out { messages = if b then made.out.messages ++ record { to = request.member.node; message = message } ∷ [] else made.out.messages } }))
+      by true = q.asks (deeds_of w) tid (label_of tid w.node) request.issuer request.member request.number op away h
+      by false = q.issues (deeds_of w) tid request.issuer request.member request.number op h
+
+  -- the first that waits at a server is served, and its reply goes where it came from
+  abbrev made : ServerNo → Delivery → Reply → Work → Option ClientNo → Deeds
+  made server delivery reply w o = let s : Deeds = deeds_of (d.served server delivery reply w) in
+      traced (λ t. record t { entries = d.loan_entered delivery.tid o (w.out.entries ++ acts.Serve delivery.tid (member_here w server) delivery.from delivery.number reply ∷ []) }) s
+
+  serves : (server : ServerNo) (delivery : Delivery) (reply : Reply) (w : Work) → ipc.next server w.node.queues ≡ Some delivery → (o : Option ClientNo) → Q (deeds_of w) → Q (made server delivery reply w o)
+  serves server delivery reply w next None = q.serves (deeds_of w) server delivery reply None next
+  serves server delivery reply w next (Some client) = q.serves (deeds_of w) server delivery reply (Some client) next
+
+  replies : (server : ServerNo) (delivery : Delivery) (reply : Reply) (w : Work) → ipc.next server w.node.queues ≡ Some delivery → same_node delivery.from (here w) ≡ false → delivery.stale ≡ false → (o : Option ClientNo)
+      → Q (deeds_of w) → Q (traced (λ t. record t { messages = if is_other w.node.setting delivery.from then t.messages ++ record { to = delivery.from; message = messages.Answered delivery.tid (member_here w server) delivery.number reply } ∷ [] else t.messages }) (made server delivery reply w o))
+  replies server delivery reply w next far live o h = by (is_other w.node.setting delivery.from) o
+    where
+      by : (other : Bool) (o : Option ClientNo) → Q (traced (λ t. record t { messages = if other then t.messages ++ record { to = delivery.from; message = messages.Answered delivery.tid (member_here w server) delivery.number reply } ∷ [] else t.messages }) (made server delivery reply w o))
+      by false o = serves server delivery reply w next o h
+      by true None = q.replies (deeds_of w) server delivery reply None next far live h
+      by true (Some client) = q.replies (deeds_of w) server delivery reply (Some client) next far live h
 
   module _ (event : Event) (t : TakesInAt event P Q) where
-    let_go : {e : Event} → event ≡ e → (IsNotice e → ⊥) → (d : Deeds) → P d → Q d
-    let_go is none d h = t.lets d (λ notice. none (subst IsNotice is notice)) h
+    trace_table : Table event I
+    trace_table d.Lets when w m h = t.lets (deeds_of w) (let_is_none event m) h
+    trace_table (d.Opens line) when w m h = t.comes (deeds_of w) line m h
+    trace_table (d.Labels label tid) when w (new, (peer, (member, (number, (op, r))))) h = t.learns (deeds_of w) peer tid label member number r.issuer op r.is h
+    trace_table (d.TakesIn peer tid member number op) when w (label, r) h = queues member.server (record { tid = tid; from = peer; number = number; op = op; stale = false }) w
+        (t.takes (deeds_of w) peer tid label member number r.issuer op r.is h) (t.lets (deeds_of w) (λ notice. subst IsNotice r.is notice) h)
+    trace_table (d.Stales peer) when w (old, new, is) h = t.notices (deeds_of w) peer old new is h
+    trace_table d.Ticks when w m h = q.first.enters (deeds_of w) acts.Tick tt (t.lets (deeds_of w) (λ notice. subst IsNotice m notice) h)
+    trace_table (d.Sends to message) stage w m h = sends stage.come to message w (plain event to message w m) h
+    trace_table (d.Logs tid rec) Early w m h = h
+    trace_table (d.Logs tid rec) (Later own) w m h = h
+    trace_table (d.Ends tid server) Early w m h = p.enters (deeds_of w) (acts.Ending tid (member_here w server)) tt h
+    trace_table (d.Ends tid server) (Later own) w m h = q.first.enters (deeds_of w) (acts.Ending tid (member_here w server)) tt h
+    trace_table (d.Learns tid outcome server) Early w m h = p.enters (deeds_of w) (acts.Learn tid (member_here w server) outcome) tt h
+    trace_table (d.Learns tid outcome server) (Later own) w m h = q.first.enters (deeds_of w) (acts.Learn tid (member_here w server) outcome) tt h
+    trace_table (d.Begins line) when w (there, (came, (is, none))) h = q.begins (deeds_of w) line (tm.next_tid w.node.manager) there is h
+    trace_table (d.Refuses line need room) when w (there, m) h = q.closes _ line.client (traces.fresh_command line) (answers.LogFull need room) there (q.refuses (deeds_of w) line h)
+    trace_table (d.Answers client command why) when w (there, m) h = q.closes (deeds_of w) client command (answer_by command why) there h
+    trace_table (d.Takes client command tid loan) when w (there, m) h = q.closes (deeds_of w) client command (if is_void tid loan w.node then answers.Ended else answers.Done) there h
+    trace_table (d.Yields client command tid loan) when w (there, m) h = q.closes _ client command answers.Done there (q.yields (deeds_of w) tid client h)
+    trace_table (d.Asks line tid) when w m h = q.commit_asked (deeds_of w) tid h
+    trace_table (d.IssuesHere (d.Client client command) tid request op) when w m h = waits tid request op (issued_by (d.Client client command) tid request w) (issued (d.Client client command) tid request w h)
+    trace_table (d.IssuesHere (d.Files server) tid request op) when w m h = waits tid request op w h
+    trace_table (d.IssuesAway (d.Client client command) tid request op) when w (away, m) h = goes tid request op (issued_by (d.Client client command) tid request w) away (issued (d.Client client command) tid request w h)
+    trace_table (d.IssuesAway (d.Files server) tid request op) when w (away, m) h = goes tid request op w away h
+    trace_table (d.Serves server delivery reply) when w (may, m) h = serves server delivery reply w may.first (lent_to delivery.op) h
+    trace_table (d.ServesAway server delivery reply) when w (may, (far, live)) h = replies server delivery reply w may.first far live (lent_to delivery.op) h
+    trace_table (d.Drops server delivery) when w m h = q.leaves (deeds_of w) server h
+    trace_table (d.GivesReply tid member number request command reply) when w (waiting, (is, (there, m))) h = q.closes (deeds_of w) (client_of request.issuer) command (answer_of reply) there h
+    trace_table (d.Counts peer tid up_to told) when w m h = q.first.enters (deeds_of w) (acts.Counted tid peer up_to) tt h
+    trace_table (d.Votes tid server ballot) when w m h = q.votes (deeds_of w) tid (member_here w server) ballot (served_count tid server w) m.1.due h
+    trace_table (d.Prepares tid server) when w m h = q.prepares (deeds_of (enter_vote tid server votes.Recoverable w)) tid (q.votes (deeds_of w) tid (member_here w server) votes.Recoverable (served_count tid server w) m.due h)
+    trace_table (d.SaysYes tid part superior) when w m h = sends true superior.0 (messages.VotedYes tid superior.1 (listed (told_with_own (here w) part))) w tt h
+    trace_table (d.Forgets tid part) when w m h = q.forgets (deeds_of w) tid h
+    trace_table (d.Decides tid outcome cause) when w m h = q.decides (deeds_of w) tid outcome cause (quiet event tid outcome cause w m) h
+    trace_table (d.EndsCommit tid peer) when w m h = q.forgets (deeds_of w) tid h
+    trace_table deed when w m h = h
 
-    request_taken : (peer : NodeNo) (tid : Tid) (label : List ℕ) (member : Member) (number : ℕ) (issuer : ServerNo) (op : Op) (work : Work) → event ≡ events.Received peer (messages.Request tid label member number issuer op)
-        → P (deeds_of work) → Q (deeds_of (request_came peer tid label member number op work))
-    request_taken peer tid label member number issuer op work is h = by (is_dropped (same_node tid.home (here work)) (part_of tid work))
-      where
-        engaged : Work
-        engaged = engage tid peer number (learn_label label tid work)
+    whole : Whole event I
+    whole = whole_of event I trace_table
 
-        told : P (deeds_of (learn_label label tid work))
-        told = firsts.if_keeps P (is_none (label_at label work.node)) (put_label (record { label = label; tid = Some tid; owner = None }) work) work work (λ new. t.learns (deeds_of work) peer tid label member number issuer op is) (λ known h. h) h
-
-        kept : P (deeds_of engaged)
-        kept = firsts.engage_keeps P p peer tid number (learn_label label tid work) told
-
-        taken : (b : Bool) → Q (deeds_of (if b then with_queues (ipc.enqueue member.server (record { tid = tid; from = peer; number = number; op = op; stale = false })) engaged else engaged))
-        taken true = t.takes (deeds_of engaged) peer tid label member number issuer op is kept
-        taken false = let_go is (λ none. none) (deeds_of engaged) kept
-
-        by : (b : Bool) → Q (deeds_of (take_in b member (record { tid = tid; from = peer; number = number; op = op; stale = false }) engaged))
-        by true = let_go is (λ none. none) (deeds_of engaged) kept
-        by false = taken (is_for member.server op)
-
-    message_taken : (peer : NodeNo) (message : Message) (work : Work) → event ≡ events.Received peer message → P (deeds_of work) → Q (deeds_of (message_came peer message work))
-    message_taken peer messages.Hello work is h = let_go is (λ none. none) (deeds_of work) h
-    message_taken peer (messages.Request tid label member number issuer op) work is h = request_taken peer tid label member number issuer op work is h
-    message_taken peer (messages.Answered tid member number reply) work is h = rules.reply_keeps Q q tid member number reply work (let_go is (λ none. none) (deeds_of work) h)
-    message_taken peer (messages.AskVote tid) work is h = rules.ask_came_keeps Q q peer tid work (let_go is (λ none. none) (deeds_of work) h)
-    message_taken peer (messages.Covered tid up_to) work is h = rules.closer_keeps Q q peer tid up_to [] work (let_go is (λ none. none) (deeds_of work) h)
-    message_taken peer (messages.VotedYes tid up_to names) work is h = rules.closer_keeps Q q peer tid up_to names work (let_go is (λ none. none) (deeds_of work) h)
-    message_taken peer (messages.VotedAbort tid cause) work is h = rules.refusal_keeps Q q tid cause work (let_go is (λ none. none) (deeds_of work) h)
-    message_taken peer (messages.Tell tid outcome) work is h = told.tell_keeps Q q peer tid outcome work (let_go is (λ none. none) (deeds_of work) h)
-    message_taken peer (messages.Told tid further) work is h = told.told_keeps Q q peer tid further work (let_go is (λ none. none) (deeds_of work) h)
-    message_taken peer (messages.Inquire tid) work is h = told.inquiry_keeps Q q peer tid work (let_go is (λ none. none) (deeds_of work) h)
-
-    command_taken : (line : ScriptLine) (work : Work) → event ≡ events.Command line.client line.line line.label line.command → P (deeds_of work) → Q (deeds_of (command_came line work))
-    command_taken line work is h = commanded.obey_keeps Q q line (with_command line work) in_hand (t.comes (deeds_of work) line is h)
-      where
-        in_hand : lookup (is_at (client_cmp line.client)) (insert_entry client_cmp work.node.commands line.client (fresh_command line)) ≡ Some (fresh_command line)
-        in_hand = lookup_put client_cmp line.client (fresh_command line) (tied_itself nat_cmp_total line.client.0) work.node.commands
-
-    happens_taken : (e : Event) (work : Work) → event ≡ e → P (deeds_of work) → Q (deeds_of (happen e work))
-    happens_taken (events.Command client line label command) work is h = command_taken (record { client = client; line = line; label = label; command = command }) work is h
-    happens_taken (events.Received peer message) work is h = message_taken peer message work is h
-    happens_taken events.ServeAll work is h = rules.serve_all_keeps Q q work (let_go is (λ none. none) (deeds_of work) h)
-    happens_taken (events.PeerRestarted peer old new) work is h = told.peer_restarted_keeps Q q peer old new work (t.notices (deeds_of work) peer old new is h)
-    happens_taken events.Tick work is h = tick_keeps Q q work (let_go is (λ none. none) (deeds_of work) h)
+    turns_keep : (tids : List Tid) (work : Work) → Q (deeds_of work) → AtEach (λ (w : Work) (tid : Tid). Q (deeds_of (try tid pass_rule w))) settle_tid work tids
+    turns_keep [] work h = tt
+    turns_keep (tid ∷ tids) work h = (stages.passes_keep event I whole tid work (stages.turns event I whole tid work h), turns_keep tids (settle_tid work tid) (stages.settle_tid_keeps event I whole tid work h))
 
   -- ---- the whole step
 
   pub step_kept : (node : NodeValue) (event : Event) (free : ℕ) → TakesInAt event P Q → P (deeds_of (work_on node free)) → Q (deeds_of (step_work node event free))
-  step_kept node event free t h =
-      firsts.fold_keeps Q wait_on (waits_keep Q q) (waiting_clients (settle (happen event (begin_incarnation (work_on node free))))) (settle (happen event (begin_incarnation (work_on node free))))
-      (settle_keeps Q q (happen event (begin_incarnation (work_on node free)))
-      (happens_taken event t event (begin_incarnation (work_on node free)) refl (firsts.begin_incarnation_keeps P p (work_on node free) h)))
+  step_kept node event free t h = (stages.turns_kept event I (whole event t) node free h).all
 
   -- and up to each turn as it settles
   pub turns_kept : (node : NodeValue) (event : Event) (free : ℕ) → TakesInAt event P Q → P (deeds_of (work_on node free)) → AtEach (λ (w : Work) (tid : Tid). Q (deeds_of (try tid pass_rule w))) settle_tid (done_work node event free) (due_tids (done_work node event free))
-  turns_kept node event free t h = turns_keep Q q (due_tids (done_work node event free)) (done_work node event free) (happens_taken event t event (first_work node free) refl (firsts.begin_incarnation_keeps P p (work_on node free) h))
+  turns_kept node event free t h = turns_keep event t (due_tids (done_work node event free)) (done_work node event free) (stages.turns_kept event I (whole event t) node free h).done
 
 module _ (P Q : Deeds → Type 0) (p : IsKeptSo P) (q : IsKeptSo Q) where
   pub step_done : (node : NodeValue) (event : Event) (free : ℕ) → TakesInSo event P Q → P (deeds_of (work_on node free)) → Q (deeds_of (step_work node event free))

@@ -85,7 +85,7 @@ pub use Rattle.qs_book_laws.proofs.Steps.{after_both, held, ran, lawful_front, l
 pub use Rattle.qs_book_laws.proofs.Turns.{Obliged, Gives, GivesFor, step_turns}
 pub use Rattle.qs_book_laws.specs.Gone.{answers, counts, is_count_of}
 pub use Rattle.qs_book_laws.specs.Lives.{restarts}
-pub use Rattle.qs_engage.specs.Engage.{peer_of, last_number, release_of, uncovered, is_covered, is_node, is_open_to, no_peer, is_passive, next_sent, with_peer}
+pub use Rattle.qs_engage.specs.Engage.{peer_of, last_number, release_of, uncovered, is_covered, is_open_to, no_peer, is_passive, next_sent, with_peer}
 pub use Rattle.qs_engage.specs.Nodes.{same_node, listed}
 pub use Rattle.qs_engage.specs.declared.engage.Engage.{Engage}
 pub use Rattle.qs_engage.specs.declared.engage.Engaged.{Engaged}
@@ -106,6 +106,7 @@ pub use Rattle.qs_restart.specs.declared.recovered.Recovered.{Recovered}
 pub use Rattle.qs_ipc.specs.Ipc.{IpcValue, queue_at, server_cmp}
 pub use Rattle.qs_ipc.specs.Queue.{QueueValue, first_of}
 pub use Rattle.qs_ipc.specs.declared.delivery.Delivery.{Delivery}
+pub use Rattle.qs_world_walk.specs.Walked.{AtEach, done_work}
 pub use Rattle.qs_world_refine.proofs.CommitIdles.{commit_clear, commit_unmet, requested}
 pub use Rattle.qs_world_refine.proofs.EachCame.{case_of}
 pub use Rattle.qs_world_refine.proofs.EachEvent.{StepCame, step_came}
@@ -194,7 +195,7 @@ pub use Rattle.qs_world_lawful.proofs.Counting.{index_alike}
 pub use Rattle.qs_world_lawful.proofs.EntryTurns.{Begins, Turning, by_entry, Actor, actor}
 pub use Rattle.qs_world_lawful.proofs.Faces.{part_changed, filter_last, filter_more, left_elsewhere, left_here, part_unknown, queued_elsewhere, queued_here, same_server_or}
 pub use Rattle.qs_world_lawful.proofs.FactsKept.{each_changed}
-pub use Rattle.qs_world_lawful.proofs.FactsTold.{begin_incarnation_keeps}
+pub use Rattle.qs_world_lawful.proofs.FactsStages.{begin_incarnation_keeps}
 pub use Rattle.qs_world_lawful.proofs.FirstComes.{coming_first}
 pub use Rattle.qs_world_lawful.proofs.FoundMembers.{every_two, every_among}
 pub use Rattle.qs_world_lawful.proofs.LastsAlways.{in_runs}
@@ -211,8 +212,7 @@ pub use Rattle.qs_world_lawful.proofs.OtherWays.{HoldsOps}
 pub use Rattle.qs_world_lawful.proofs.ParcelsKept.{every_more, at_two, channels_moved}
 pub use Rattle.qs_world_lawful.proofs.Recordless.{Quiet, quiet_send}
 pub use Rattle.qs_world_lawful.proofs.RisesWhole.{rises_well}
-pub use Rattle.qs_world_lawful.proofs.SameSettingTold.{begin_same}
-pub use Rattle.qs_world_lawful.proofs.SameSettings.{step_same, happen_same}
+pub use Rattle.qs_world_lawful.proofs.SameSetting.{begin_same, happen_same, step_same}
 pub use Rattle.qs_world_lawful.proofs.Still.{still_held, held_at}
 pub use Rattle.qs_world_lawful.proofs.Truths.{of_some, clash, left_true, right_true, same_self}
 pub use Rattle.qs_world_lawful.proofs.Turning.{Turns, turned_by}
@@ -225,8 +225,7 @@ pub use Rattle.qs_world_lawful.specs.Coming.{ComesTo}
 pub use Rattle.qs_world_lawful.specs.Doubtful.{doubt_at}
 pub use Rattle.qs_world_lawful.specs.Entering.{HoldsWork, book_at, entries_so_far}
 pub use Rattle.qs_world_lawful.specs.Face.{at_server, face_of, part_or_new, is_loan_in}
-pub use Rattle.qs_world_lawful.specs.Given.{AtEach}
-pub use Rattle.qs_world_lawful.specs.GivenStep.{first_work, done_work, tick_work}
+pub use Rattle.qs_world_lawful.specs.GivenStep.{first_work}
 pub use Rattle.qs_world_lawful.specs.Holds.{HoldsAt, HoldsStill, HoldsTid, is_kept}
 pub use Rattle.qs_world_lawful.specs.Lasting.{Lasts}
 pub use Rattle.qs_world_lawful.specs.Logged.{HasCommitted, HoldsLogged, HasAborted, IsRecordSafe, IsTrueEvent, IsMarked, StandsIn, HasOutcome}
@@ -251,7 +250,7 @@ pub use Rattle.qs_world_runs.specs.CutBatches.{FitCut, is_record_of}
 pub use Rattle.qs_world_runs.specs.CutCommits.{KeptVotes}
 pub use Rattle.qs_world_runs.specs.CutRecords.{IsSource, decides_of, one_if, EntersDecide, commits_of, told_commit}
 pub use Rattle.qs_world_runs.specs.CutVotes.{EntersVote, IsVoteDue, IsOfPrepare}
-pub use Rattle.qs_world_runs.specs.Deeds.{Deeds, deeds_of, IsKeptSo, IsStill, traced}
+pub use Rattle.qs_world_runs.specs.Deeds.{Deeds, deeds_of, IsKeptSo, IsStill}
 pub use Rattle.qs_world_runs.specs.DeedsReplied.{IsKeptAt, IsKeptFirst, TakesInAt}
 pub use Rattle.qs_world_runs.specs.Firsts.{is_noted}
 pub use Rattle.qs_world_runs.specs.Joined.{Joined, book_in, HoldsRunning, ClientsAt, RunningAt, ClocksAt, HomesAt, HomesHave, IsOwnClient, LoggedAt, OwnersAt}
@@ -279,6 +278,5 @@ pub use Rattle.qs_world_runs.specs.RepliesTrue.{HasGiven, IsOfLast, RepliesAt, I
 pub use Rattle.qs_world_runs.specs.Rooms.{AreFew, HasRoom, IsOfRun}
 pub use Rattle.qs_world_runs.specs.Stays.{Stays}
 pub use Rattle.qs_world_runs.specs.StepLaws.{InStep}
-pub use Rattle.qs_world_runs.specs.Stocks.{IsKeptStock, Stock, stock_of}
-pub use Rattle.qs_world_runs.specs.Stores.{store_of, IsKeptStore, Store, MayAsk, IsNoVote, IsNoVoteIf}
-pub use Rattle.qs_world_runs.specs.Traces.{IsKept, Trace, fresh_command, trace_of, IsOrdinary, entered}
+pub use Rattle.qs_world_runs.specs.Stores.{store_of, MayAsk, IsNoVote}
+pub use Rattle.qs_world_runs.specs.Traces.{IsKept, Trace, fresh_command, trace_of, IsOrdinary}

@@ -10,11 +10,11 @@ use Rattle.qs_tm.specs.Manager as tm
 use Rattle.qs_tm.specs.declared.participant.Participant.{Participant}
 use Rattle.qs_world.specs.Moves.{Source, event_of, may_step}
 use Rattle.qs_world.specs.World.{World}
+use Rattle.qs_world_walk.specs.Walked.{AtEach, done_work}
 use Rattle.qs_world_refine.specs.ShownWorlds.{IsShownWorld}
 use Rattle.qs_world_refine.specs.Sound.{is_sound}
 use Rattle.qs_world_lawful.specs.Agreed.{AgreesEvent, AreLentUndone, IsUndone, NodeGives}
-use Rattle.qs_world_lawful.specs.Given.{AtEach}
-use Rattle.qs_world_lawful.specs.GivenStep.{done_work, first_work}
+use Rattle.qs_world_lawful.specs.GivenStep.{first_work}
 
 abbrev pub nodes_in : World → ℕ → NodeValue
 nodes_in world k = (world.hosts k).node

@@ -11,6 +11,7 @@ use Rattle.qs_world.specs.World.{Opening, World}
 use Rattle.qs_world_agree.specs.World as machine
 use Rattle.qs_world_agree.specs.Carry.{Leads}
 use Rattle.qs_world_agree.specs.Doomed.{IsDoomed}
+use Rattle.qs_world_walk.specs.Walked.{done_work}
 use Rattle.qs_world_refine.specs.Begun.{has_begun}
 use Rattle.qs_world_refine.specs.EachMove.{ShowsAll}
 use Rattle.qs_world_refine.specs.MoveLaws.{taken_scene}
@@ -18,7 +19,7 @@ use Rattle.qs_world_refine.specs.ShownWorlds.{IsShownWorld}
 use Rattle.qs_world_refine.specs.Shows.{scene_of}
 use Rattle.qs_world_refine.specs.Stands as shown
 use Rattle.qs_world_refine.proofs.EachEvent.{StepCame}
-use Rattle.qs_world_lawful.specs.GivenStep.{done_work, first_work}
+use Rattle.qs_world_lawful.specs.GivenStep.{first_work}
 use Rattle.qs_world_runs.specs.Agrees.{MakesStep}
 use Rattle.qs_world_runs.specs.Joined.{Joined, book_in}
 use Rattle.qs_world_runs.specs.JoinedPlaces.{PlacesAt}

@@ -23,13 +23,12 @@ use Rattle.qs_world.specs.Posting.{entries_of}
 use Rattle.qs_world.specs.World.{Opening, World, start}
 use Rattle.qs_world_agree.specs.World as agreement
 use Rattle.qs_world_agree.specs.World.{Open, Committed}
+use Rattle.qs_world_walk.specs.Walked.{AtEach, done_work}
 use Rattle.qs_world_refine.specs.Begun.{has_begun}
 use Rattle.qs_world_refine.specs.CutLaws.{CutsOff}
 use Rattle.qs_world_refine.specs.EachMove.{ShowsAll}
 use Rattle.qs_world_lawful.specs.Aside.{StaysUnanimous}
 use Rattle.qs_world_lawful.specs.Entering.{book_at}
-use Rattle.qs_world_lawful.specs.Given.{AtEach}
-use Rattle.qs_world_lawful.specs.GivenStep.{done_work}
 use Rattle.qs_world_runs.specs.Agrees.{MakesStep}
 use Rattle.qs_world_runs.specs.Joined.{Joined, book_in}
 

@@ -41,7 +41,7 @@ use Rattle.qs_tm.specs.declared.participant.Outstanding.{Outstanding}
 use Rattle.qs_tm.specs.declared.participant.Participant.{Participant}
 use Rattle.qs_world_agree.specs.World as machine
 use Rattle.qs_world_agree.specs.Doomed.{IsDoomed}
-use Rattle.qs_world_lawful.specs.Given.{AtEach}
+use Rattle.qs_world_walk.specs.Walked.{AtEach}
 use Rattle.qs_world_runs.specs.Placed.{Field}
 use Rattle.qs_world_runs.specs.PlacedActs.{is_against}
 use Rattle.qs_world_runs.specs.PlacesAmid.{PlacedAmid}

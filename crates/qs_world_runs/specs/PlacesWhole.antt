@@ -21,8 +21,8 @@ use Rattle.qs_world.specs.Posting.{entries_of}
 use Rattle.qs_world.specs.World.{World}
 use Rattle.qs_world_agree.specs.World as machine
 use Rattle.qs_world_agree.specs.Doomed.{IsDoomed}
-use Rattle.qs_world_lawful.specs.Given.{AtEach}
-use Rattle.qs_world_lawful.specs.GivenStep.{done_work, first_work}
+use Rattle.qs_world_walk.specs.Walked.{AtEach, done_work}
+use Rattle.qs_world_lawful.specs.GivenStep.{first_work}
 use Rattle.qs_world_runs.specs.Placed.{Field, field_of}
 use Rattle.qs_world_runs.specs.PlacedActs.{OpenPlaced}
 use Rattle.qs_world_runs.specs.PlacesAmid.{Here, PlacedAmid}

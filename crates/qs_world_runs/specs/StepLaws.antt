@@ -8,10 +8,9 @@ use Rattle.qs_node_step.specs.declared.event.Event.{Event}
 use Rattle.qs_world.specs.Moves.{Source, Step, moved}
 use Rattle.qs_world.specs.Posting.{entries_of}
 use Rattle.qs_world.specs.World.{Opening, World}
+use Rattle.qs_world_walk.specs.Walked.{AtEach, done_work}
 use Rattle.qs_world_lawful.specs.Aside.{AnswersElsewhere}
 use Rattle.qs_world_lawful.specs.BesideStep.{HasCountRoom}
-use Rattle.qs_world_lawful.specs.Given.{AtEach}
-use Rattle.qs_world_lawful.specs.GivenStep.{done_work}
 use Rattle.qs_world_lawful.specs.Logs.{Every}
 use Rattle.qs_world_lawful.specs.Parcels.{HoldsWays}
 use Rattle.qs_world_lawful.specs.Scripts.{HoldsScripts}

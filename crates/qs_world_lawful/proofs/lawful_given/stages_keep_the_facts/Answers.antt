@@ -1,6 +1,6 @@
-use Rattle.qs_world_lawful.proofs.FactsRules.{serve_next_keeps}
+use Rattle.qs_world_lawful.proofs.FactsStages.{serve_next_keeps}
 use Rattle.qs_world_lawful.proofs.FactsStages.{command_keeps, forgets_keep, message_keeps, old_keeps, passes_keep, readies_keep, refuses_keep, ticks_keep, waits_keep}
-use Rattle.qs_world_lawful.proofs.FactsTold.{begin_incarnation_keeps, peer_restarted_keeps}
+use Rattle.qs_world_lawful.proofs.FactsStages.{begin_incarnation_keeps, peer_restarted_keeps}
 use Rattle.qs_world_lawful.proofs.lawful_given.stages_keep_the_facts.Goals as goal
 
 pub returns : goal.returns

@@ -1,4 +1,4 @@
-use Rattle.qs_world_lawful.proofs.SameSettings.{step_same}
+use Rattle.qs_world_lawful.proofs.SameSetting.{step_same}
 use Rattle.qs_world_lawful.proofs.WholeStep.{by_step, by_whole_step}
 use Rattle.qs_world_lawful.proofs.lawful_steps.step_is_lawful.Goals as goal
 

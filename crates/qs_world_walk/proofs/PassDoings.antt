@@ -1,16 +1,31 @@
 -- A vote pass is not put off, and notes nothing that would put it off: no server is asked to vote in a step that asked for the commit or served.
-use Rattle.qs_world_runs.proofs.Words.{◌≡◌, ℕ, ◌&&◌, Bool, true, false, List, [], ◌∷◌, ◌++◌, Option, Some, None, refl, sym, ap, subst, ◌∙◌, fold, not, if◌then◌else◌, is_at, lookup, unwrap_or, tid_cmp, Member, NodeNo, ServerNo, Tid, same_node, tid_itself, after_vote, vote_of, Op, Note, Vote, Message, server_at, is_other, member_here, send, end_member, end_members, due_endings, ask_on, enter_issue, is_asked, issue, issue_as, issue_away, issue_here, label_of, with_local, is_busy, is_pass_due}
-use Rattle.qs_world_runs.proofs.Words.{is_put_off, Work, change_server, doings_of, here, no_doings, with_doings, with_manager, with_queues, change_count, enter_vote, issue_note, log_vote, owes_note, served_count, vote_frame, vote_next, vote_with, Doings, needs_pass, Outstanding, Participant, and_parts, not-true}
-use Rattle.qs_ipc.specs.Ipc as ipc
-use Rattle.qs_ipc.specs.Queue.{is_for}
+use Rattle.qs_world_walk.proofs.Words.{Bool, List, Member, Message, NodeNo, None, Op, Option, Participant, ServerNo, Some, Tid, Work, [], doings_of, end_members, false, fold, here, if◌then◌else◌, is_at, issue_as, lookup, next_number, not}
+use Rattle.qs_world_walk.proofs.Words.{refl, same_node, send, subst, sym, true, with_doings, with_manager, with_queues, ℕ, ◌&&◌, ◌++◌, ◌∷◌, ◌≡◌}
+use Rattle.std.proofs.Common.{ap, ◌∙◌}
+use Rattle.std.proofs.lemmas.Bool.{and_parts, not-true}
+use Rattle.std.specs.Prelude.{unwrap_or}
+use Rattle.qs_base.specs.Order.{tid_cmp}
+use Rattle.qs_ops.specs.Server.{after_vote, vote_of}
+use Rattle.qs_ops.specs.declared.operation.Op.TheVariants.{Note}
+use Rattle.qs_ops.specs.declared.vote.Vote.{Vote}
+use Rattle.qs_book_laws.proofs.Alikes.{tid_itself}
 use Rattle.qs_book_laws.proofs.Maps.{lookup_put}
+use Rattle.qs_ipc.specs.Queue.{is_for}
+use Rattle.qs_tm.specs.Participant.{needs_pass}
+use Rattle.qs_tm.specs.declared.participant.Outstanding.{Outstanding}
+use Rattle.qs_node_servers.specs.Servers.{audit_no, server_at}
+use Rattle.qs_node_step.specs.Bringing.{is_other, member_here}
+use Rattle.qs_node_step.specs.Deciding.{due_endings, end_member}
+use Rattle.qs_node_step.specs.Requests.{ask_on, enter_issue, is_asked, issue, issue_away, issue_here, label_of, with_local}
+use Rattle.qs_node_step.specs.Settling.{is_busy, is_pass_due, is_put_off}
+use Rattle.qs_node_step.specs.State.{change_server, no_doings}
+use Rattle.qs_node_step.specs.Voting.{change_count, enter_vote, issue_note, log_vote, note_text, owes_note, served_count, vote_frame, vote_next, vote_with}
+use Rattle.qs_node_step.specs.declared.state.Doings.{Doings}
 use Rattle.qs_ops.specs.declared.vote.Vote.TheVariants as votes
-use Rattle.qs_packet.specs.declared.message.Message.TheVariants as messages
-use Rattle.qs_node_servers.specs.Servers.{audit_no}
-use Rattle.qs_node_step.specs.Requests.{next_number}
-use Rattle.qs_node_step.specs.Voting.{note_text}
+use Rattle.qs_ipc.specs.Ipc as ipc
 use Rattle.qs_tm.specs.Manager as tm
 use Rattle.qs_tm.specs.Members as members
+use Rattle.qs_packet.specs.declared.message.Message.TheVariants as messages
 
 abbrev Same : Work → Work → Type 0
 Same work new = new.doings ≡ work.doings

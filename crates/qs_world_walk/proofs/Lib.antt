@@ -1,0 +1,11 @@
+pub mod Words
+pub mod Shapes
+pub mod First
+pub mod Rules
+pub mod Told
+pub mod ToldDeeds
+pub mod PassDoings
+pub mod Commands
+pub mod Stages
+pub mod Wholes
+pub mod IsDeeds
