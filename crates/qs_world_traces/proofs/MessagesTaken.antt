@@ -1,9 +1,8 @@
 -- A step in which a packet brings the message in turn makes the node's local run longer.
-use Rattle.std.proofs.Common.{◌≡◌, ◌≢◌, ℕ, ◌<◌, Bool, true, List, [], ◌∷◌, ◌++◌, Option, Some, None, refl, sym, ap, subst, ◌∙◌, arith, inl, if◌then◌else◌}
+use Rattle.std.proofs.Common.{◌≡◌, ◌≢◌, ℕ, ◌<◌, Bool, List, [], ◌∷◌, ◌++◌, Option, Some, None, refl, sym, ap, subst, ◌∙◌, arith, inl, if◌then◌else◌}
 use Rattle.std.specs.Prelude.{is_some, map, reverse}
 use Rattle.std.specs.List.{filter, flat_map}
 use Rattle.std.proofs.lemmas.Bool.{lt-ltb}
-use Rattle.std.proofs.lemmas.Bool.Decides.{nat_tests}
 use Rattle.std.proofs.lemmas.List.{flat_map_more, map-append}
 use Rattle.std.proofs.lemmas.List.Elements.{filter-append}
 use Rattle.qs_base_lemmas.proofs.Tests.{eqb-self}
@@ -29,9 +28,12 @@ use Rattle.qs_node_step.specs.declared.event.Sending.{Sending}
 use Rattle.qs_node_step.specs.declared.trace.Step as trace
 use Rattle.qs_world.specs.Posting.{entries_of}
 use Rattle.qs_world.specs.World.{Opening, Parcel}
-use Rattle.qs_world_traces.specs.Links.{is_from, is_to, put_to, puts_of, took_from, takes_of}
-use Rattle.qs_world_traces.specs.Sessions.{AreEnds, Ends, SendsAsEnds}
-use Rattle.qs_world_traces.specs.Steps.{EachTakesMessage, HasTakenMessage, TakesMessage, comes, is_peer, out_at, taken_in, message_step}
+use Rattle.qs_cell_peers.specs.Peers.{is_peer, is_to}
+use Rattle.qs_cell_peers.specs.Sessions.{Ends, taken_in}
+use Rattle.qs_cell_peers.proofs.Places.{is_peer_from, peer_is}
+use Rattle.qs_world_traces.specs.Links.{is_from, put_to, puts_of, took_from, takes_of}
+use Rattle.qs_world_traces.specs.Sessions.{AreEnds, SendsAsEnds}
+use Rattle.qs_world_traces.specs.Steps.{EachTakesMessage, HasTakenMessage, TakesMessage, comes, out_at, message_step}
 use Rattle.qs_world_traces.proofs.PutsOn.{each_puts_on}
 use Rattle.qs_world_traces.proofs.SessionsAre.{each_receives, each_sends}
 use Rattle.qs_world_packets.proofs.SessionsPlain.{is_plain}
@@ -64,12 +66,6 @@ of_plain end.Hello x is = absurd (cc is)
 of_plain (end.Repeat number) x is = absurd (cc is)
 of_plain (end.Early number expected) x is = absurd (cc is)
 of_plain (end.Message parcel) x is = record { parcel = parcel; is = refl; message = cc is }
-
-pub peer_is : (size n m : ℕ) → is_peer size n m ≡ true → (m < size) × (m ≢ n)
-peer_is size n m is = grind (arith, nat_tests, is)
-
-pub is_one : (size n m : ℕ) → m < size → m ≢ n → is_peer size n m ≡ true
-is_one size n m lt other = grind (arith, nat_tests, lt, other)
 
 pub up_sends : (n stamp k : ℕ) (sendings : List Sending) (net : Network Parcel) → (send_all n stamp sendings net).up k ≡ net.up k
 up_sends n stamp k [] net = refl
@@ -122,7 +118,7 @@ module _ (o : Opening) (n : ℕ) (journal : List Entry) (steps : List trace.Step
   puts : (m : ℕ) → m < o.size → m ≢ n → ArePut (map seen (put_to m (steps ++ message_step n s acts rounds packet put ∷ []))) (new.network.packets n m)
   puts m lt other = subst (λ (l : List (end.Packet Message)). ArePut l (new.network.packets n m)) (sym (one_more puts_of (is_to m) seen steps (message_step n s acts rounds packet put)))
       (each_puts_on (map seen (put_to m steps)) (map seen (filter (is_to m) put)) (world.network.packets n m) (new.network.packets n m) (c.reached.puts m lt other)
-      (sends.packets m (is_one o.size n m lt other) ∙ ap (λ (l : List (end.Packet Message)). reverse l ++ map plain_packet (world.network.packets n m)) (sym (c.puts m (is_one o.size n m lt other)))))
+      (sends.packets m (is_peer_from o.size n m lt other) ∙ ap (λ (l : List (end.Packet Message)). reverse l ++ map plain_packet (world.network.packets n m)) (sym (c.puts m (is_peer_from o.size n m lt other)))))
 
   took_more : (m : ℕ) (p : end.Packet Message) → Among (map seen (took_from m steps)) p → Among (map seen (took_from m (steps ++ message_step n s acts rounds packet put ∷ []))) p
   took_more m p h = subst (λ (l : List (end.Packet Message)). Among l p) (sym (one_more takes_of (is_from m) seen steps (message_step n s acts rounds packet put))) (among_front (map seen (took_from m steps)) _ p h)

@@ -13,7 +13,8 @@ use Rattle.qs_world_packets.specs.PacketSessions.{plain_end, plain_packet}
 use Rattle.qs_world_packets.specs.PacketWorld.{hello}
 use Rattle.qs_node_step.specs.declared.event.Sending.{Sending}
 use Rattle.qs_world.specs.World.{Parcel}
-use Rattle.qs_world_traces.specs.Sessions.{AreEnds, EachReceives, EachSends, EachTicks, Ends, all_sent, one_sent, sent_to}
+use Rattle.qs_cell_peers.specs.Sessions.{Ends, all_sent, one_sent, sent_to}
+use Rattle.qs_world_traces.specs.Sessions.{AreEnds, EachReceives, EachSends, EachTicks}
 use Rattle.qs_world_packets.proofs.SessionsPlain.{is_plain}
 use mathlib.Core.List.{reverse_aux}
 

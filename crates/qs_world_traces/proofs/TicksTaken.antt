@@ -29,13 +29,16 @@ use Rattle.qs_world.specs.Posting.{entries_of}
 use Rattle.qs_node_step.specs.Step.{after_step}
 use Rattle.qs_world.specs.Moves.{stepped_host}
 use Rattle.qs_world.specs.World.{Host, Opening, Parcel}
-use Rattle.qs_world_traces.specs.Links.{is_from, is_to, put_to, puts_of, observed_by, took_from, takes_of}
-use Rattle.qs_world_traces.specs.Sessions.{AreEnds, Ends, SendsAsEnds, TicksAsEnds, all_sent, sent_to}
-use Rattle.qs_world_traces.specs.Steps.{is_peer}
-use Rattle.qs_world_traces.specs.Ticks.{EachTakesTick, HasTakenTick, TakesTick, all_ticked, tick_out, tick_step, tick_to}
+use Rattle.qs_cell_peers.specs.Peers.{is_peer, is_to}
+use Rattle.qs_cell_peers.specs.Sessions.{Ends, all_sent, sent_to}
+use Rattle.qs_cell_peers.specs.Ticks.{all_ticked, tick_to}
+use Rattle.qs_cell_peers.proofs.Places.{is_peer_from, peer_is}
+use Rattle.qs_world_traces.specs.Links.{is_from, put_to, puts_of, observed_by, took_from, takes_of}
+use Rattle.qs_world_traces.specs.Sessions.{AreEnds, SendsAsEnds, TicksAsEnds}
+use Rattle.qs_world_traces.specs.Ticks.{EachTakesTick, HasTakenTick, TakesTick, tick_out, tick_step}
 use Rattle.qs_world_traces.proofs.PutsOn.{each_puts_on, each_ticks_on}
 use Rattle.qs_world_traces.proofs.SessionsAre.{each_sends, each_ticks}
-use Rattle.qs_world_traces.proofs.MessagesTaken.{is_one, one_more, peer_is, up_sends}
+use Rattle.qs_world_traces.proofs.MessagesTaken.{one_more, up_sends}
 
 -- ---- sessions tick, one after the other
 
@@ -100,7 +103,7 @@ module _ (clients_at : ℕ → ℕ) (size n s : ℕ) (w : PacketWorld) (ends : E
   }
     where
       peer_m : is_peer size n m ≡ true
-      peer_m = is_one size n m lt (eqb-false m n is)
+      peer_m = is_peer_from size n m lt (eqb-false m n is)
 
       ticks : TicksAsEnds (is_peer size n) n m s (ticked_to m n s w).network (all_ticked m n ends)
       ticks = each_ticks (is_peer size n) n m s (ticked_to m n s w).network (all_ticked m n ends) peer_m t.sessions
@@ -175,8 +178,8 @@ module _ (o : Opening) (n : ℕ) (journal : List Entry) (steps : List trace.Step
   puts : (m : ℕ) → m < o.size → m ≢ n → ArePut (map seen (put_to m (steps ++ tick_step n s acts rounds put ∷ []))) ((ticked_to o.size n s mid).network.packets n m)
   puts m lt other = subst (λ (l : List (end.Packet Message)). ArePut l ((ticked_to o.size n s mid).network.packets n m))
       (append_assoc (map seen (put_to m steps)) (sent_to (is_peer o.size n) s m ends (tick_out world n free).messages) (tick_to o.size n s m sent_ends)
-      ∙ (ap (λ (l : List (end.Packet Message)). map seen (put_to m steps) ++ l) (sym (c.puts m (is_one o.size n m lt other))) ∙ sym (one_more puts_of (is_to m) seen steps (tick_step n s acts rounds put))))
-      (t.puts m (is_one o.size n m lt other))
+      ∙ (ap (λ (l : List (end.Packet Message)). map seen (put_to m steps) ++ l) (sym (c.puts m (is_peer_from o.size n m lt other))) ∙ sym (one_more puts_of (is_to m) seen steps (tick_step n s acts rounds put))))
+      (t.puts m (is_peer_from o.size n m lt other))
 
   has_taken : HasTakenTick o n journal steps world ends s free acts rounds put
   has_taken = record {

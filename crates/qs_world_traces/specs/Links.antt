@@ -1,6 +1,7 @@
 -- What cells put to links and took of them, as their traces tell it.
 use Rattle.std.specs.Prelude.{◌≡◌, ◌≢◌, ℕ, ◌==◌, ◌<◌, Bool, List, [], ◌∷◌, ◌++◌, map}
 use Rattle.std.specs.List.{filter, flat_map}
+use Rattle.qs_cell_peers.specs.Peers.{is_to}
 use Rattle.qs_book_journal.specs.declared.entry.Entry.{Entry}
 use Rattle.qs_link.specs.Planned.{goes_out}
 use Rattle.qs_link.specs.declared.outgoing.LinkFault.{LinkFault}
@@ -10,9 +11,6 @@ use Rattle.qs_packet.specs.declared.packet.Packet.{Packet}
 use Rattle.qs_node_step.specs.declared.trace.Did.{Did}
 use Rattle.qs_node_step.specs.declared.trace.Did.TheVariants as dids
 use Rattle.qs_node_step.specs.declared.trace.Step.{Step}
-
-abbrev pub is_to : ℕ → Packet → Bool
-is_to m packet = packet.to.0 == m
 
 abbrev pub is_from : ℕ → Packet → Bool
 is_from m packet = packet.from.0 == m

@@ -1,10 +1,10 @@
 -- The sessions of a cell are its node's ends in the world, without the stamps of the steps that posted messages: as a step sends, as a packet comes, and as
 -- sessions tick.
-use Rattle.std.specs.Prelude.{◌≡◌, ℕ, ◌==◌, Bool, true, List, [], ◌∷◌, ◌++◌, map, option_to_list, reverse, if◌then◌else◌}
-use Rattle.qs_session_channels.specs.End.{End, Packet, received, sent, sent_packet, tick_packets, ticked}
+use Rattle.std.specs.Prelude.{◌≡◌, ℕ, Bool, true, List, ◌++◌, map, reverse}
+use Rattle.qs_cell_peers.specs.Sessions.{Ends, all_sent, sent_to}
+use Rattle.qs_session_channels.specs.End.{Packet, received, tick_packets, ticked}
 use Rattle.qs_session_channels.specs.Network as network
 use Rattle.qs_session_channels.specs.Network.{Network, with_at}
-use Rattle.qs_packet.specs.declared.message.Message.{Message}
 use Rattle.qs_packet.specs.declared.message.Message.TheVariants as messages
 use Rattle.qs_world_packets.specs.PacketMoves.{received_by, send_all}
 use Rattle.qs_world_packets.specs.PacketSessions.{plain_end, plain_packet}
@@ -12,30 +12,12 @@ use Rattle.qs_world_packets.specs.PacketWorld.{PacketWorld, hello}
 use Rattle.qs_node_step.specs.declared.event.Sending.{Sending}
 use Rattle.qs_world.specs.World.{Parcel}
 
--- the ends of a node's sessions, by its peers
-abbrev pub Ends : Type 0
-Ends = ℕ → End Message
-
 -- these are the node's, as far as they go: it has no session with itself, nor with a number that is no node of the run
 abbrev pub AreEnds : (ℕ → Bool) → ℕ → Network Parcel → Ends → Type 0
 AreEnds peers n net ends = (m : ℕ) → peers m ≡ true → ends m ≡ plain_end (net.end n m)
 
--- ---- what a step sends, one message after the other, and the packets that go
+-- ---- what a step sends, as it is in the world; there the newest stands first
 
--- to no peer nothing goes
-abbrev pub one_sent : (ℕ → Bool) → Ends → Sending → Ends
-one_sent peers ends s = if peers s.to.0 then with_at ends s.to.0 (sent (ends s.to.0) s.message) else ends
-
-abbrev pub all_sent : (ℕ → Bool) → Ends → List Sending → Ends
-all_sent peers ends [] = ends
-all_sent peers ends (s ∷ sendings) = all_sent peers (one_sent peers ends s) sendings
-
--- those to m, in order
-abbrev pub sent_to : (ℕ → Bool) → ℕ → ℕ → Ends → List Sending → List (Packet Message)
-sent_to peers stamp m ends [] = []
-sent_to peers stamp m ends (s ∷ sendings) = (if m == s.to.0 then option_to_list (sent_packet (ends s.to.0) s.message stamp) else []) ++ sent_to peers stamp m (one_sent peers ends s) sendings
-
--- as it is in the world; there the newest stands first
 pub record SendsAsEnds (peers : ℕ → Bool) (n stamp : ℕ) (net : Network Parcel) (ends : Ends) (sendings : List Sending) : Type 0 where
   pub ends_are : AreEnds peers n (send_all n stamp sendings net) (all_sent peers ends sendings)
   pub packets : (m : ℕ) → peers m ≡ true → map plain_packet ((send_all n stamp sendings net).packets n m) ≡ reverse (sent_to peers stamp m ends sendings) ++ map plain_packet (net.packets n m)

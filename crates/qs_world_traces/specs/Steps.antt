@@ -1,9 +1,10 @@
 -- A step of a cell in which a packet brings the message in turn, as the cell itself sees it: it makes the node's local run one step longer.
-use Rattle.std.specs.Prelude.{◌≡◌, ℕ, ◌==◌, ◌<◌, ◌^◌, Bool, true, not, ◌&&◌, List, [], ◌∷◌, ◌++◌, map, None, nat_lt}
+use Rattle.std.specs.Prelude.{◌≡◌, ℕ, ◌<◌, ◌^◌, true, List, [], ◌∷◌, ◌++◌, map, None}
 use Rattle.std.specs.List.{filter}
 use Rattle.qs_session_channels.specs.End as end
-use Rattle.qs_session_channels.specs.End.{answer, received}
-use Rattle.qs_session_channels.specs.Network.{with_at}
+use Rattle.qs_session_channels.specs.End.{answer}
+use Rattle.qs_cell_peers.specs.Peers.{is_peer, is_to}
+use Rattle.qs_cell_peers.specs.Sessions.{Ends, all_sent, sent_to, taken_in}
 use Rattle.qs_book_journal.specs.declared.entry.Entry.{Entry}
 use Rattle.qs_world_merge.specs.StepMoves.{seen}
 use Rattle.qs_world_merge.specs.Reaching.{HasReached}
@@ -20,22 +21,14 @@ use Rattle.qs_node_step.specs.declared.trace.Step.{Step}
 use Rattle.qs_world.specs.Moves.{node_no, stepped_host}
 use Rattle.qs_world.specs.Posting.{entries_of}
 use Rattle.qs_world.specs.World.{Opening}
-use Rattle.qs_world_traces.specs.Links.{is_to, observed_by}
-use Rattle.qs_world_traces.specs.Sessions.{AreEnds, Ends, all_sent, sent_to}
-
--- another node of the run
-abbrev pub is_peer : ℕ → ℕ → ℕ → Bool
-is_peer size n m = nat_lt m size && not (m == n)
+use Rattle.qs_world_traces.specs.Links.{observed_by}
+use Rattle.qs_world_traces.specs.Sessions.{AreEnds}
 
 abbrev pub comes : Packet → Message → Event
 comes packet x = events.Received (node_no packet.from.0) x
 
 abbrev pub out_at : PacketWorld → ℕ → Packet → Message → ℕ → Effects
 out_at world n packet x free = effects_of (world.hosts n).node (comes packet x) free
-
--- the sessions once the packet was taken, and once the step sent
-abbrev pub taken_in : Ends → Packet → Ends
-taken_in ends packet = with_at ends packet.from.0 (received (ends packet.from.0) (seen packet))
 
 abbrev pub message_step : ℕ → ℕ → ℕ → ℕ → Packet → List Packet → Step
 message_step n s acts rounds packet put = record { stamp = s; node = node_no n; acts = acts; rounds = rounds; did = dids.Packet packet; put = put; crash = None }

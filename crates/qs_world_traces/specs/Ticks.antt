@@ -1,14 +1,13 @@
 -- A tick of a cell, as the cell itself sees it: its node's step, and then each session ticks, in the order of the other nodes.
-use Rattle.std.specs.Prelude.{◌≡◌, ℕ, zero, suc, ◌==◌, ◌<◌, ◌^◌, true, List, [], ◌∷◌, ◌++◌, map, None, if◌then◌else◌}
+use Rattle.std.specs.Prelude.{◌≡◌, ℕ, ◌<◌, ◌^◌, true, List, [], ◌∷◌, ◌++◌, map, None}
 use Rattle.std.specs.List.{filter}
-use Rattle.qs_session_channels.specs.End.{Packet, tick_packets, ticked}
-use Rattle.qs_session_channels.specs.Network.{with_at}
+use Rattle.qs_cell_peers.specs.Peers.{is_peer, is_to}
+use Rattle.qs_cell_peers.specs.Sessions.{Ends, all_sent, sent_to}
+use Rattle.qs_cell_peers.specs.Ticks.{all_ticked, tick_to}
 use Rattle.qs_book_journal.specs.declared.entry.Entry.{Entry}
 use Rattle.qs_world_merge.specs.StepMoves.{seen}
 use Rattle.qs_world_merge.specs.Reaching.{HasReached}
 use Rattle.qs_world_merge.specs.LocalRuns.{AnswersOnly, client_at}
-use Rattle.qs_packet.specs.declared.message.Message.{Message}
-use Rattle.qs_packet.specs.declared.message.Message.TheVariants as messages
 use Rattle.qs_packet.specs.declared.packet.Packet as packets
 use Rattle.qs_world_packets.specs.PacketWorld.{PacketWorld}
 use Rattle.qs_node_step.specs.Step.{after_step, effects_of}
@@ -19,19 +18,8 @@ use Rattle.qs_node_step.specs.declared.trace.Step.{Step}
 use Rattle.qs_world.specs.Moves.{node_no, stepped_host}
 use Rattle.qs_world.specs.Posting.{entries_of}
 use Rattle.qs_world.specs.World.{Opening}
-use Rattle.qs_world_traces.specs.Links.{is_to, observed_by}
-use Rattle.qs_world_traces.specs.Sessions.{AreEnds, Ends, all_sent, sent_to}
-use Rattle.qs_world_traces.specs.Steps.{is_peer}
-
--- the sessions with all nodes below m but n, once each ticked
-abbrev pub all_ticked : ℕ → ℕ → Ends → Ends
-all_ticked zero n ends = ends
-all_ticked (suc m) n ends = if m == n then all_ticked m n ends else with_at (all_ticked m n ends) m (ticked (all_ticked m n ends m))
-
--- and what went to j
-abbrev pub tick_to : ℕ → ℕ → ℕ → ℕ → Ends → List (Packet Message)
-tick_to zero n s j ends = []
-tick_to (suc m) n s j ends = tick_to m n s j ends ++ (if m == n then [] else if j == m then tick_packets messages.Hello (all_ticked m n ends m) s else [])
+use Rattle.qs_world_traces.specs.Links.{observed_by}
+use Rattle.qs_world_traces.specs.Sessions.{AreEnds}
 
 abbrev pub tick_out : PacketWorld → ℕ → ℕ → Effects
 tick_out world n free = effects_of (world.hosts n).node events.Tick free

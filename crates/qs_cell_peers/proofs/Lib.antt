@@ -1,0 +1,9 @@
+pub mod Carrying
+pub mod Places
+pub mod Putting
+-- The sessions of a node.
+pub mod Changing
+pub mod Sending
+pub mod Sends
+pub mod Ticking
+pub mod Beginning

@@ -1,0 +1,5 @@
+pub mod Peers
+pub mod Sessions
+pub mod Ticks
+pub mod NoEnds
+pub mod Links

@@ -1,0 +1,70 @@
+-- A node's ends of its links: one to each other node of the run, and one from it.
+use Rattle.std.specs.Prelude.{◌≡◌, ◌++◌, ◌+◌, ◌<◌, ℕ, true, Bool, List, IfOk, OnOk, Result, get_or, length}
+use Rattle.std.specs.List.{filter}
+use Rattle.qs_base.specs.declared.identifiers.NodeNo.{NodeNo}
+use Rattle.qs_base.specs.declared.memory.NoMemory.{NoMemory}
+use Rattle.qs_link.specs.Lane.{DrawValue, IsFifo, IsFront, IsLane, on_way}
+use Rattle.qs_link.specs.Plan.{OutgoingValue}
+use Rattle.qs_link.specs.Planned.{Carried, PutAll}
+use Rattle.qs_packet.specs.declared.packet.Packet.{Packet}
+use Rattle.rtrb.specs.Ring.{SameConsumer, SameProducer}
+use Rattle.qs_cell_peers.specs.NoEnds.{no_into, no_out}
+use Rattle.qs_cell_peers.specs.Peers.{is_peer, is_to, place}
+
+-- what is seen of them
+pub record LinksValue : Type 0 where
+  pub size : ℕ  -- how many nodes the run has
+  pub me : NodeNo
+  pub out : List OutgoingValue  -- by the numbers of the other nodes
+  pub into : List (DrawValue Packet)
+
+abbrev pub is_peer_of : LinksValue → ℕ → Bool
+is_peer_of links m = is_peer links.size links.me.0 m
+
+-- the ends of the links to node m and from it, and any where there are none
+abbrev pub out_of : LinksValue → ℕ → OutgoingValue
+out_of links m = get_or links.out (place links.me.0 m) no_out
+
+abbrev pub into_of : LinksValue → ℕ → DrawValue Packet
+into_of links m = get_or links.into (place links.me.0 m) no_into
+
+-- there are as many of one kind as of the other, and the node is one of the run
+pub record AreLinks (n : NodeNo) (out : List OutgoingValue) (into : List (DrawValue Packet)) : Type 0 where
+  pub in_run : n.0 < length out + 1
+  pub both : length into ≡ length out
+
+-- they are the same node's
+pub record IsSameNode (old new : LinksValue) : Type 0 where
+  pub size : new.size ≡ old.size
+  pub me : new.me ≡ old.me
+
+-- the ends to peers, all but this one's
+abbrev pub SameOut : (ℕ → Bool) → LinksValue → LinksValue → Type 0
+SameOut but old new = (m : ℕ) → is_peer_of old m ≡ true → but m ≡ true → out_of new m ≡ out_of old m
+
+abbrev pub SameInto : (ℕ → Bool) → LinksValue → LinksValue → Type 0
+SameInto but old new = (m : ℕ) → is_peer_of old m ≡ true → but m ≡ true → into_of new m ≡ into_of old m
+
+-- each link has got the packets for its node, in order
+pub record HasPut (packets : List Packet) (old new : LinksValue) : Type 0 where
+  pub same : IsSameNode old new
+  pub put : (m : ℕ) → is_peer_of old m ≡ true → PutAll (filter (is_to m) packets) (out_of old m) (out_of new m)
+  pub into : SameInto (λ m. true) old new
+
+-- or as many of them, the first ones first, as memory was had for
+pub record HasPutSome (packets : List Packet) (old new : LinksValue) : Type 0 where
+  pub front : List Packet
+  pub rest : List Packet
+  pub is : packets ≡ front ++ rest
+  pub put : HasPut front old new
+
+-- a link between two nodes was carried: from its ends o and i to p and j
+pub record HasCarried (result : Result ℕ NoMemory) (o p : OutgoingValue) (i j : DrawValue Packet) : Type 0 where
+  pub lane : IsLane p.feed j
+  pub feed : SameProducer o.feed.ring p.feed.ring
+  pub draw : SameConsumer i.ring j.ring
+  pub carried : Carried o p i j
+  pub front : IsFront i.inbox j.inbox
+  pub all : OnOk result (j.inbox ≡ on_way o.feed i)
+  pub held : IfOk result (λ n. n ≡ length j.inbox)
+  pub fifo : IsFifo o.feed i × IsFifo p.feed j

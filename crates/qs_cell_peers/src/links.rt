@@ -1,0 +1,109 @@
+//! A node's ends of its links.
+ghost use Rattle.std.specs.Prelude.{◌≡◌, ◌+◌, ◌<◌, ◌↔◌, ℕ, true, not, [], ◌==◌, ◌∷◌, All, IfOk, IfSome, OnOk, OnErr, Some, length, slice_get};
+ghost use Rattle.qs_packet.specs.Grammar.{IsPacket};
+ghost use Rattle.qs_link.specs.Lane.{IsLane};
+ghost use Rattle.qs_link.specs.Link.{Took, TookNone};
+ghost use Rattle.qs_cell_peers.specs.Links.{HasCarried, HasPut, HasPutSome, IsSameNode, SameInto, SameOut, into_of, is_peer_of, out_of};
+ghost use Rattle.qs_cell_peers.specs.Peers.{place};
+
+use crate::peers::{is_other, place_of};
+use qs_base::{List, NoMemory, NodeNo};
+use qs_link::{Incoming, Outgoing, carry_link};
+use qs_packet::Packet;
+use std::marker::Model;
+
+/// A node's ends of its links: one to each other node of the run, and one from it.
+#[derive(Drop)]
+pub struct Links {
+    me: NodeNo,
+    /// By the numbers of the other nodes.
+    out: Vec<Outgoing>,
+    into: Vec<Incoming>,
+}
+
+impl Model for Links {
+    ghost use Rattle.std.specs.Prelude.{◌+◌, length};
+    ghost use Rattle.qs_cell_peers.specs.Links.{AreLinks, LinksValue};
+
+    ghost Value = { LinksValue };
+
+    ghost view = { λ l. record { size = length l.out.items + 1; me = l.me; out = l.out.items; into = l.into.items } };
+
+    ghost invariant = { λ l. AreLinks l.me l.out.items l.into.items };
+}
+
+impl Links {
+    /// The ends of the node `me`, by the numbers of the other nodes. It takes no memory.
+    pub fn new(me: NodeNo, out: List<Outgoing>, into: List<Incoming>) -> Links
+        requires ends { length out ≡ length into }
+        requires me { me.0 < length out + 1 }
+        ensures size { result.size ≡ length out + 1 }
+        ensures me { result.me ≡ me }
+        ensures out { (m : ℕ) → is_peer_of result m ≡ true → slice_get out (place me.0 m) ≡ Some (out_of result m) }
+        ensures into { (m : ℕ) → is_peer_of result m ≡ true → slice_get into (place me.0 m) ≡ Some (into_of result m) }
+    {
+        Links {
+            me,
+            out: out.into_vec(),
+            into: into.into_vec(),
+        }
+    }
+
+    /// Puts the packets, each to the link of its node, in order; one to no other node of the run is dropped. After `NoMemory`, which comes
+    /// where memory was refused, the first ones were put, up to one.
+    pub fn put_all(&mut self, packets: &[Packet]) -> Result<(), NoMemory>
+        requires { All IsPacket packets.now }
+        ensures put { OnOk result (HasPut packets.now self.old self.new) }
+        ensures some { OnErr result (HasPutSome packets.now self.old self.new) }
+    {
+        for packet in packets {
+            self.put_one(packet)?;
+        }
+        Ok(())
+    }
+
+    /// Puts a packet to the link of its node. After `NoMemory` all is as it was.
+    fn put_one(&mut self, packet: &Packet) -> Result<(), NoMemory>
+        requires { IsPacket packet.now }
+        ensures put { OnOk result (HasPut (packet.now ∷ []) self.old self.new) }
+        ensures err { OnErr result (self.new ≡ self.old) }
+    {
+        let to = usize::from(packet.to.0);
+        if !is_other(self.out.len(), self.me, to) {
+            return Ok(());
+        }
+        self.out[place_of(self.me, to)].put(packet)
+    }
+
+    /// Takes the next packet of that peer that was carried; `None` exactly where its inbox is empty. After `NoMemory`, which comes where
+    /// memory was refused, that packet is lost.
+    pub fn take_carried(&mut self, from: NodeNo) -> Result<Option<Packet>, NoMemory>
+        requires { is_peer_of self.old from.0 ≡ true }
+        ensures same { IsSameNode self.old self.new }
+        ensures out { SameOut (λ m. true) self.old self.new }
+        ensures others { SameInto (λ m. not (m == from.0)) self.old self.new }
+        ensures took { Took result (into_of self.old from.0) (into_of self.new from.0) }
+        ensures packet { IfOk result (λ p. IfSome p IsPacket) }
+        ensures none { TookNone result ↔ ((into_of self.old from.0).inbox ≡ []) }
+    {
+        self.into[place_of(self.me, usize::from(from.0))].take_carried()
+    }
+
+    /// Moves what stands on the link from another node to this one, in its ring and its outbox, into the inbox, and says how many packets
+    /// that then holds. After `NoMemory`, which comes where memory was refused, a front was moved and nothing is lost.
+    pub fn carry(&mut self, from: &mut Links) -> Result<usize, NoMemory>
+        requires peer { is_peer_of self.old from.old.me.0 ≡ true }
+        requires its { is_peer_of from.old self.old.me.0 ≡ true }
+        requires lane { IsLane (out_of from.old self.old.me.0).feed (into_of self.old from.old.me.0) }
+        ensures same { IsSameNode self.old self.new × IsSameNode from.old from.new }
+        ensures own_out { SameOut (λ m. true) self.old self.new }
+        ensures own_into { SameInto (λ m. not (m == from.old.me.0)) self.old self.new }
+        ensures its_out { SameOut (λ m. not (m == self.old.me.0)) from.old from.new }
+        ensures its_into { SameInto (λ m. true) from.old from.new }
+        ensures carried { HasCarried result (out_of from.old self.old.me.0) (out_of from.new self.old.me.0) (into_of self.old from.old.me.0) (into_of self.new from.old.me.0) }
+    {
+        let there = place_of(from.me, usize::from(self.me.0));
+        let here = place_of(self.me, usize::from(from.me.0));
+        carry_link(&mut from.out[there], &mut self.into[here])
+    }
+}
