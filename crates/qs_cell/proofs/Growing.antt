@@ -63,7 +63,7 @@ made_by own size occasion old (outcomes.Followed stopped answers) is =
     (ap (λ (s : Seen). s.told.journal) is.seen))
   where
     whole : Seen
-    whole = stepped occasion old.carried.setting.inc (out_of size occasion old) (seen old.carried)
+    whole = stepped occasion old.carried.setting.inc (out_of size occasion old) is.put (seen old.carried)
 made_by own size occasion old (outcomes.Replaced stopped) is = grows_by _ _ _ _ (stamped_same _) (ap (λ (t : Told). t.journal) is.told)
 made_by own size occasion old (outcomes.CutOff stopped) is = grows_by _ _ _ _ (stamped_same _) (ap (λ (t : Told). t.journal) is.told)
 

@@ -1,8 +1,14 @@
 -- What an event does with the log and leaves on the disk, by its stages.
-use Rattle.std.proofs.Common.{◌≡◌, ◌⊎◌, ◌∙◌, ap, subst, sym, refl, inl, inr, ℕ, Bool, true, false, List, ◌++◌}
+use Rattle.std.proofs.Common.{◌≡◌, ◌⊎◌, ◌∙◌, ◌-◌, ◌^◌, ap, subst, sym, refl, inl, inr, ℕ, Bool, true, false, List, ◌++◌}
 use Rattle.std.specs.Prelude.{◌↔◌, None, Some, if◌then◌else◌}
 use Rattle.std.specs.List.{list_any}
 use Rattle.qs_base.specs.Causes.{Rose}
+use Rattle.qs_base.specs.declared.memory.GrowFault.{GrowFault}
+use Rattle.qs_base.specs.declared.memory.GrowFault.TheVariants as grow_faults
+use Rattle.qs_base.specs.declared.memory.GrowFault.TheVariants.{Last}
+use Rattle.qs_cell_peers.specs.Sessions.{LacksNumber, SessionsValue}
+use Rattle.qs_cell_peers.specs.Steps.{Sends}
+use Rattle.qs_packet.specs.declared.packet.Packet.{Packet}
 use Rattle.qs_disk.specs.Disk.{DiskState}
 use Rattle.qs_disk.specs.Fuse.{FusedValue, GoesOn, fused_count}
 use Rattle.qs_disk.specs.Moments.{Keeps}
@@ -23,10 +29,10 @@ use Rattle.qs_slot.specs.Slot.{SayTheSame}
 use Rattle.qs_node_step.specs.declared.event.Effects.{Effects}
 use Rattle.qs_cell_chronicle.specs.Carried.{Seen, seen}
 use Rattle.qs_cell_chronicle.specs.Chronicle.{crashed}
-use Rattle.qs_cell_chronicle.specs.Occasions.{did_of, event_of}
+use Rattle.qs_cell_chronicle.specs.Occasions.{did_of, event_of, taken}
 use Rattle.qs_cell_chronicle.specs.declared.carried.Carried.{Carried}
 use Rattle.qs_cell_chronicle.specs.declared.occasion.Occasion.{Occasion}
-use Rattle.qs_cell.specs.Cell.{IfStands, IsCutOff, IsFaulted, IsRefused, StandsAfter, disk_after, fault_cause, held_back, ordered, planned, planned_after, out_of, IsUnplanned}
+use Rattle.qs_cell.specs.Cell.{begun, ticks, unsent_cause, IsAsPlanned, IsPastLast, IsSent, IsUnnumbered, IfStands, IsCutOff, IsFaulted, IsRefused, StandsAfter, disk_after, fault_cause, held_back, ordered, planned, planned_after, out_of, IsUnplanned}
 use Rattle.qs_cell.specs.Within.{HasBegun, HasCrashed, IsWorkedOut, HasStepped, running_with}
 use Rattle.qs_cell.specs.Outcomes.{Outcome, outcome_of, stopped_of}
 use Rattle.qs_cell.specs.Outcomes as outcomes
@@ -78,17 +84,51 @@ begun_on occasion old mid new begun told commands crashes points setting = recor
   setting = setting ∙ begun.setting;
 }
 
-pub worked : {D F X : Type 0} (size : ℕ) (occasion : Occasion) (old : Running D F X) (host new : HostValue (FusedValue D)) (carried ready : Carried) (out : Effects)
+-- what the sessions did is that of the node that the event began with
+pub sent_as : {D F X : Type 0} (size : ℕ) (occasion : Occasion) (old : Running D F X) (before after : SessionsValue) (stamp : ℕ) (out : Effects) (put : List Packet)
+    → before ≡ old.sessions → stamp ≡ (begun old.carried.chronicle.told).stamp → out ≡ out_of size occasion old → Sends (ticks occasion) stamp out.messages before put after → IsSent size occasion old put after
+sent_as size occasion old before after stamp out put same at is sends =
+    subst (λ (b : SessionsValue). Sends (ticks occasion) (begun old.carried.chronicle.told).stamp (out_of size occasion old).messages b put after) same
+    (subst (λ (s : ℕ). Sends (ticks occasion) s (out_of size occasion old).messages before put after) at
+    (subst (λ (o : Effects). Sends (ticks occasion) stamp o.messages before put after) is sends))
+
+pub past_last : {D F X : Type 0} (size : ℕ) (occasion : Occasion) (old : Running D F X) (before : SessionsValue) (out : Effects)
+    → before ≡ old.sessions → out ≡ out_of size occasion old → LacksNumber before out.messages → IsPastLast size occasion old
+past_last size occasion old before out same is lacks =
+    subst (λ (b : SessionsValue). LacksNumber b (out_of size occasion old).messages) same (subst (λ (o : Effects). LacksNumber before o.messages) is lacks)
+
+pub not_past_last : {D F X : Type 0} (size : ℕ) (occasion : Occasion) (old : Running D F X) (before : SessionsValue) (out : Effects)
+    → before ≡ old.sessions → out ≡ out_of size occasion old → (LacksNumber before out.messages → ⊥) → IsPastLast size occasion old → ⊥
+not_past_last size occasion old before out same is never lacks =
+    never (subst (λ (o : Effects). LacksNumber before o.messages) (sym is) (subst (λ (b : SessionsValue). LacksNumber b (out_of size occasion old).messages) (sym same) lacks))
+
+-- a node stops in place of the event whose sessions could not send
+pub unsent : {D F X : Type 0} (size : ℕ) (occasion : Occasion) (old : Running D F X) (new : Stopped D) (fault : GrowFault) → IsUnplanned size occasion old → new.cause ≡ unsent_cause fault
+    → new.carried.commands ≡ taken occasion old.carried.setting.inc old.carried.commands → new.carried.points.items ≡ old.carried.points.items
+    → ((value : ℕ) → fault ≡ Last value → (value ≡ 2 ^ 62 - 1) × IsPastLast size occasion old)
+    → (new.cause ≡ causes.Memory) ⊎ (IsAsPlanned size occasion old new ⊎ IsUnnumbered size occasion old new)
+unsent size occasion old new grow_faults.NoMemory unplanned cause commands points last = inl cause
+unsent size occasion old new (grow_faults.Last value) unplanned cause commands points last = inr (inr (record {
+  unplanned = unplanned;
+  lacks = (last value refl).1;
+  cause = cause ∙ ap (λ (v : ℕ). causes.Last v) (last value refl).0;
+  commands = commands;
+  points = points;
+}))
+
+pub worked : {D F X : Type 0} (size : ℕ) (occasion : Occasion) (old : Running D F X) (host new : HostValue (FusedValue D)) (sessions : SessionsValue) (carried ready : Carried) (out : Effects) (put : List Packet)
     → host ≡ old.host → new.node ≡ worked_node size host (event_of occasion) → new.node.kept.saved ≡ host.node.kept.saved → new.log ≡ host.log
     → out ≡ effects_at size host (event_of occasion) → HasBegun occasion old.carried ready → IsUnplanned size occasion old
-    → IsWorkedOut size occasion old new ready out
-worked {D} size occasion old host new carried ready out same node saved log is begun unplanned = record {
+    → IsSent size occasion old put sessions → (IsPastLast size occasion old → ⊥) → IsWorkedOut size occasion old new sessions ready out put
+worked {D} size occasion old host new sessions carried ready out put same node saved log is begun unplanned sent numbered = record {
   node = node ∙ ap (λ (h : HostValue (FusedValue D)). worked_node size h (event_of occasion)) same;
   saved = saved ∙ ap (λ (h : HostValue (FusedValue D)). h.node.kept.saved) same;
   log = log ∙ ap (λ (h : HostValue (FusedValue D)). h.log) same;
   out = is ∙ ap (λ (h : HostValue (FusedValue D)). effects_at size h (event_of occasion)) same;
   begun = begun;
   unplanned = unplanned;
+  sent = sent;
+  numbered = numbered;
 }
 
 -- what it does is that of the log that it began with
@@ -106,31 +146,33 @@ moments_as {D} state disk out out_as mid log is same keeps =
 
 -- ---- the step is done with the log
 
-pub has_stepped : {D F X : Type 0} (size : ℕ) (occasion : Occasion) (old : Running D F X) (host new : HostValue (FusedValue D)) (carried : Carried) (out : Effects)
-    → IsWorkedOut size occasion old host carried out → new.node ≡ accept host.node → IsLogAfter out host.log new.log → GoesOn host.log.disk.fuse new.log.disk.fuse
-    → HasStepped size occasion old new carried out
-has_stepped {D} size occasion old host new carried out work node log goes = record {
+pub has_stepped : {D F X : Type 0} (size : ℕ) (occasion : Occasion) (old : Running D F X) (host new : HostValue (FusedValue D)) (sessions : SessionsValue) (carried : Carried) (out : Effects) (put : List Packet)
+    → IsWorkedOut size occasion old host sessions carried out put → new.node ≡ accept host.node → IsLogAfter out host.log new.log → GoesOn host.log.disk.fuse new.log.disk.fuse
+    → HasStepped size occasion old new sessions carried out put
+has_stepped {D} size occasion old host new sessions carried out put work node log goes = record {
   node = node ∙ ap accept work.node;
   log = subst (λ (o : Effects). IsLogAfter o old.host.log new.log) work.out (subst (λ (l : LogValue (FusedValue D)). IsLogAfter out l new.log) work.log log);
   out = work.out;
   begun = work.begun;
   unplanned = work.unplanned;
+  sent = work.sent;
+  numbered = work.numbered;
   goes = subst (λ (l : LogValue (FusedValue D)). GoesOn l.disk.fuse new.log.disk.fuse) work.log goes;
 }
 
 -- or it is cut off: memory was refused, or a call of the disk failed as the batch was forced
-cut_why : {D F X : Type 0} (own : D → ℕ) (size : ℕ) (occasion : Occasion) (old : Running D F X) (host : HostValue (FusedValue D)) (carried : Carried) (out : Effects)
-    (new : Stopped D) (fault : HostFault) → IsWorkedOut size occasion old host carried out → (fault ≡ faults.NoMemory → new.cause ≡ causes.Memory)
+cut_why : {D F X : Type 0} (own : D → ℕ) (size : ℕ) (occasion : Occasion) (old : Running D F X) (host : HostValue (FusedValue D)) (sessions : SessionsValue) (carried : Carried) (out : Effects) (put : List Packet)
+    (new : Stopped D) (fault : HostFault) → IsWorkedOut size occasion old host sessions carried out put → (fault ≡ faults.NoMemory → new.cause ≡ causes.Memory)
     → (fault ≡ faults.NoRoom → new.cause ≡ causes.Memory) → (new.is_full ≡ true ↔ fault ≡ faults.NoRoom) → (fault ≡ faults.NoRoom → LacksRoom size host.log out.records)
     → (fault ≡ faults.Disk → new.cause ≡ fault_cause own host.log.disk new.disk) → (fault ≡ faults.Disk → HasBatch out host.log)
     → (fault ≡ faults.Disk → Rose (fused_count own host.log.disk) (fused_count own new.disk)) → IsRefused size occasion old new ⊎ IsFaulted own size occasion old new
-cut_why own size occasion old host carried out new faults.NoMemory work memory room full lacks cause batch rose =
+cut_why own size occasion old host sessions carried out put new faults.NoMemory work memory room full lacks cause batch rose =
     inl (record { cause = memory refl; full = λ is. absurd (let no : faults.NoMemory ≡ faults.NoRoom = full.0 is in cc no) })
-cut_why {D} own size occasion old host carried out new faults.NoRoom work memory room full lacks cause batch rose = inl (record {
+cut_why {D} own size occasion old host sessions carried out put new faults.NoRoom work memory room full lacks cause batch rose = inl (record {
   cause = room refl;
   full = λ is. subst (λ (o : Effects). LacksRoom size old.host.log o.records) work.out (subst (λ (l : LogValue (FusedValue D)). LacksRoom size l out.records) work.log (lacks refl));
 })
-cut_why {D} own size occasion old host carried out new faults.Disk work memory room full lacks cause batch rose = inr (record {
+cut_why {D} own size occasion old host sessions carried out put new faults.Disk work memory room full lacks cause batch rose = inr (record {
   force = ap (λ (o : Effects). o.force) (sym work.out) ∙ (batch refl).force;
   batch = λ none. (batch refl).batch (ap (λ (l : LogValue (FusedValue D)). l.waiting ++ out.records) work.log ∙ ap (λ (o : Effects). old.host.log.waiting ++ o.records) work.out ∙ none);
   cause = cause refl ∙ ap (λ (l : LogValue (FusedValue D)). fault_cause own l.disk new.disk) work.log;
@@ -150,14 +192,14 @@ told_cause {D} own old new first second third trips faults cause one two three i
     told old (ap (λ (d : FusedValue D). d.fuse.trips) (sym one) ∙ sym is_trips) (ap (λ (d : FusedValue D). own d.disk) (sym two) ∙ sym is_faults)
     ∙ ap (fault_cause own old) three
 
-pub cut_short : {D F X : Type 0} (own : D → ℕ) (size : ℕ) (occasion : Occasion) (old : Running D F X) (host new : HostValue (FusedValue D)) (carried after : Carried)
-    (out : Effects) (fault : HostFault) (cause : CrashCause) (is_full : Bool) → IsWorkedOut size occasion old host carried out → new.node ≡ host.node
+pub cut_short : {D F X : Type 0} (own : D → ℕ) (size : ℕ) (occasion : Occasion) (old : Running D F X) (host new : HostValue (FusedValue D)) (sessions : SessionsValue) (carried after : Carried)
+    (out : Effects) (put : List Packet) (fault : HostFault) (cause : CrashCause) (is_full : Bool) → IsWorkedOut size occasion old host sessions carried out put → new.node ≡ host.node
     → HasCrashed (did_of occasion) cause carried after → GoesOn host.log.disk.fuse new.log.disk.fuse → (fault ≡ faults.NoMemory → cause ≡ causes.Memory)
     → (fault ≡ faults.NoRoom → cause ≡ causes.Memory) → (is_full ≡ true ↔ fault ≡ faults.NoRoom) → (fault ≡ faults.NoRoom → LacksRoom size host.log out.records)
     → (fault ≡ faults.Disk → cause ≡ fault_cause own host.log.disk new.log.disk) → (fault ≡ faults.Disk → HasBatch out host.log)
     → (fault ≡ faults.Disk → Rose (fused_count own host.log.disk) (fused_count own new.log.disk))
-    → IsCutOff own size occasion old (stopped_of cause is_full (running_with {F = F} {X = X} new after))
-cut_short {D} {F} {X} own size occasion old host new carried after out fault cause is_full work node crash goes memory room full lacks is batch rose = record {
+    → IsCutOff own size occasion old (stopped_of cause is_full (running_with {F = F} {X = X} new sessions after))
+cut_short {D} {F} {X} own size occasion old host new sessions carried after out put fault cause is_full work node crash goes memory room full lacks is batch rose = record {
   kept = ap (λ (n : NodeValue). n.kept.saved) node ∙ work.saved;
   told = crash.told ∙ ap (crashed (did_of occasion) cause) work.begun.told;
   commands = crash.commands ∙ work.begun.commands;
@@ -165,8 +207,9 @@ cut_short {D} {F} {X} own size occasion old host new carried after out fault cau
   points = crash.points ∙ work.begun.points;
   setting = crash.setting ∙ work.begun.setting;
   unplanned = work.unplanned;
+  numbered = work.numbered;
   goes = subst (λ (l : LogValue (FusedValue D)). GoesOn l.disk.fuse new.log.disk.fuse) work.log goes;
-  why = cut_why own size occasion old host carried out (stopped_of cause is_full (running_with {F = F} {X = X} new after)) fault work memory room full lacks is batch rose;
+  why = cut_why own size occasion old host sessions carried out put (stopped_of cause is_full (running_with {F = F} {X = X} new sessions after)) fault work memory room full lacks is batch rose;
 }
 
 -- it is the disk of the node that made it

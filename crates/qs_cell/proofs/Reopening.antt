@@ -74,7 +74,7 @@ outcome_rounds : {D : Type 0} (own : D → ℕ) (size : ℕ) (occasion : Occasio
     → rounds_of (state_of outcome) ≡ old.carried.chronicle.told.rounds
 outcome_rounds own size occasion old (outcomes.Whole running answers) is = ap (λ (s : Seen). s.told.rounds) is.seen ∙ rounds_begun old.carried.chronicle.told
 outcome_rounds own size occasion old (outcomes.Followed stopped answers) is =
-    ap (λ (s : Seen). s.told.rounds) is.seen ∙ rounds_stamped (stepped occasion old.carried.setting.inc (out_of size occasion old) (seen old.carried)).told
+    ap (λ (s : Seen). s.told.rounds) is.seen ∙ rounds_stamped (stepped occasion old.carried.setting.inc (out_of size occasion old) is.put (seen old.carried)).told
     ∙ rounds_begun old.carried.chronicle.told
 outcome_rounds own size occasion old (outcomes.Replaced stopped) is = ap (λ (t : Told). t.rounds) is.told ∙ rounds_begun old.carried.chronicle.told
 outcome_rounds own size occasion old (outcomes.CutOff stopped) is = ap (λ (t : Told). t.rounds) is.told ∙ rounds_begun old.carried.chronicle.told

@@ -1,5 +1,5 @@
 -- What stands of a node after an event and after a restart: its log on the disk, and its setting.
-use Rattle.std.proofs.Common.{◌≡◌, ◌⊎◌, ◌∙◌, ◌≤◌, ◌+◌, ap, subst, sym, refl, inl, inr, ℕ, Bool, true, false, List, [], ◌++◌, arith}
+use Rattle.std.proofs.Common.{◌≡◌, ◌⊎◌, ◌∙◌, ◌≤◌, ◌<◌, ◌+◌, ap, subst, sym, refl, inl, inr, ℕ, Bool, true, false, List, [], ◌++◌, arith}
 use Rattle.std.proofs.lemmas.List.{append-nil}
 use Rattle.std.specs.Prelude.{Result}
 use Rattle.std.specs.Global.{Global}
@@ -25,12 +25,13 @@ use Rattle.qs_node_step.specs.declared.event.Effects.{Effects}
 use Rattle.qs_node_step.specs.declared.setting.Setting.{Setting}
 use Rattle.qs_world.specs.Histories.{opened_with}
 use Rattle.qs_cell_chronicle.specs.Carried.{Seen}
+use Rattle.qs_cell_chronicle.specs.declared.carried.Carried.{Carried}
 use Rattle.qs_cell_chronicle.specs.declared.occasion.Occasion.{Occasion}
 use Rattle.qs_cell.specs.Logged.{GoesOn, IsLogged, StandsWithin, limit_after}
 use Rattle.qs_cell.proofs.Reopening.{RoundsGrow, damage_told, within_seen}
 use Rattle.qs_cell.proofs.Logging.{goes_on_first, logged_stands}
 use Rattle.qs_cell.specs.Cell.{IsOutcome, IfStands, StandsAfter, out_of, disk_after}
-use Rattle.qs_cell.specs.Restart.{IsRestarted, IfDamaged, IfUp, restarted_disk, found_in}
+use Rattle.qs_cell.specs.Restart.{IsRestarted, IfDamaged, IfUp, restarted_disk, found_in, inc_of}
 use Rattle.qs_cell.specs.Starts.{IsSound, IsStarted, LogGoesOn, Begins, setting_in}
 use Rattle.qs_cell.specs.State.{Up, IsSeenAs, LogStands, IsAllowed, Restarts, state_of, answers_of, state_after, answer_after, carried_of, disk_of, rounds_of}
 use Rattle.qs_cell.specs.Visits.{Makes, MakesIn}
@@ -120,19 +121,25 @@ makes_by {D} told state own size occasion from new old running fate answers up i
     (λ yes. subst (λ (d : FusedValue D). Keeps (SayTheSame (state old.host.log.disk.disk).content) (state old.host.log.disk.disk) (state d.disk)) (sym (disk_left fate running)) (header yes))
     (subst (λ (d : FusedValue D). size d.disk ≡ size old.host.log.disk.disk) (sym (disk_left fate running)) bytes))
 
+-- a setting with the same limits is allowed
+allowed_by : (carried : Carried) (s : Setting) → carried.setting ≡ s → s.extra ≤ 8 → s.keep ≤ 144 → s.nodes ≤ 8 → s.node.0 < s.nodes → IsAllowed carried
+allowed_by carried s same extra keep nodes node = record {
+  batch = subst (λ (t : Setting). t.extra ≤ 8) (sym same) extra;
+  keep = subst (λ (t : Setting). t.keep ≤ 144) (sym same) keep;
+  nodes = subst (λ (t : Setting). t.nodes ≤ 8) (sym same) nodes;
+  node = subst (λ (t : Setting). t.node.0 < t.nodes) (sym same) node;
+}
+
 -- what is seen changes alone
 pub sound_seen : {D : Type 0} (told : Type 0) (state : D → DiskState) (opened : Opened) (f : Seen → Seen) (old new : CellState D) → RoundsGrow f → IsSeenAs f old new
     → IsSound told state opened old → IsSound told state opened new
 sound_seen told state opened f (states.Up old) (states.Up new) grows is sound = record {
-  stands = λ yes. subst (λ h. Stands h.log (state h.log.disk.disk)) (sym is.0) (sound.stands yes);
-  goes_on = λ yes. subst (λ h. GoesOn opened h.log.forced) (sym is.0) (sound.goes_on yes);
-  logged = λ yes. subst (λ h. IsLogged opened (state h.log.disk.disk).now) (sym is.0) (sound.logged yes);
-  within = λ yes. subst (λ h. StandsWithin new.carried.chronicle.told.rounds (state h.log.disk.disk).now) (sym is.0)
+  stands = λ yes. subst (λ h. Stands h.log (state h.log.disk.disk)) (sym is.0.0) (sound.stands yes);
+  goes_on = λ yes. subst (λ h. GoesOn opened h.log.forced) (sym is.0.0) (sound.goes_on yes);
+  logged = λ yes. subst (λ h. IsLogged opened (state h.log.disk.disk).now) (sym is.0.0) (sound.logged yes);
+  within = λ yes. subst (λ h. StandsWithin new.carried.chronicle.told.rounds (state h.log.disk.disk).now) (sym is.0.0)
       (within_seen f grows old.carried new.carried is.1.0 (state old.host.log.disk.disk).now (sound.within yes));
-  allowed = record {
-    batch = subst (λ (s : Setting). s.extra ≤ 8) (sym is.1.1) sound.allowed.batch;
-    keep = subst (λ (s : Setting). s.keep ≤ 144) (sym is.1.1) sound.allowed.keep;
-  };
+  allowed = allowed_by new.carried old.carried.setting is.1.1 sound.allowed.batch sound.allowed.keep sound.allowed.nodes sound.allowed.node;
 }
 sound_seen told state opened f (states.Down old) (states.Down new) grows is sound = record {
   stands = λ yes. tt;
@@ -140,10 +147,7 @@ sound_seen told state opened f (states.Down old) (states.Down new) grows is soun
   logged = λ yes. subst (λ d. IsLogged opened (state d.disk).now) (sym is.0) (sound.logged yes);
   within = λ yes. subst (λ d. StandsWithin new.carried.chronicle.told.rounds (state d.disk).now) (sym is.0)
       (within_seen f grows old.carried new.carried is.1.1.1.0 (state old.disk.disk).now (sound.within yes));
-  allowed = record {
-    batch = subst (λ (s : Setting). s.extra ≤ 8) (sym is.1.1.1.1) sound.allowed.batch;
-    keep = subst (λ (s : Setting). s.keep ≤ 144) (sym is.1.1.1.1) sound.allowed.keep;
-  };
+  allowed = allowed_by new.carried old.carried.setting is.1.1.1.1 sound.allowed.batch sound.allowed.keep sound.allowed.nodes sound.allowed.node;
 }
 sound_seen told state opened f (states.Up old) (states.Down new) grows is sound = absurd is
 sound_seen told state opened f (states.Down old) (states.Up new) grows is sound = absurd is
@@ -158,10 +162,7 @@ sound_after told state opened old new stands goes_on logged within setting sound
   goes_on = goes_on;
   logged = logged;
   within = within;
-  allowed = record {
-    batch = subst (λ (s : Setting). s.extra ≤ 8) (sym setting) sound.allowed.batch;
-    keep = subst (λ (s : Setting). s.keep ≤ 144) (sym setting) sound.allowed.keep;
-  };
+  allowed = allowed_by (carried_of new) (carried_of old).setting setting sound.allowed.batch sound.allowed.keep sound.allowed.nodes sound.allowed.node;
 }
 
 -- ---- a start
@@ -195,14 +196,11 @@ started_of {D} told state alloc disk setting ends plan log running found faults 
 -- the node that began holds what is asked of each
 pub sound_started : {D : Type 0} (told : Type 0) (state : D → DiskState) (alloc : Global) (setting : Setting) (crashes : List ℕ) (points : List Point)
     (log : LogValue (FusedValue D)) (running : Up D) (found : Recovered) → Begins alloc setting crashes points log running → found ≡ found_in log → log.waiting ≡ []
-    → setting.extra ≤ 8 → setting.keep ≤ 144 → (told → Stands log (state log.disk.disk))
+    → setting.extra ≤ 8 → setting.keep ≤ 144 → setting.nodes ≤ 8 → setting.node.0 < setting.nodes → (told → Stands log (state log.disk.disk))
     → (told → EachImage (StandBelow (open_limit + 1)) (state log.disk.disk).now) → IsSound told state (opened_with running.carried.setting found) (states.Up running)
-sound_started {D} told state alloc setting crashes points log running found begins is none extra keep stands below = record {
+sound_started {D} told state alloc setting crashes points log running found begins is none extra keep nodes node stands below = record {
   stands = now;
-  allowed = record {
-    batch = subst (λ (s : Setting). s.extra ≤ 8) (sym begins.setting) extra;
-    keep = subst (λ (s : Setting). s.keep ≤ 144) (sym begins.setting) keep;
-  };
+  allowed = allowed_by running.carried (setting_in log setting) begins.setting extra keep nodes node;
   goes_on = λ is_told. on;
   logged = λ is_told. logged_stands (opened_with running.carried.setting found) running.host.log (state running.host.log.disk.disk) (now is_told) on;
   within = λ is_told few image here. stand_below (open_limit + 1) (limit_after running.carried.chronicle.told.rounds) image (omega arith)
@@ -272,11 +270,6 @@ stands_restarted state (restarts.Down stopped why) stands = tt
 
 pub allowed_restarted : {D : Type 0} (own : D → ℕ) (alloc : Global) (old : Stopped D) (restarted : Restarted D Files NoServer) → IsRestarted own alloc old restarted
     → IsAllowed old.carried → IsAllowed (carried_of (state_after restarted))
-allowed_restarted own alloc old (restarts.Up running) is allowed = record {
-  batch = subst (λ (s : Setting). s.extra ≤ 8) (sym is.setting) allowed.batch;
-  keep = subst (λ (s : Setting). s.keep ≤ 144) (sym is.setting) allowed.keep;
-}
-allowed_restarted own alloc old (restarts.Down stopped why) is allowed = record {
-  batch = subst (λ (s : Setting). s.extra ≤ 8) (sym is.0.setting) allowed.batch;
-  keep = subst (λ (s : Setting). s.keep ≤ 144) (sym is.0.setting) allowed.keep;
-}
+allowed_restarted own alloc old (restarts.Up running) is allowed =
+    allowed_by running.carried (record old.carried.setting { inc = inc_of running.host.log }) is.setting allowed.batch allowed.keep allowed.nodes allowed.node
+allowed_restarted own alloc old (restarts.Down stopped why) is allowed = allowed_by stopped.carried old.carried.setting is.0.setting allowed.batch allowed.keep allowed.nodes allowed.node

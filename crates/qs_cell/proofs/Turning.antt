@@ -111,7 +111,7 @@ on_ok_map (Ok t) a f = f a
 on_ok_map (Err e) a f = a
 
 pub same_node : {D : Type 0} (node : CellState D) → IsSameNode node node
-same_node (states.Up running) = (refl, (refl, refl))
+same_node (states.Up running) = ((refl, refl), (refl, refl))
 same_node (states.Down stopped) = (refl, (refl, ((refl, refl), (refl, refl))))
 
 -- refused before the first turn

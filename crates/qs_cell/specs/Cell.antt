@@ -1,7 +1,11 @@
 -- What an event of a cell does: a whole step, a crash right behind it, a crash in place of it, or one that cuts it off.
-use Rattle.std.specs.Prelude.{◌≡◌, ◌≢◌, ◌⊎◌, ℕ, ◌==◌, ◌&&◌, Bool, true, false, List, [], ◌++◌, map, Option, Some, None, if◌then◌else◌}
+use Rattle.std.specs.Prelude.{◌≡◌, ◌≢◌, ◌⊎◌, ℕ, ◌==◌, ◌-◌, ◌^◌, ◌&&◌, Bool, true, false, List, [], ◌++◌, map, Option, Some, None, if◌then◌else◌}
 use Rattle.std.specs.List.{list_any}
 use Rattle.qs_base.specs.Causes.{Rose}
+use Rattle.qs_base.specs.declared.memory.GrowFault.{GrowFault}
+use Rattle.qs_base.specs.declared.memory.GrowFault.TheVariants as grow_faults
+use Rattle.qs_cell_peers.specs.Sessions.{LacksNumber, SessionsValue}
+use Rattle.qs_cell_peers.specs.Steps.{Sends}
 use Rattle.qs_disk.specs.Disk.{DiskState}
 use Rattle.qs_disk.specs.Fuse.{FusedValue, GoesOn, fused_count}
 use Rattle.qs_engage.specs.Engage.{last_number}
@@ -11,6 +15,7 @@ use Rattle.qs_book_journal.specs.declared.entry.CrashCause.{CrashCause}
 use Rattle.qs_book_journal.specs.declared.entry.CrashCause.TheVariants as causes
 use Rattle.qs_log.specs.Log.{LogValue, Stands}
 use Rattle.qs_book_machine.specs.Clauses.{is_crash}
+use Rattle.qs_packet.specs.declared.packet.Packet.{Packet}
 use Rattle.qs_node_step.specs.Counted.{is_all_counted}
 use Rattle.qs_node_step.specs.State.{NodeValue}
 use Rattle.qs_node_step.specs.declared.event.ClientAnswer.{ClientAnswer}
@@ -34,10 +39,10 @@ use Rattle.qs_cell_chronicle.specs.Points.{stops_before, stops_after, spent, aft
 abbrev pub begun : Told → Told
 begun told = stamped (numbered told)
 
--- the step stands whole
-abbrev pub stepped : Occasion → ℕ → Effects → Seen → Seen
-stepped occasion inc out s = record s {
-  told = noted (did_of occasion) out.entries None (begun s.told);
+-- the step stands whole, and puts these packets to the links
+abbrev pub stepped : Occasion → ℕ → Effects → List Packet → Seen → Seen
+stepped occasion inc out put s = record s {
+  told = noted (did_of occasion) put out.entries None (begun s.told);
   commands = answered out.answers (taken occasion inc s.commands);
   points = map (after_entries out.entries) s.points;
 }
@@ -93,14 +98,40 @@ IsUnplanned size occasion old = planned (may_make old.host.node occasion) (out_o
 abbrev pub is_followed : {D F X : Type 0} → ℕ → Occasion → Running D F X → Bool
 is_followed size occasion old = list_any (stops_after (out_of size occasion old).entries) old.carried.points.items
 
+-- ---- what it sends
+
+-- sessions tick as time passes
+abbrev pub ticks : Occasion → Bool
+ticks (occasions.Command line) = false
+ticks occasions.Queues = false
+ticks occasions.Clock = true
+
+-- the step's messages go over the node's sessions with the step's stamp, in order; what goes of them is put to the links
+abbrev pub IsSent : {D F X : Type 0} → ℕ → Occasion → Running D F X → List Packet → SessionsValue → Type 0
+IsSent size occasion old put new = Sends (ticks occasion) (begun old.carried.chronicle.told).stamp (out_of size occasion old).messages old.sessions put new
+
+-- why a node stops whose sessions could not send
+abbrev pub unsent_cause : GrowFault → CrashCause
+unsent_cause (grow_faults.Last value) = causes.Last value
+unsent_cause grow_faults.NoMemory = causes.Memory
+
+-- a message would get a number past the last one
+abbrev pub IsPastLast : {D F X : Type 0} → ℕ → Occasion → Running D F X → Type 0
+IsPastLast size occasion old = LacksNumber old.sessions (out_of size occasion old).messages
+
+-- ---- what comes of it
+
 -- a whole step: no crash was to stand in place of it or behind it
 pub record IsWhole {D F X : Type 0} (size : ℕ) (occasion : Occasion) (old new : Running D F X) (said : List ClientAnswer) : Type 0 where
+  pub put : List Packet
+  pub sent : IsSent size occasion old put new.sessions
   pub node : new.host.node ≡ node_after size old.host (event_of occasion)
   pub log : IsLogAfter (out_of size occasion old) old.host.log new.host.log
   pub answers : said ≡ (out_of size occasion old).answers
-  pub seen : seen new.carried ≡ stepped occasion old.carried.setting.inc (out_of size occasion old) (seen old.carried)
+  pub seen : seen new.carried ≡ stepped occasion old.carried.setting.inc (out_of size occasion old) put (seen old.carried)
   pub setting : new.carried.setting ≡ old.carried.setting
   pub unplanned : IsUnplanned size occasion old
+  pub numbered : IsPastLast size occasion old → ⊥
   pub unfollowed : is_followed size occasion old ≡ false
   pub goes : GoesOn old.host.log.disk.fuse new.host.log.disk.fuse
 
@@ -110,12 +141,16 @@ stopped_behind s = record s { told = crashed dids.Nothing causes.Plan (stamped s
 
 -- a whole step, and a crash right behind it
 pub record IsFollowed {D F X : Type 0} (size : ℕ) (occasion : Occasion) (old : Running D F X) (new : Stopped D) (said : List ClientAnswer) : Type 0 where
+  pub put : List Packet
+  pub left : SessionsValue
+  pub sent : IsSent size occasion old put left
   pub kept : new.kept ≡ (node_after size old.host (event_of occasion)).kept.saved
   pub answers : said ≡ (out_of size occasion old).answers
   pub cause : new.cause ≡ causes.Plan
-  pub seen : seen new.carried ≡ stopped_behind (stepped occasion old.carried.setting.inc (out_of size occasion old) (seen old.carried))
+  pub seen : seen new.carried ≡ stopped_behind (stepped occasion old.carried.setting.inc (out_of size occasion old) put (seen old.carried))
   pub setting : new.carried.setting ≡ old.carried.setting
   pub unplanned : IsUnplanned size occasion old
+  pub numbered : IsPastLast size occasion old → ⊥
   pub followed : is_followed size occasion old ≡ true
   pub full : new.is_full ≡ false
   pub goes : GoesOn old.host.log.disk.fuse new.disk.fuse
@@ -126,6 +161,14 @@ pub record IsAsPlanned {D F X : Type 0} (size : ℕ) (occasion : Occasion) (old 
   pub commands : new.carried.commands ≡ taken occasion old.carried.setting.inc old.carried.commands
   pub points : new.carried.points.items ≡ spent_after (may_make old.host.node occasion) (out_of size occasion old) (seen old.carried) (ordered (seen old.carried))
 
+-- as a message has no number left, of which the session tells its last value
+pub record IsUnnumbered {D F X : Type 0} (size : ℕ) (occasion : Occasion) (old : Running D F X) (new : Stopped D) : Type 0 where
+  pub unplanned : IsUnplanned size occasion old
+  pub lacks : IsPastLast size occasion old
+  pub cause : new.cause ≡ causes.Last (2 ^ 62 - 1)
+  pub commands : new.carried.commands ≡ taken occasion old.carried.setting.inc old.carried.commands
+  pub points : new.carried.points.items ≡ old.carried.points.items
+
 -- a crash in place of the event: nothing of it is done, and the disk is as it was
 pub record IsReplaced {D F X : Type 0} (size : ℕ) (occasion : Occasion) (old : Running D F X) (new : Stopped D) : Type 0 where
   pub disk : new.disk ≡ old.host.log.disk
@@ -134,7 +177,7 @@ pub record IsReplaced {D F X : Type 0} (size : ℕ) (occasion : Occasion) (old :
   pub crashes : new.carried.crashes ≡ old.carried.crashes
   pub setting : new.carried.setting ≡ old.carried.setting
   pub full : new.is_full ≡ false
-  pub why : (new.cause ≡ causes.Memory) ⊎ IsAsPlanned size occasion old new
+  pub why : (new.cause ≡ causes.Memory) ⊎ (IsAsPlanned size occasion old new ⊎ IsUnnumbered size occasion old new)
 
 -- a call of the disk failed, as the batch of the step was forced
 pub record IsFaulted {D F X : Type 0} (own : D → ℕ) (size : ℕ) (occasion : Occasion) (old : Running D F X) (new : Stopped D) : Type 0 where
@@ -158,6 +201,7 @@ pub record IsCutOff {D F X : Type 0} (own : D → ℕ) (size : ℕ) (occasion : 
   pub points : new.carried.points.items ≡ old.carried.points.items
   pub setting : new.carried.setting ≡ old.carried.setting
   pub unplanned : IsUnplanned size occasion old
+  pub numbered : IsPastLast size occasion old → ⊥
   pub goes : GoesOn old.host.log.disk.fuse new.disk.fuse
   pub why : IsRefused size occasion old new ⊎ IsFaulted own size occasion old new
 

@@ -1,7 +1,8 @@
 -- What a restart finds on the disk, and what it makes of the cell.
-use Rattle.std.specs.Prelude.{◌≡◌, ◌↔◌, ℕ, [], ◌∷◌, map, None}
+use Rattle.std.specs.Prelude.{◌≡◌, ◌↔◌, ℕ, true, [], ◌∷◌, map, None}
 use Rattle.std.specs.Global.{Global}
 use Rattle.qs_base.specs.Causes.{Rose}
+use Rattle.qs_cell_peers.specs.Sessions.{SessionsValue, ends_of, is_peer_of}
 use Rattle.qs_disk.specs.Disk.{DiskState}
 use Rattle.qs_disk.specs.Fuse.{FusedValue}
 use Rattle.qs_log_start.specs.Incarnation.{HasTripped, IsLeftDamaged}
@@ -11,9 +12,11 @@ use Rattle.qs_book_journal.specs.declared.entry.Act.{Act}
 use Rattle.qs_book_journal.specs.declared.entry.Act.TheVariants as acts
 use Rattle.qs_book_journal.specs.declared.entry.Found.{Found}
 use Rattle.qs_log.specs.Log.{LogValue, records_of}
+use Rattle.qs_session_channels.specs.End.{fresh}
 use Rattle.qs_restart.specs.declared.recovered.OpenVote.{OpenVote}
 use Rattle.qs_restart.specs.declared.recovered.Recovered.{Recovered}
 use Rattle.qs_node_step.specs.Opening.{recovered_of, opened_node}
+use Rattle.qs_node_step.specs.declared.setting.Setting.{Setting}
 use Rattle.qs_node_step.specs.declared.trace.Did.TheVariants as dids
 use Rattle.qs_cell.specs.declared.running.Running.{Running}
 use Rattle.qs_cell.specs.declared.stopped.Restarted.{Restarted}
@@ -32,7 +35,7 @@ restart_of inc found = acts.Restart inc (map found_of found.votes) found.committ
 
 -- it is a step of its own, with the next stamp
 abbrev pub risen : ℕ → Recovered → Seen → Seen
-risen inc found s = record s { told = noted (dids.Restart inc) (restart_of inc found ∷ []) None (stamped (in_round s.told)) }
+risen inc found s = record s { told = noted (dids.Restart inc) [] (restart_of inc found ∷ []) None (stamped (in_round s.told)) }
 
 abbrev pub inc_of : {D : Type 0} → LogValue D → ℕ
 inc_of log = log.slots.present.value.inc
@@ -40,10 +43,17 @@ inc_of log = log.slots.present.value.inc
 abbrev pub found_in : {D : Type 0} → LogValue D → Recovered
 found_in log = recovered_of (records_of log)
 
+-- the sessions of a node whose incarnation has met nobody
+pub record AreNew (setting : Setting) (sessions : SessionsValue) : Type 0 where
+  pub size : sessions.size ≡ setting.nodes
+  pub me : sessions.me ≡ setting.node
+  pub fresh : (m : ℕ) → is_peer_of sessions m ≡ true → ends_of sessions m ≡ fresh setting.inc
+
 -- the node is up in the incarnation that its log was raised to, with what the log says and what it kept for its clients
 pub record IsUp {D F X : Type 0} (alloc : Global) (old : Stopped D) (new : Running D F X) : Type 0 where
   pub setting : new.carried.setting ≡ record old.carried.setting { inc = inc_of new.host.log }
   pub node : new.host.node ≡ opened_node alloc new.carried.setting (found_in new.host.log) old.kept
+  pub sessions : AreNew new.carried.setting new.sessions
   pub seen : seen new.carried ≡ risen (inc_of new.host.log) (found_in new.host.log) (seen old.carried)
 
 -- one more round

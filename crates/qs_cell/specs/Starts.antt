@@ -19,7 +19,7 @@ use Rattle.qs_world.specs.Histories.{opened_with}
 use Rattle.qs_cell_chronicle.specs.Carried.{Seen, seen}
 use Rattle.qs_cell_chronicle.specs.Chronicle.{new_told}
 use Rattle.qs_cell.specs.Logged.{GoesOn, IsLogged, StandsWithin}
-use Rattle.qs_cell.specs.Restart.{inc_of, found_in}
+use Rattle.qs_cell.specs.Restart.{AreNew, inc_of, found_in}
 use Rattle.qs_cell.specs.State.{Up, LogStands, IsAllowed, carried_of, disk_of, rounds_of}
 use Rattle.qs_cell.specs.Visits.{Seat}
 use Rattle.qs_cell.specs.declared.starting.CellOpen.{CellOpen}
@@ -69,6 +69,7 @@ setting_in log setting = record setting { inc = inc_of log }
 -- a node begins with what its log says
 pub record Begins {D : Type 0} (alloc : Global) (given : Setting) (crashes : List ℕ) (points : List Point) (log : LogValue (FusedValue D)) (new : Up D) : Type 0 where
   pub host : new.host ≡ opened_host alloc (setting_in log given) no_kept log
+  pub sessions : AreNew new.carried.setting new.sessions
   pub setting : new.carried.setting ≡ setting_in log given
   pub seen : seen new.carried ≡ seen_first given.node crashes points
 

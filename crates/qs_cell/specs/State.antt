@@ -1,5 +1,5 @@
 -- A node that is up, or down.
-use Rattle.std.specs.Prelude.{◌≡◌, ◌⊎◌, ◌≤◌, ℕ, Bool, true, false, List, [], Option, Some, None, Result, Ok, Err}
+use Rattle.std.specs.Prelude.{◌≡◌, ◌⊎◌, ◌≤◌, ◌<◌, ℕ, Bool, true, false, List, [], Option, Some, None, Result, Ok, Err}
 use Rattle.std.specs.Global.{Global}
 use Rattle.qs_disk.specs.Disk.{DiskState, EachImage}
 use Rattle.qs_disk.specs.Fuse.{FusedValue, GoesOn, mended}
@@ -65,7 +65,7 @@ is_settled_node (states.Down stopped) = false
 -- what is seen of the cell is this, and else all of the node is as it was
 abbrev pub IsSeenAs : {D : Type 0} → (Seen → Seen) → CellState D → CellState D → Type 0
 IsSeenAs f (states.Up old) (states.Up new) =
-    (new.host ≡ old.host) × ((seen new.carried ≡ f (seen old.carried)) × (new.carried.setting ≡ old.carried.setting))
+    ((new.host ≡ old.host) × (new.sessions ≡ old.sessions)) × ((seen new.carried ≡ f (seen old.carried)) × (new.carried.setting ≡ old.carried.setting))
 IsSeenAs f (states.Down old) (states.Down new) =
     (new.disk ≡ old.disk) × ((new.kept ≡ old.kept) × (((new.cause ≡ old.cause) × (new.is_full ≡ old.is_full))
     × ((seen new.carried ≡ f (seen old.carried)) × (new.carried.setting ≡ old.carried.setting))))
@@ -142,3 +142,5 @@ LogStands state (states.Down stopped) = Unit {0}
 pub record IsAllowed (carried : Carried) : Type 0 where
   pub batch : carried.setting.extra ≤ 8
   pub keep : carried.setting.keep ≤ 144
+  pub nodes : carried.setting.nodes ≤ 8
+  pub node : carried.setting.node.0 < carried.setting.nodes

@@ -95,6 +95,8 @@ impl<D: Disk> NodeCell<D> {
     ) -> Result<NodeCell<D>, CellOpen<D>>
         requires batch { setting.extra ≤ 8 }
         requires keep { setting.keep ≤ 144 }
+        requires nodes { setting.nodes ≤ 8 }
+        requires node { setting.node.0 < setting.nodes }
         ensures started { IfOk result (IsStarted D.told D.state alloc disk.disk setting ends.items plan) }
         ensures faults { IfOk result (λ cell. cell.faults ≡ D.fault_count disk.disk) }
 

@@ -1,5 +1,5 @@
 //! A node that is up: its events.
-ghost use Rattle.std.specs.Prelude.{◌≡◌, ◌↔◌, ℕ, ◌+◌, true, None, map, length, OnOk, IfOk};
+ghost use Rattle.std.specs.Prelude.{◌≡◌, ◌↔◌, ℕ, ◌+◌, ◌-◌, ◌<◌, ◌^◌, true, None, Err, map, length, OnOk, IfOk};
 ghost use Rattle.qs_disk.specs.Moments.{Keeps};
 ghost use Rattle.qs_disk.specs.Fuse.{FusedValue};
 ghost use Rattle.qs_node_host.specs.Host.{IsOldOrAfter, worked_node, effects_at};
@@ -14,24 +14,29 @@ ghost use Rattle.qs_cell_chronicle.specs.Carried.{seen, answered};
 ghost use Rattle.qs_cell_chronicle.specs.Occasions.{taken, event_of, did_of};
 ghost use Rattle.qs_cell_chronicle.specs.Points.{after_entries};
 ghost use Rattle.qs_slot.specs.Slot.{SayTheSame};
-ghost use Rattle.qs_cell.specs.Cell.{begun, ordered, why_not, may_make, fault_cause, out_of, IsOutcome, IfStands, StandsAfter};
+ghost use Rattle.qs_base.specs.declared.memory.GrowFault.TheVariants.{Last};
+ghost use Rattle.qs_cell_peers.specs.Sessions.{LacksNumber, SessionsValue};
+ghost use Rattle.qs_cell_peers.specs.Steps.{Sends};
+ghost use Rattle.qs_cell.specs.Cell.{begun, ordered, why_not, may_make, ticks, unsent_cause, fault_cause, out_of, IsOutcome, IfStands, StandsAfter};
 ghost use Rattle.qs_cell.specs.Outcomes.{stopped_of, outcome_of};
 ghost use Rattle.qs_cell.specs.Roomy.{ComesNew, IsRoomyOutcome};
 ghost use Rattle.qs_cell.specs.Within.{HasBegun, HasCrashed, IsWorkedOut, HasStepped, running_with};
 ghost use Rattle.qs_cell.specs.declared.running.Fate.TheVariants as fates;
 
 use crate::stopped::Stopped;
-use qs_base::{ClientNo, List, NoMemory};
+use qs_base::{ClientNo, GrowFault, List, NoMemory, Stamp};
 use qs_base_map::Map;
 use qs_book_journal::{Act, CrashCause};
 use qs_cell_chronicle::{
     Carried, HeldCommand, LAST_STAMP, Occasion, answer_all, any_stops_after, any_stops_before,
     is_replaced, pass, spend, take_in_hand,
 };
+use qs_cell_peers::Sessions;
 use qs_disk::{Disk, Fused};
 use qs_node_host::{Host, HostFault};
 use qs_node_step::{ClientAnswer, Did, Effects};
 use qs_ops::Server;
+use qs_packet::Packet;
 
 /// A server can count as many requests of a transaction.
 const LAST_NUMBER: u64 = 4_294_967_295;
@@ -40,6 +45,8 @@ const LAST_NUMBER: u64 = 4_294_967_295;
 #[derive(Drop)]
 pub struct Running<D: Disk, F: Server, X: Server> {
     pub host: Host<Fused<D>, F, X>,
+    /// The sessions of its incarnation with the other nodes.
+    pub sessions: Sessions,
     pub carried: Carried,
 }
 
@@ -58,11 +65,13 @@ pub enum Fate {
 
 impl<D: Disk, F: Server, X: Server> Running<D, F, X> {
     /// An event: it takes its number and the next stamp. Then, in this order: the last stamp or a line `crash` stops the
-    /// node in place of it; what waits at the servers does, where not all of it can be counted; a line `before` does, where the whole step would make the entry that it names; the force is cut
-    /// off; the step stands; a line `after` stops the node behind it. Memory that is refused stops the node as well, and so does
-    /// a step with a record or a message that has no spelling, in place of the event, and a log with no room for a record, which
-    /// over a roomy host never comes. Room for a crash is to be made before. Where the node is stopped only `into_stopped` is to
-    /// be called.
+    /// node in place of it; what waits at the servers does, where not all of it can be counted; a line `before` does,
+    /// where the whole step would make the entry that it names; a message that finds no number does; the force is cut
+    /// off; the step stands, and its packets are in the trace; a line `after` stops the node behind it.
+    ///
+    /// Memory that is refused stops the node as well, and so does a step with a record or a message that has no spelling,
+    /// in place of the event, and a log with no room for a record, which over a roomy host never comes. Room for a crash
+    /// is to be made before. Where the node is stopped only `into_stopped` is to be called.
     pub fn event(&mut self, occasion: Occasion) -> Fate
         requires stands { D.told → Stands self.old.host.log (D.state self.old.host.log.disk.disk) }
         requires room { HasRoom 1 1 self.old.carried.chronicle }
@@ -84,7 +93,12 @@ impl<D: Disk, F: Server, X: Server> Running<D, F, X> {
             → Keeps (HasRoomyLog keep (D.byte_count self.old.host.log.disk.disk)) (D.state self.old.host.log.disk.disk) (D.state self.new.host.log.disk.disk) }
     {
         match begin(&mut self.carried, &occasion) {
-            Ok(None) => worked_out(&mut self.host, &mut self.carried, occasion),
+            Ok(None) => worked_out(
+                &mut self.host,
+                &mut self.sessions,
+                &mut self.carried,
+                occasion,
+            ),
             Ok(Some(cause)) => replaced(&mut self.carried, occasion, cause),
             Err(NoMemory) => replaced(&mut self.carried, occasion, CrashCause::Memory),
         }
@@ -94,7 +108,7 @@ impl<D: Disk, F: Server, X: Server> Running<D, F, X> {
     pub fn into_stopped(self, cause: CrashCause, is_full: bool) -> Stopped<D>
         ensures { result ≡ stopped_of cause is_full self }
     {
-        let Running { host, carried } = self;
+        let Running { host, carried, .. } = self;
         let (disk, kept, _) = host.into_parts();
         Stopped {
             disk,
@@ -159,18 +173,20 @@ fn take(
     }
 }
 
-/// What the event brings about is worked out, unless a count would rise past its last value; a line of the script may stop the
-/// node in place of it.
+/// What the event brings about is worked out, unless a count would rise past its last value; a line of the script may
+/// stop the node in place of it. Its messages go over the sessions before anything is done with the log, so that a step
+/// sends all or nothing; no packet is put to a link yet.
 fn worked_out<D: Disk, F: Server, X: Server>(
     host: &mut Host<Fused<D>, F, X>,
+    sessions: &mut Sessions,
     carried: &mut Carried,
     occasion: Occasion,
 ) -> Fate
     requires stands { D.told → Stands host.old.log (D.state host.old.log.disk.disk) }
     requires room { HasRoom 1 1 carried.old.chronicle }
-    ensures outcome { (old : Running D F X) → host.old ≡ old.host → HasBegun occasion old.carried carried.old → ordered (seen old.carried) ≡ None
-        → IsOutcome D.fault_count (D.byte_count host.old.log.disk.disk) occasion old (outcome_of result (running_with host.new carried.new)) }
-    ensures stands { D.told → IfStands (outcome_of result (running_with {F = F} {X = X} host.new carried.new)) (λ disk. StandsAfter (effects_at (D.byte_count host.old.log.disk.disk) host.old (event_of occasion)) host.old.log disk (D.state disk.disk)) }
+    ensures outcome { (old : Running D F X) → host.old ≡ old.host → sessions.old ≡ old.sessions → HasBegun occasion old.carried carried.old → ordered (seen old.carried) ≡ None
+        → IsOutcome D.fault_count (D.byte_count host.old.log.disk.disk) occasion old (outcome_of result (running_with host.new sessions.new carried.new)) }
+    ensures stands { D.told → IfStands (outcome_of result (running_with {F = F} {X = X} host.new sessions.new carried.new)) (λ disk. StandsAfter (effects_at (D.byte_count host.old.log.disk.disk) host.old (event_of occasion)) host.old.log disk (D.state disk.disk)) }
     ensures moments { D.told → Keeps (IsOldOrAfter (effects_at (D.byte_count host.old.log.disk.disk) host.old (event_of occasion)) host.old.log)
         (D.state host.old.log.disk.disk) (D.state host.new.log.disk.disk) }
     ensures header { D.told → Keeps (SayTheSame (D.state host.old.log.disk.disk).content) (D.state host.old.log.disk.disk) (D.state host.new.log.disk.disk) }
@@ -186,6 +202,10 @@ fn worked_out<D: Disk, F: Server, X: Server>(
         spend(&mut carried.points, out.entries.as_slice());
         return replaced(carried, occasion, CrashCause::Plan);
     }
+    let put = match send(sessions, carried.chronicle.stamp(), &occasion, &out) {
+        Ok(put) => put,
+        Err(fault) => return replaced(carried, occasion, cause_of(fault)),
+    };
     if carried
         .chronicle
         .make_room(out.entries.len() + 1, 2)
@@ -193,7 +213,37 @@ fn worked_out<D: Disk, F: Server, X: Server>(
     {
         return replaced(carried, occasion, CrashCause::Memory);
     }
-    carried_out(host, carried, occasion, out)
+    carried_out(host, carried, occasion, out, put)
+}
+
+/// What the step sends; the sessions tick where time passes.
+fn send(
+    sessions: &mut Sessions,
+    stamp: Stamp,
+    occasion: &Occasion,
+    out: &Effects,
+) -> Result<List<Packet>, GrowFault>
+    requires spelled { AreSpelled out.now }
+    requires stamp { stamp < 2 ^ 62 }
+    ensures sent { IfOk result (λ put. Sends (ticks occasion.now) stamp out.now.messages sessions.old put sessions.new) }
+    ensures numbered { OnOk result (LacksNumber sessions.old out.now.messages → ⊥) }
+    ensures last { (value : ℕ) → result ≡ Err (Last value) → (value ≡ 2 ^ 62 - 1) × LacksNumber sessions.old out.now.messages }
+{
+    sessions.send_step(
+        out.messages.as_slice(),
+        stamp,
+        matches!(occasion, Occasion::Clock),
+    )
+}
+
+/// Why a node stops whose sessions could not send.
+fn cause_of(fault: GrowFault) -> CrashCause
+    ensures { result ≡ unsent_cause fault }
+{
+    match fault {
+        GrowFault::Last { value } => CrashCause::Last { value },
+        GrowFault::NoMemory => CrashCause::Memory,
+    }
 }
 
 /// Whether no count would rise past its last value: what waits is served where all of it can be counted.
@@ -227,13 +277,15 @@ fn carried_out<D: Disk, F: Server, X: Server>(
     carried: &mut Carried,
     occasion: Occasion,
     out: Effects,
+    put: List<Packet>,
 ) -> Fate
     requires spelled { AreSpelled out }
     requires stands { D.told → Stands host.old.log (D.state host.old.log.disk.disk) }
     requires room { HasRoom (length out.entries + 1) 2 carried.old.chronicle }
-    ensures outcome { (size : ℕ) (old : Running D F X) → size ≡ D.byte_count host.old.log.disk.disk → IsWorkedOut size occasion old host.old carried.old out
-        → IsOutcome D.fault_count size occasion old (outcome_of result (running_with host.new carried.new)) }
-    ensures stands { D.told → IfStands (outcome_of result (running_with {F = F} {X = X} host.new carried.new)) (λ disk. StandsAfter out host.old.log disk (D.state disk.disk)) }
+    ensures outcome { (size : ℕ) (old : Running D F X) (sessions : SessionsValue) → size ≡ D.byte_count host.old.log.disk.disk
+        → IsWorkedOut size occasion old host.old sessions carried.old out put
+        → IsOutcome D.fault_count size occasion old (outcome_of result (running_with host.new sessions carried.new)) }
+    ensures stands { D.told → (sessions : SessionsValue) → IfStands (outcome_of result (running_with {F = F} {X = X} host.new sessions carried.new)) (λ disk. StandsAfter out host.old.log disk (D.state disk.disk)) }
     ensures moments { D.told → Keeps (IsOldOrAfter out host.old.log) (D.state host.old.log.disk.disk) (D.state host.new.log.disk.disk) }
     ensures header { D.told → Keeps (SayTheSame (D.state host.old.log.disk.disk).content) (D.state host.old.log.disk.disk) (D.state host.new.log.disk.disk) }
     ensures size { D.byte_count host.new.log.disk.disk ≡ D.byte_count host.old.log.disk.disk }
@@ -241,7 +293,7 @@ fn carried_out<D: Disk, F: Server, X: Server>(
     let trips = host.disk().trips();
     let own = host.disk().own_faults();
     match host.carry_out(&out) {
-        Ok(()) => whole(host, carried, occasion, out),
+        Ok(()) => whole(host, carried, occasion, out, put),
         Err(why) => {
             let cause = cut_cause(why, host.disk(), trips, own);
             cut_off(carried, occasion, cause, is_full(why))
@@ -304,10 +356,11 @@ fn whole<D: Disk, F: Server, X: Server>(
     carried: &mut Carried,
     occasion: Occasion,
     out: Effects,
+    put: List<Packet>,
 ) -> Fate
     requires room { HasRoom (length out.entries + 1) 2 carried.old.chronicle }
-    ensures outcome { (size : ℕ) (old : Running D F X) → HasStepped size occasion old host.now carried.old out
-        → IsOutcome D.fault_count size occasion old (outcome_of result (running_with host.now carried.new)) }
+    ensures outcome { (size : ℕ) (old : Running D F X) (sessions : SessionsValue) → HasStepped size occasion old host.now sessions carried.old out put
+        → IsOutcome D.fault_count size occasion old (outcome_of result (running_with host.now sessions carried.new)) }
 {
     let Effects {
         answers,
@@ -315,7 +368,7 @@ fn whole<D: Disk, F: Server, X: Server>(
         ..
     } = out;
     let stops = any_stops_after(entries.as_slice(), carried.points.as_slice());
-    note(carried, occasion, answers.as_slice(), entries);
+    note(carried, occasion, answers.as_slice(), put, entries);
     if stops {
         carried.chronicle.next_stamp();
         carried.chronicle.note_crash(Did::Nothing, CrashCause::Plan);
@@ -325,9 +378,15 @@ fn whole<D: Disk, F: Server, X: Server>(
 }
 
 /// What is carried takes a whole step in.
-fn note(carried: &mut Carried, occasion: Occasion, answers: &[ClientAnswer], entries: List<Act>)
+fn note(
+    carried: &mut Carried,
+    occasion: Occasion,
+    answers: &[ClientAnswer],
+    put: List<Packet>,
+    entries: List<Act>,
+)
     requires room { HasRoom (length entries + 1) 2 carried.old.chronicle }
-    ensures told { carried.new.chronicle.told ≡ noted (did_of occasion) entries None carried.old.chronicle.told }
+    ensures told { carried.new.chronicle.told ≡ noted (did_of occasion) put entries None carried.old.chronicle.told }
     ensures room { HasRoom 1 1 carried.new.chronicle }
     ensures commands { carried.new.commands ≡ answered answers.now carried.old.commands }
     ensures crashes { carried.new.crashes ≡ carried.old.crashes }
@@ -336,5 +395,5 @@ fn note(carried: &mut Carried, occasion: Occasion, answers: &[ClientAnswer], ent
 {
     pass(&mut carried.points, entries.as_slice());
     answer_all(&mut carried.commands, answers);
-    carried.chronicle.note(occasion.into_did(), entries);
+    carried.chronicle.note(occasion.into_did(), put, entries);
 }

@@ -1,5 +1,5 @@
 //! The start of a cell: the log of its disk is opened and its incarnation raised, and the node begins with what that says.
-ghost use Rattle.std.specs.Prelude.{◌≡◌, ◌≤◌, [], map, IfOk, IfErr};
+ghost use Rattle.std.specs.Prelude.{◌≡◌, ◌≤◌, ◌<◌, ◌^◌, [], map, IfOk, IfErr};
 ghost use Rattle.qs_cell.specs.Restart.{inc_of, found_in};
 ghost use Rattle.qs_cell.specs.Starts.{Begins, seen_first, setting_in, watched_of};
 ghost use Rattle.qs_cell_chronicle.specs.Carried.{seen};
@@ -11,6 +11,7 @@ use qs_base::{List, NoMemory};
 use qs_base_map::Map;
 use qs_book_journal::Point;
 use qs_cell_chronicle::{Carried, Chronicle, Watched};
+use qs_cell_peers::Sessions;
 use qs_disk::{Disk, Fused};
 use qs_files::Files;
 use qs_log::{Log, OpenFault};
@@ -57,6 +58,9 @@ pub fn begin<D: Disk>(
 ) -> Result<Started<D>, CellOpen<D>>
     requires batch { setting.extra ≤ 8 }
     requires keep { setting.keep ≤ 144 }
+    requires nodes { setting.nodes ≤ 8 }
+    requires node { setting.node.0 < setting.nodes }
+    requires inc { inc_of log < 2 ^ 62 }
     ensures begins { IfOk result (λ started. Begins alloc setting crashes points log started.running) }
     ensures found { IfOk result (λ started. started.found ≡ found_in log) }
     ensures disk { IfErr result (λ back. back.disk ≡ log.disk) }
@@ -71,6 +75,9 @@ pub fn begin<D: Disk>(
         Err(NoMemory) => return Err(without_memory(log)),
     };
     let setting = carried.setting;
+    let Ok(sessions) = Sessions::new(alloc, setting.node, setting.nodes, setting.inc) else {
+        return Err(without_memory(log));
+    };
     let files = Files::new(alloc, setting.quota);
     let kept = no_kept(alloc);
     match Host::open(
@@ -83,7 +90,11 @@ pub fn begin<D: Disk>(
         NoServer::new(alloc),
     ) {
         Ok(host) => Ok(Started {
-            running: Running { host, carried },
+            running: Running {
+                host,
+                sessions,
+                carried,
+            },
             found,
         }),
         Err(HostOpen { log, .. }) => Err(without_memory(log)),

@@ -215,7 +215,7 @@ impl<D: Disk> CellState<D> {
     {
         match self {
             CellState::Up { running } => {
-                let Running { host, carried } = running;
+                let Running { host, carried, .. } = running;
                 let (disk, _, _) = host.into_parts();
                 parts(disk, carried)
             }

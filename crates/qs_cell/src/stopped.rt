@@ -1,7 +1,7 @@
 //! A node that is down: how it stops, and how it starts again.
-ghost use Rattle.std.specs.Prelude.{◌≡◌, ◌⊎◌, ◌≤◌, ℕ, ◌∷◌, List, [], map, None, IfOk, OnOk};
+ghost use Rattle.std.specs.Prelude.{◌≡◌, ◌⊎◌, ◌≤◌, ◌<◌, ◌^◌, ℕ, ◌∷◌, List, [], map, None, IfOk, OnOk};
 ghost use Rattle.qs_cell_chronicle.specs.Chronicle.{HasRoom, noted, stamped};
-ghost use Rattle.qs_cell.specs.Restart.{IsRestarted, IsWhyDown, IfDamaged, IfUp, restarted_disk, found_of, restart_of};
+ghost use Rattle.qs_cell.specs.Restart.{AreNew, inc_of, IsRestarted, IsWhyDown, IfDamaged, IfUp, restarted_disk, found_of, restart_of};
 ghost use Rattle.qs_cell.specs.Roomy.{IsSetToKeep, RisesRoomy};
 ghost use Rattle.qs_cell.specs.Within.{IsLeftDown, Begins};
 ghost use Rattle.qs_cell.specs.declared.stopped.Restarted.TheVariants as restarts;
@@ -21,6 +21,7 @@ use crate::running::Running;
 use qs_base::{List, NoMemory};
 use qs_book_journal::{Act, CrashCause, Found};
 use qs_cell_chronicle::Carried;
+use qs_cell_peers::Sessions;
 use qs_disk::{Disk, Fused};
 use qs_log::{Log, OpenFault};
 use qs_log_start::{FaultCounts, LogReopen, ReopenFault, begin_again, not_begun};
@@ -75,6 +76,8 @@ impl<D: Disk> Stopped<D> {
         requires extra { X.state extra ≡ empty_server kinds.Nothing }
         requires batch { self.carried.setting.extra ≤ 8 }
         requires keep { self.carried.setting.keep ≤ 144 }
+        requires nodes { self.carried.setting.nodes ≤ 8 }
+        requires node { self.carried.setting.node.0 < self.carried.setting.nodes }
         ensures restarted { IsRestarted D.fault_count alloc self result }
 
         // The log of a node that is up.
@@ -163,12 +166,18 @@ fn begin_incarnation<D: Disk, F: Server, X: Server>(
     requires extra { X.state extra ≡ empty_server kinds.Nothing }
     requires batch { rest.carried.setting.extra ≤ 8 }
     requires keep { rest.carried.setting.keep ≤ 144 }
+    requires nodes { rest.carried.setting.nodes ≤ 8 }
+    requires node { rest.carried.setting.node.0 < rest.carried.setting.nodes }
+    requires inc { inc_of log < 2 ^ 62 }
     ensures begins { Begins D.fault_count alloc log rest before result }
     ensures up { IfUp result (λ new. new ≡ log) }
     ensures disk { restarted_disk result ≡ log.disk }
 {
     let inc = log.inc();
     let mut rest = rest;
+    let Ok(sessions) = new_sessions(alloc, &rest.carried.setting, inc) else {
+        return without_memory(rest, before, log);
+    };
     let (found, act) = match read(alloc, &mut rest.carried, &log) {
         Ok(read) => read,
         Err(NoMemory) => return without_memory(rest, before, log),
@@ -187,6 +196,7 @@ fn begin_incarnation<D: Disk, F: Server, X: Server>(
         Ok(host) => Restarted::Up {
             running: Running {
                 host,
+                sessions,
                 carried: risen(carried, setting, act),
             },
         },
@@ -200,6 +210,16 @@ fn begin_incarnation<D: Disk, F: Server, X: Server>(
             without_memory(rest, before, back.log)
         }
     }
+}
+
+/// The sessions of the node in an incarnation, which has met nobody.
+fn new_sessions(alloc: Global, setting: &Setting, inc: u64) -> Result<Sessions, NoMemory>
+    requires nodes { setting.now.nodes ≤ 8 }
+    requires node { setting.now.node.0 < setting.now.nodes }
+    requires inc { inc < 2 ^ 62 }
+    ensures { IfOk result (AreNew (record setting.now { inc = inc })) }
+{
+    Sessions::new(alloc, setting.node, setting.nodes, inc)
 }
 
 fn without_memory<D: Disk, F: Server, X: Server>(
@@ -249,7 +269,7 @@ fn read<D: Disk>(
 /// What is carried takes the restart in.
 fn risen(carried: Carried, setting: Setting, act: Act) -> Carried
     requires room { HasRoom 1 1 carried.chronicle }
-    ensures told { result.chronicle.told ≡ noted (dids.Restart setting.inc) (act ∷ []) None (stamped carried.chronicle.told) }
+    ensures told { result.chronicle.told ≡ noted (dids.Restart setting.inc) [] (act ∷ []) None (stamped carried.chronicle.told) }
     ensures commands { result.commands ≡ carried.commands }
     ensures crashes { result.crashes ≡ carried.crashes }
     ensures points { result.points ≡ carried.points }

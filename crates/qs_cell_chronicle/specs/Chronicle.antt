@@ -5,6 +5,7 @@ use Rattle.qs_book_journal.specs.declared.entry.Act.{Act}
 use Rattle.qs_book_journal.specs.declared.entry.Act.TheVariants as acts
 use Rattle.qs_book_journal.specs.declared.entry.CrashCause.{CrashCause}
 use Rattle.qs_book_journal.specs.declared.entry.Entry.{Entry}
+use Rattle.qs_packet.specs.declared.packet.Packet.{Packet}
 use Rattle.qs_node_step.specs.declared.trace.Did.{Did}
 use Rattle.qs_node_step.specs.declared.trace.Step.{Step}
 
@@ -63,25 +64,25 @@ entry_of node stamp act = record { stamp = stamp; node = node; act = act }
 abbrev pub with_entry : Told → Act → Told
 with_entry told act = record told { journal = told.journal ++ entry_of told.node told.stamp act ∷ [] }
 
-abbrev pub step_of : Told → Did → Option CrashCause → Step
-step_of told did crash = record {
+abbrev pub step_of : Told → Did → List Packet → Option CrashCause → Step
+step_of told did put crash = record {
   stamp = told.stamp;
   node = told.node;
   acts = told.acts;
   rounds = told.rounds;
   did = did;
-  put = [];
+  put = put;
   crash = crash;
 }
 
--- a step with the stamp that stands, and these entries
-abbrev pub stepped : Did → List Entry → Option CrashCause → Told → Told
-stepped did entries crash told = record told { journal = told.journal ++ entries; trace = told.trace ++ step_of told did crash ∷ [] }
+-- a step with the stamp that stands, the packets that it puts to the links, and these entries
+abbrev pub stepped : Did → List Packet → List Entry → Option CrashCause → Told → Told
+stepped did put entries crash told = record told { journal = told.journal ++ entries; trace = told.trace ++ step_of told did put crash ∷ [] }
 
 -- the same with the entries of these acts
-abbrev pub noted : Did → List Act → Option CrashCause → Told → Told
-noted did acts crash told = stepped did (map (entry_of told.node told.stamp) acts) crash told
+abbrev pub noted : Did → List Packet → List Act → Option CrashCause → Told → Told
+noted did put acts crash told = stepped did put (map (entry_of told.node told.stamp) acts) crash told
 
--- the node stops in a step: no other entry of it is made
+-- the node stops in a step: no other entry of it is made, and nothing is put
 abbrev pub crashed : Did → CrashCause → Told → Told
-crashed did cause told = noted did (acts.Crash cause ∷ []) (Some cause) told
+crashed did cause told = noted did [] (acts.Crash cause ∷ []) (Some cause) told

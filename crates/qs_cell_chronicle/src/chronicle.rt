@@ -1,11 +1,12 @@
 //! What a cell tells: its journal, its trace, and its counts.
-ghost use Rattle.std.specs.Prelude.{◌≡◌, ◌≤◌, ◌<◌, ◌+◌, ◌++◌, ◌∷◌, fold, length, Some, None, [], IfOk, OnOk};
+ghost use Rattle.std.specs.Prelude.{◌≡◌, ◌≤◌, ◌<◌, ◌^◌, ◌+◌, ◌++◌, ◌∷◌, fold, length, Some, None, [], IfOk, OnOk};
 ghost use Rattle.qs_cell_chronicle.specs.Chronicle.{HasRoom, new_told, is_last, stamped, numbered, in_round, with_entry, step_of, noted, crashed};
 
 use crate::Tape;
 use qs_base::{List, NoMemory, NodeNo, Stamp};
 use qs_book_journal::{Act, CrashCause, Entry};
 use qs_node_step::{Did, Step};
+use qs_packet::Packet;
 use std::alloc::Global;
 use std::marker::Model;
 
@@ -33,6 +34,7 @@ struct Pages {
 }
 
 impl Model for Chronicle {
+    ghost use Rattle.std.specs.Prelude.{◌<◌, ◌^◌};
     ghost use Rattle.qs_cell_chronicle.specs.Chronicle.{ChronicleValue};
 
     ghost Value = { ChronicleValue };
@@ -42,6 +44,8 @@ impl Model for Chronicle {
       entries = c.pages.value.journal.spare;
       steps = c.pages.value.trace.spare;
     } };
+
+    ghost invariant = { λ c. c.pages.value.stamp < 2 ^ 62 };
 }
 
 impl Chronicle {
@@ -73,6 +77,14 @@ impl Chronicle {
     {
         self.pages.journal.make_room(entries)?;
         self.pages.trace.make_room(steps)
+    }
+
+    /// The stamp of the last step.
+    pub fn stamp(&self) -> Stamp
+        ensures stamp { result ≡ self.now.told.stamp }
+        ensures low { result < 2 ^ 62 }
+    {
+        self.pages.stamp
     }
 
     /// Whether the stamp stands at its last value.
@@ -110,15 +122,15 @@ impl Chronicle {
         self.pages.rounds = self.pages.rounds.saturating_add(1);
     }
 
-    /// A step with the entries of these acts, for which there is room. It takes no memory.
-    pub fn note(&mut self, did: Did, acts: List<Act>)
+    /// A step that puts these packets to the links, with the entries of these acts, for which there is room. It takes no memory.
+    pub fn note(&mut self, did: Did, put: List<Packet>, acts: List<Act>)
         requires room { HasRoom (length acts) 1 self.old }
-        ensures told { self.new.told ≡ noted did acts None self.old.told }
+        ensures told { self.new.told ≡ noted did put acts None self.old.told }
         ensures entries { self.old.entries ≤ self.new.entries + length acts }
         ensures steps { self.old.steps ≤ self.new.steps + 1 }
     {
         self.add_entries(acts);
-        self.add_step(did, None);
+        self.add_step(did, put, None);
     }
 
     /// A step in which the node stops, for which there is room. It takes no memory.
@@ -126,17 +138,19 @@ impl Chronicle {
         requires room { HasRoom 1 1 self.old }
         ensures told { self.new.told ≡ crashed did cause self.old.told }
     {
+        let nothing = List::new(self.pages.alloc);
         self.add_entry(Act::Crash { cause });
-        self.add_step(did, Some(cause));
+        self.add_step(did, nothing, Some(cause));
     }
 
-    /// A step with one entry, for which there is room. It takes no memory.
+    /// A step with one entry, for which there is room, that puts nothing. It takes no memory.
     pub fn note_one(&mut self, did: Did, act: Act)
         requires room { HasRoom 1 1 self.old }
-        ensures told { self.new.told ≡ noted did (act ∷ []) None self.old.told }
+        ensures told { self.new.told ≡ noted did [] (act ∷ []) None self.old.told }
     {
+        let nothing = List::new(self.pages.alloc);
         self.add_entry(act);
-        self.add_step(did, None);
+        self.add_step(did, nothing, None);
     }
 
     /// Entries with the node and the stamp that stands.
@@ -167,9 +181,9 @@ impl Chronicle {
     }
 
     /// A step, without its entries.
-    fn add_step(&mut self, did: Did, crash: Option<CrashCause>)
+    fn add_step(&mut self, did: Did, put: List<Packet>, crash: Option<CrashCause>)
         requires room { 0 < self.old.steps }
-        ensures told { self.new.told ≡ record self.old.told { trace = self.old.told.trace ++ step_of self.old.told did crash ∷ [] } }
+        ensures told { self.new.told ≡ record self.old.told { trace = self.old.told.trace ++ step_of self.old.told did put crash ∷ [] } }
         ensures entries { self.new.entries ≡ self.old.entries }
         ensures steps { self.old.steps ≤ self.new.steps + 1 }
     {
@@ -179,7 +193,7 @@ impl Chronicle {
             acts: self.pages.acts,
             rounds: self.pages.rounds,
             did,
-            put: List::new(self.pages.alloc),
+            put,
             crash,
         };
         self.pages.trace.push(step);

@@ -7,3 +7,4 @@ pub mod Sending
 pub mod Sends
 pub mod Ticking
 pub mod Beginning
+pub mod Stepping

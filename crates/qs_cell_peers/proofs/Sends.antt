@@ -1,16 +1,18 @@
 -- Messages are sent one after the other; only the ends at peers count.
 use Rattle.std.proofs.Common.{◌≡◌, ◌≢◌, ℕ, ◌==◌, ◌-◌, ◌^◌, Bool, true, false, List, [], ◌∷◌, ◌++◌, refl, sym, ap, subst, ◌∙◌, append-nil, append_assoc, arith, length, if◌then◌else◌}
-use Rattle.std.specs.Prelude.{option_to_list}
-use Rattle.std.specs.List.{All}
+use Rattle.std.specs.Prelude.{map, option_to_list}
+use Rattle.std.specs.List.{All, filter}
 use Rattle.std.proofs.lemmas.Bool.{eqb-true}
 use Rattle.qs_base.specs.declared.identifiers.NodeNo.{NodeNo}
 use Rattle.qs_session_channels.specs.End as end
 use Rattle.qs_session_channels.specs.End.{End, sent, sent_packet}
 use Rattle.qs_session_channels.specs.Network.{with_at}
+use Rattle.qs_packet.specs.Grammar.{IsPacket}
 use Rattle.qs_packet.specs.declared.message.Message.{Message}
 use Rattle.qs_packet.specs.declared.packet.Packet.{Packet}
 use Rattle.qs_node_step.specs.declared.event.Sending.{Sending}
-use Rattle.qs_cell_peers.specs.Peers.{goes_from, is_peer}
+use Rattle.qs_session.specs.Seen.{seen}
+use Rattle.qs_cell_peers.specs.Peers.{goes_from, is_peer, is_to}
 use Rattle.qs_cell_peers.specs.Sessions.{EndAs, Ends, LacksNumber, SessionsValue, all_sent, ends_of, is_peer_of, numbers_given, one_sent, sent_to}
 
 module _ (peers : ℕ → Bool) where
@@ -92,6 +94,21 @@ module _ (old mid : SessionsValue) (ys : List Sending) (s : Sending) (was : EndA
 pub lacks_none : (old : SessionsValue) (sendings : List Sending) → AllGiven (is_peer_of old) (ends_of old) sendings → LacksNumber old sendings → ⊥
 lacks_none old sendings given l = given_each (is_peer_of old) (ends_of old) l.before l.here l.behind (subst (λ (ss : List Sending). AllGiven (is_peer_of old) (ends_of old) ss) l.is given) l.peer l.last
 
+-- where the end of the next message has given the last number, they lack one
+pub lacks_here : (old mid : SessionsValue) (before behind sendings : List Sending) (s : Sending) → EndAs old (all_sent (is_peer_of old) (ends_of old) before) mid → sendings ≡ before ++ s ∷ behind
+    → is_peer_of mid s.to.0 ≡ true → numbers_given (ends_of mid s.to.0) ≡ 2 ^ 62 - 1 → LacksNumber old sendings
+lacks_here old mid before behind sendings s was is peer last = record {
+  before = before;
+  here = s;
+  behind = behind;
+  is = is;
+  peer = there;
+  last = sym (ap numbers_given (was.ends_are s.to.0 there)) ∙ last;
+}
+  where
+    there : is_peer_of old s.to.0 ≡ true
+    there = sym (ap (λ (f : ℕ → Bool). f s.to.0) (same_peers old mid was.size was.me)) ∙ peer
+
 -- the packets go from the same node still
 pub still_go : (old mid : SessionsValue) (ps qs : List Packet) → mid.size ≡ old.size → mid.me ≡ old.me
     → (All (λ p. goes_from mid.size mid.me.0 p ≡ true) ps → All (λ p. goes_from mid.size mid.me.0 p ≡ true) qs) → All (λ p. goes_from old.size old.me.0 p ≡ true) ps → All (λ p. goes_from old.size old.me.0 p ≡ true) qs
@@ -106,11 +123,11 @@ still_go old mid ps qs size me more before = over qs (more (back ps before))
     back : (l : List Packet) → All (λ p. goes_from old.size old.me.0 p ≡ true) l → All (λ p. goes_from mid.size mid.me.0 p ≡ true) l
     back l all = subst (λ (f : Packet → Bool). All (λ p. f p ≡ true) l) (sym is) all
 
--- ---- the list of messages
+-- ---- what was sent so far
 
-pub all_yielded : (ys rest sendings : List Sending) → ys ++ rest ≡ sendings → length rest ≡ 0 → ys ≡ sendings
-all_yielded ys [] sendings is none = sym (append-nil ys) ∙ is
-all_yielded ys (s ∷ rest) sendings is none = absurd (omega (arith, none))
-
-pub one_less : (ys more rest sendings : List Sending) (s : Sending) → ys ++ more ≡ sendings → more ≡ s ∷ rest → (ys ++ s ∷ []) ++ rest ≡ sendings
-one_less ys more rest sendings s is next = append_assoc ys (s ∷ []) rest ∙ (ap (λ (l : List Sending). ys ++ l) (sym next) ∙ is)
+pub record HasSent (stamp : ℕ) (sendings : List Sending) (old : SessionsValue) (put : List Packet) (new : SessionsValue) : Type 0 where
+  pub ends : EndAs old (all_sent (is_peer_of old) (ends_of old) sendings) new
+  pub packets : (m : ℕ) → is_peer_of old m ≡ true → map seen (filter (is_to m) put) ≡ sent_to (is_peer_of old) stamp m (ends_of old) sendings
+  pub from : All (λ p. goes_from old.size old.me.0 p ≡ true) put
+  pub spelled : All IsPacket put
+  pub given : AllGiven (is_peer_of old) (ends_of old) sendings

@@ -1,5 +1,5 @@
 -- The sessions of a node tick, one after the other; only the ends at peers count.
-use Rattle.std.proofs.Common.{◌≡◌, ℕ, ◌<◌, ◌==◌, Bool, true, false, List, [], ◌++◌, refl, sym, ap, subst, ◌∙◌, add-one, length, set, ◌+◌, if◌then◌else◌}
+use Rattle.std.proofs.Common.{◌≡◌, ℕ, zero, suc, ◌<◌, ◌≤◌, ◌==◌, Bool, true, false, List, [], ◌++◌, refl, sym, ap, subst, ◌∙◌, add-one, arith, length, set, ◌+◌, if◌then◌else◌}
 use Rattle.std.specs.Prelude.{map}
 use Rattle.std.specs.List.{All, filter}
 use Rattle.std.proofs.lemmas.Bool.{eqb-false, ne_eqb}
@@ -65,6 +65,19 @@ module _ (size n k : ℕ) (lt : k < size) (a b : Ends) (same : SameEnds (is_peer
       by : (q : Bool) → (k == n) ≡ q → (if q then [] else if j == k then tick_packets messages.Hello (a k) stamp else []) ≡ (if q then [] else if j == k then tick_packets messages.Hello (b k) stamp else [])
       by true is = refl
       by false is = ap (λ (e : End Message). if j == k then tick_packets messages.Hello e stamp else []) (end_same is)
+
+-- over ends that are the same at peers the same goes, and it leaves the same there
+module _ (size n : ℕ) (a b : Ends) (same : SameEnds (is_peer size n) a b) where
+  pub all_ticked_same : (k : ℕ) → k ≤ size → SameEnds (is_peer size n) (all_ticked k n a) (all_ticked k n b)
+  all_ticked_same zero le = same
+  all_ticked_same (suc k) le = ticked_same size n k (omega (arith, le)) (all_ticked k n a) (all_ticked k n b) (all_ticked_same k (omega (arith, le)))
+
+  pub tick_to_same : (stamp j k : ℕ) → k ≤ size → tick_to k n stamp j a ≡ tick_to k n stamp j b
+  tick_to_same stamp j zero le = refl
+  tick_to_same stamp j (suc k) le =
+      ap (λ (l : List (end.Packet Message)). l ++ one_due k n stamp j (all_ticked k n a k)) (tick_to_same stamp j k (omega (arith, le)))
+      ∙ ap (λ (l : List (end.Packet Message)). tick_to k n stamp j b ++ l)
+      (due_same size n k (omega (arith, le)) (all_ticked k n a) (all_ticked k n b) (all_ticked_same k (omega (arith, le))) stamp j)
 
 module _ (old mid : SessionsValue) (k : ℕ) (lt : k < old.size) (was : EndAs old (all_ticked k old.me.0 (ends_of old)) mid) where
   pub more_ticked : (new : SessionsValue) → EndAs mid (one_ticked k mid.me.0 (ends_of mid)) new → EndAs old (all_ticked (k + 1) old.me.0 (ends_of old)) new

@@ -1,5 +1,6 @@
 pub mod Peers
 pub mod Sessions
 pub mod Ticks
+pub mod Steps
 pub mod NoEnds
 pub mod Links

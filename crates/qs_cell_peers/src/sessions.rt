@@ -11,10 +11,11 @@ ghost use Rattle.qs_session.specs.Seen.{answer_of, seen};
 ghost use Rattle.qs_node_step.specs.declared.event.Sending.{Sending};
 ghost use Rattle.qs_cell_peers.specs.Peers.{comes_to, goes_from, is_to};
 ghost use Rattle.qs_cell_peers.specs.Sessions.{EndAs, LacksNumber, all_sent, ends_of, is_peer_of, numbers_given, one_sent, sent_to, taken_in};
+ghost use Rattle.qs_cell_peers.specs.Steps.{Sends};
 ghost use Rattle.qs_cell_peers.specs.Ticks.{all_ticked, tick_to};
 
 use crate::peers::{comes, is_other, place_of};
-use qs_base::{GrowFault, List, NoMemory, NodeNo, Stamp};
+use qs_base::{Copied, GrowFault, List, NoMemory, NodeNo, Stamp};
 use qs_node_step::Sending;
 use qs_packet::Packet;
 use qs_session::{Session, Taken, hear, post, tick};
@@ -59,6 +60,31 @@ impl Sessions {
         Ok(Sessions { me, sessions })
     }
 
+    /// Sends what a step sends: its messages, in order, and where time passes, which `ticks` says, what each session then sends again: the
+    /// packets to put on the links, in order.
+    ///
+    /// `Last` comes exactly where a message is to get a number past the last one, 2^62 - 1, if memory lasted until then. After an
+    /// error some of it is sent.
+    pub fn send_step(
+        &mut self,
+        sendings: &[Sending],
+        stamp: Stamp,
+        ticks: bool,
+    ) -> Result<List<Packet>, GrowFault>
+        requires spelled { All (λ (s : Sending). IsSendable s.message) sendings.now }
+        requires stamp { stamp < 2 ^ 62 }
+        ensures sent { IfOk result (λ put. Sends ticks stamp sendings.now self.old put self.new) }
+        ensures numbered { OnOk result (LacksNumber self.old sendings.now → ⊥) }
+        ensures last { (value : ℕ) → result ≡ Err (Last value) → (value ≡ 2 ^ 62 - 1) × LacksNumber self.old sendings.now }
+    {
+        let mut packets = self.send_all(sendings, stamp)?;
+        if ticks {
+            let due = self.tick_all(stamp)?;
+            add_all(&mut packets, due)?;
+        }
+        Ok(packets)
+    }
+
     /// Sends the messages, in order: the packets to put on the links, in order. A message to no other node of the run is dropped, and
     /// one to a peer whose incarnation is unknown waits.
     ///
@@ -66,20 +92,20 @@ impl Sessions {
     /// error some of them are sent.
     pub fn send_all(
         &mut self,
-        sendings: List<Sending>,
+        sendings: &[Sending],
         stamp: Stamp,
     ) -> Result<List<Packet>, GrowFault>
-        requires spelled { All (λ (s : Sending). IsSendable s.message) sendings }
+        requires spelled { All (λ (s : Sending). IsSendable s.message) sendings.now }
         requires stamp { stamp < 2 ^ 62 }
-        ensures ends { OnOk result (EndAs self.old (all_sent (is_peer_of self.old) (ends_of self.old) sendings) self.new) }
-        ensures packets { IfOk result (λ ps. (m : ℕ) → is_peer_of self.old m ≡ true → map seen (filter (is_to m) ps) ≡ sent_to (is_peer_of self.old) stamp m (ends_of self.old) sendings) }
+        ensures ends { OnOk result (EndAs self.old (all_sent (is_peer_of self.old) (ends_of self.old) sendings.now) self.new) }
+        ensures packets { IfOk result (λ ps. (m : ℕ) → is_peer_of self.old m ≡ true → map seen (filter (is_to m) ps) ≡ sent_to (is_peer_of self.old) stamp m (ends_of self.old) sendings.now) }
         ensures from { IfOk result (All (λ p. goes_from self.old.size self.old.me.0 p ≡ true)) }
         ensures spelled { IfOk result (All IsPacket) }
-        ensures last { (value : ℕ) → result ≡ Err (Last value) → (value ≡ 2 ^ 62 - 1) × LacksNumber self.old sendings }
-        ensures enough { OnOk result (LacksNumber self.old sendings → ⊥) }
+        ensures last { (value : ℕ) → result ≡ Err (Last value) → (value ≡ 2 ^ 62 - 1) × LacksNumber self.old sendings.now }
+        ensures enough { OnOk result (LacksNumber self.old sendings.now → ⊥) }
     {
         let mut packets = List::new(*self.sessions.allocator());
-        for sending in sendings.into_vec() {
+        for sending in sendings {
             self.send_one(sending, stamp, &mut packets)?;
         }
         Ok(packets)
@@ -88,25 +114,24 @@ impl Sessions {
     /// Sends a message; its packet is added, where one goes.
     fn send_one(
         &mut self,
-        sending: Sending,
+        sending: &Sending,
         stamp: Stamp,
         packets: &mut List<Packet>,
     ) -> Result<(), GrowFault>
-        requires spelled { IsSendable sending.message }
+        requires spelled { IsSendable sending.now.message }
         requires stamp { stamp < 2 ^ 62 }
-        ensures ends { OnOk result (EndAs self.old (one_sent (is_peer_of self.old) (ends_of self.old) sending) self.new) }
-        ensures packets { OnOk result ((m : ℕ) → is_peer_of self.old m ≡ true → map seen (filter (is_to m) packets.new) ≡ map seen (filter (is_to m) packets.old) ++ sent_to (is_peer_of self.old) stamp m (ends_of self.old) (sending ∷ [])) }
+        ensures ends { OnOk result (EndAs self.old (one_sent (is_peer_of self.old) (ends_of self.old) sending.now) self.new) }
+        ensures packets { OnOk result ((m : ℕ) → is_peer_of self.old m ≡ true → map seen (filter (is_to m) packets.new) ≡ map seen (filter (is_to m) packets.old) ++ sent_to (is_peer_of self.old) stamp m (ends_of self.old) (sending.now ∷ [])) }
         ensures from { OnOk result (All (λ p. goes_from self.old.size self.old.me.0 p ≡ true) packets.old → All (λ p. goes_from self.old.size self.old.me.0 p ≡ true) packets.new) }
         ensures spelled { OnOk result (All IsPacket packets.old → All IsPacket packets.new) }
-        ensures last { (value : ℕ) → result ≡ Err (Last value) → (value ≡ 2 ^ 62 - 1) × (is_peer_of self.old sending.to.0 ≡ true) × (numbers_given (ends_of self.old sending.to.0) ≡ 2 ^ 62 - 1) }
-        ensures enough { OnOk result (is_peer_of self.old sending.to.0 ≡ true → numbers_given (ends_of self.old sending.to.0) ≢ 2 ^ 62 - 1) }
+        ensures last { (value : ℕ) → result ≡ Err (Last value) → (value ≡ 2 ^ 62 - 1) × (is_peer_of self.old sending.now.to.0 ≡ true) × (numbers_given (ends_of self.old sending.now.to.0) ≡ 2 ^ 62 - 1) }
+        ensures enough { OnOk result (is_peer_of self.old sending.now.to.0 ≡ true → numbers_given (ends_of self.old sending.now.to.0) ≢ 2 ^ 62 - 1) }
     {
-        let Sending { to, message } = sending;
-        let number = usize::from(to.0);
+        let number = usize::from(sending.to.0);
         if !is_other(self.sessions.len(), self.me, number) {
-            drop(message);
             return Ok(());
         }
+        let message = sending.message.copy()?;
         let packet = post(
             &mut self.sessions[place_of(self.me, number)],
             message,

@@ -59,6 +59,7 @@ fn next_incarnation<D: Disk>(
     requires limit { limit < 2 ^ 62 }
     requires some { 0 < limit }
     ensures raised { D.told → IfOk result (IsRaisedLog limit (D.state disk.disk).content) }
+    ensures inc { IfOk result (λ log. log.slots.present.value.inc < 2 ^ 62) }
     ensures below { D.told → IfOk result (λ log. EachImage (StandBelow (limit + 1)) (D.state log.disk.disk).now) }
     ensures stands { D.told → IfOk result (λ log. Stands log (D.state log.disk.disk)) }
     ensures waiting { IfOk result (λ log. log.waiting ≡ []) }
@@ -79,6 +80,7 @@ fn raise<D: Disk>(log: Log<Fused<D>>) -> Result<Log<Fused<D>>, LogOpen<Fused<D>>
     requires below { top_of log.slots.present < 2 ^ 62 - 1 }
     requires stands { D.told → Stands log (D.state log.disk.disk) }
     ensures raised { IfOk result (λ new. new.slots.present ≡ raised_of log.slots.present) }
+    ensures inc { IfOk result (λ new. new.slots.present.value.inc < 2 ^ 62) }
     ensures same { IfOk result (HasSameRecords log) }
     ensures stands { D.told → IfOk result (λ new. Stands new (D.state new.disk.disk)) }
     ensures failed { IfErr result (λ back. back.why ≡ open_faults.DiskFailed) }
@@ -109,6 +111,7 @@ pub fn begin_run<D: Disk>(
 ) -> Result<Log<Fused<D>>, LogOpen<Fused<D>>>
     // The log, and the fuse before its disk.
     ensures raised { D.told → IfOk result (IsRaisedLog open_limit (D.state disk.disk).content) }
+    ensures inc { IfOk result (λ log. log.slots.present.value.inc < 2 ^ 62) }
     ensures stands { D.told → IfOk result (λ log. Stands log (D.state log.disk.disk)) }
     ensures waiting { IfOk result (λ log. log.waiting ≡ []) }
     ensures armed { IfOk result (λ log. IsArmed stops log.disk.fuse) }
@@ -158,6 +161,7 @@ fn own_fault(before: FaultCounts, now: FaultCounts, why: OpenFault) -> OpenFault
 pub fn begin_again<D: Disk>(alloc: Global, disk: Fused<D>) -> Result<Log<Fused<D>>, LogReopen<D>>
     // The log.
     ensures reopened { D.told → IfOk result (IsReopened (D.state disk.disk)) }
+    ensures inc { IfOk result (λ log. log.slots.present.value.inc < 2 ^ 62) }
     ensures stands { D.told → IfOk result (λ log. Stands log (D.state log.disk.disk)) }
     ensures waiting { IfOk result (λ log. log.waiting ≡ []) }
     ensures found { D.told → IfOk result (λ log. (a b : List Record) → EachImage (HasOneOf a b) (D.state disk.disk).now → (log.forced ≡ a) ⊎ (log.forced ≡ b)) }
@@ -190,6 +194,7 @@ fn after_power_cut<D: Disk>(
     disk: Fused<D>,
 ) -> Result<Log<Fused<D>>, LogOpen<Fused<D>>>
     ensures reopened { D.told → IfOk result (IsReopened (D.state disk.disk)) }
+    ensures inc { IfOk result (λ log. log.slots.present.value.inc < 2 ^ 62) }
     ensures stands { D.told → IfOk result (λ log. Stands log (D.state log.disk.disk)) }
     ensures waiting { IfOk result (λ log. log.waiting ≡ []) }
     ensures found { D.told → IfOk result (λ log. (a b : List Record) → EachImage (HasOneOf a b) (D.state disk.disk).now → (log.forced ≡ a) ⊎ (log.forced ≡ b)) }

@@ -72,7 +72,7 @@ each_rises alloc old new world is none later shows = record { may = may; leads =
     at_next : IsNext told (stamped (in_round told))
     at_next = next_round told
 
-    told_is : new.carried.chronicle.told ≡ noted (dids.Restart inc) (restart_of inc (found_in new.host.log) ∷ []) None (stamped (in_round told))
+    told_is : new.carried.chronicle.told ≡ noted (dids.Restart inc) [] (restart_of inc (found_in new.host.log) ∷ []) None (stamped (in_round told))
     told_is = ap (λ (s : Seen). s.told) is.seen
 
     stamp : ℕ

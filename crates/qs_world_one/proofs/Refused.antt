@@ -98,7 +98,7 @@ module _ {D : Type 0} (told : Type 0) (state : D → DiskState) (own size : D �
 
   -- the node is the same but for the room that is made for a crash
   same_disk : (old new : CellState D) → IsSameNode old new → (disk_of new).disk ≡ (disk_of old).disk
-  same_disk (states.Up old) (states.Up new) same = ap (λ h. h.log.disk.disk) same.0
+  same_disk (states.Up old) (states.Up new) same = ap (λ h. h.log.disk.disk) same.0.0
   same_disk (states.Down old) (states.Down new) same = ap (λ (d : FusedValue D). d.disk) same.0
   same_disk (states.Up old) (states.Down new) same = absurd same
   same_disk (states.Down old) (states.Up new) same = absurd same

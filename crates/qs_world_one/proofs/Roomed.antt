@@ -213,9 +213,9 @@ pub seen_roomy : {D : Type 0} (f : Seen → Seen) (state : D → DiskState) (siz
     → IsRoomyCell state size began new
 seen_roomy {D} f state size began (states.Up old) (states.Up new) is was = record {
   set = subst (IsSetToKeep 128) (sym is.1.1) was.set;
-  roomy = subst (λ (h : HostValue (FusedValue D)). IsRoomyHost 128 (size h.log.disk.disk) h) (sym is.0) was.roomy;
-  disk = subst (λ (h : HostValue (FusedValue D)). IsRoomyDisk (size h.log.disk.disk) (state h.log.disk.disk)) (sym is.0) was.disk;
-  bytes = ap (λ (h : HostValue (FusedValue D)). size h.log.disk.disk) is.0 ∙ was.bytes;
+  roomy = subst (λ (h : HostValue (FusedValue D)). IsRoomyHost 128 (size h.log.disk.disk) h) (sym is.0.0) was.roomy;
+  disk = subst (λ (h : HostValue (FusedValue D)). IsRoomyDisk (size h.log.disk.disk) (state h.log.disk.disk)) (sym is.0.0) was.disk;
+  bytes = ap (λ (h : HostValue (FusedValue D)). size h.log.disk.disk) is.0.0 ∙ was.bytes;
 }
 seen_roomy {D} f state size began (states.Down old) (states.Down new) is was = record {
   set = subst (IsSetToKeep 128) (sym is.1.1.1.1) was.set;

@@ -2,7 +2,7 @@
 use Rattle.std.proofs.Common.{◌≡◌, ◌⊎◌, ◌∙◌, ap, inl, inr, refl, subst, sym, ℕ, ◌==◌, Bool, true, false, List, Option, Some, None, arith}
 use Rattle.std.proofs.lemmas.Bool.Decides.{nat_tests}
 use Rattle.std.specs.Global.{Global}
-use Rattle.qs_cell.specs.Cell.{IsAsPlanned, IsCutOff, IsFollowed, IsReplaced, IsUnplanned, IsWhole, may_make, out_of}
+use Rattle.qs_cell.specs.Cell.{IsAsPlanned, IsCutOff, IsFollowed, IsReplaced, IsUnnumbered, IsUnplanned, IsWhole, may_make, out_of}
 use Rattle.qs_cell.specs.Restart.{IsStillDown, inc_of}
 use Rattle.qs_cell.specs.State.{Up}
 use Rattle.qs_cell.specs.Visits.{all_delivered}
@@ -200,9 +200,10 @@ module _ {D : Type 0} (size : ℕ) (source : From) (occasion : Occasion) (old : 
       refused : new.cause ≡ causes.Memory → is_refused (Some new.cause) ≡ true
       refused memory = ap (λ (c : CrashCause). is_refused (Some c)) memory
 
-      commands_are : (new.cause ≡ causes.Memory) ⊎ IsAsPlanned size occasion old new → new.carried.commands ≡ in_hand_then
+      commands_are : (new.cause ≡ causes.Memory) ⊎ (IsAsPlanned size occasion old new ⊎ IsUnnumbered size occasion old new) → new.carried.commands ≡ in_hand_then
       commands_are (inl memory) = absurd (cc (sym (refused memory) ∙ granted))
-      commands_are (inr planned) = planned.commands
+      commands_are (inr (inl planned)) = planned.commands
+      commands_are (inr (inr unnumbered)) = unnumbered.commands
 
   pub cut : (own : D → ℕ) (new : Stopped D) → IsCutOff own size occasion old new
       → (is_kept : Bool) → MovesTo (SeatDown new (left source old ends) clients (cut_log (world.hosts 0) is_kept (out_of size occasion old))) (cut_of size occasion old is_kept new.cause) world

@@ -14,6 +14,7 @@ use Rattle.qs_world_lawful.proofs.SameSetting.{step_same}
 use Rattle.qs_world_one.proofs.AsHost.{stepped as stepped_as_host}
 use Rattle.qs_world_one.specs.InWorld.{host_of}
 use Rattle.qs_log.specs.Log.{LogValue}
+use Rattle.qs_packet.specs.declared.packet.Packet.{Packet}
 use Rattle.qs_record.specs.declared.record.Record.{Record}
 use Rattle.qs_world_refine.proofs.Posted.{inc_all, up_all}
 use Rattle.qs_node_step.specs.State.{NodeValue}
@@ -72,8 +73,8 @@ module _ {D F X : Type 0} (size : ℕ) (occasion : Occasion) (old : Running D F 
       ap (step_with world 0 stamp (free_of size old.host) (source_of occasion)) (comes.comes stamp)
       ∙ ap (λ (h : Host). moves.stepped world 0 stamp (source_of occasion) (after_step h.node (event_of occasion) (free_of size old.host)) (effects_of h.node (event_of occasion) (free_of size old.host))) shows.host
 
-  pub told_after : (new : Told) → new ≡ noted (did_of occasion) out.entries None (begun told) → ShowsTold new after
-  told_after new is = record {
+  pub told_after : (put : List Packet) (new : Told) → new ≡ noted (did_of occasion) put out.entries None (begun told) → ShowsTold new after
+  told_after put new is = record {
     size = shows.told.size;
     node = ap (λ (t : Told). t.node) is ∙ (at_next.node ∙ shows.told.node);
     within = subst (λ (t : Told). t.stamp ≤ last_stamp) (sym is) (at_next.within shows.told.within);
@@ -99,7 +100,7 @@ module _ {D F X : Type 0} (size : ℕ) (occasion : Occasion) (old : Running D F 
   -- ---- the step stands whole
 
   module _ (new : Running D F X) (said : List ClientAnswer) (is : IsWhole size occasion old new said) where
-    told_is : new.carried.chronicle.told ≡ noted (did_of occasion) out.entries None (begun told)
+    told_is : new.carried.chronicle.told ≡ noted (did_of occasion) is.put out.entries None (begun told)
     told_is = ap (λ (s : Seen). s.told) is.seen
 
     host_same : host_of stamp (record { node = node; log = log_after out old.host.log }) ≡ host_of stamp new.host
@@ -113,7 +114,7 @@ module _ {D F X : Type 0} (size : ℕ) (occasion : Occasion) (old : Running D F 
 
     shown : ShowsUp new after
     shown = record {
-      told = told_after new.carried.chronicle.told told_is;
+      told = told_after is.put new.carried.chronicle.told told_is;
       up = up_after;
       inc = inc_after ∙ sym (ap (λ (s : Setting). s.inc) is.setting);
       host = host_after ∙ (host_same ∙ ap (λ (t : Told). host_of t.stamp new.host) (sym told_is));

@@ -1,7 +1,7 @@
 -- Where a node stops, in place of a step, within one or right behind one, the world of one node that shows it stops it with the same stamp.
 use Rattle.std.proofs.Common.{◌≡◌, ◌⊎◌, ◌∙◌, ap, inl, inr, refl, subst, sym, ℕ, ◌+◌, ◌≤◌, ◌==◌, ◌&&◌, Bool, true, false, List, [], ◌∷◌, ◌++◌, Some, None, if◌then◌else◌}
 use Rattle.std.specs.List.{list_any}
-use Rattle.qs_cell.specs.Cell.{IsAsPlanned, IsFaulted, IsRefused, begun, may_make, out_of, planned_after, stepped, why_not}
+use Rattle.qs_cell.specs.Cell.{IsAsPlanned, IsFaulted, IsRefused, IsUnnumbered, begun, may_make, out_of, planned_after, stepped, why_not}
 use Rattle.qs_cell.specs.declared.running.Running.{Running}
 use Rattle.qs_cell.specs.declared.stopped.Stopped.{Stopped}
 use Rattle.qs_cell_chronicle.specs.Carried.{Seen, is_replaced, seen}
@@ -126,9 +126,10 @@ each_replaced size occasion old new world is shows = record {
     runs : Runs told old.carried.setting old.host.node old.host.log.forced world
     runs = runs_up old world shows
 
-    crash : (new.cause ≡ causes.Memory) ⊎ IsAsPlanned size occasion old new → is_crash new.cause ≡ true
+    crash : (new.cause ≡ causes.Memory) ⊎ (IsAsPlanned size occasion old new ⊎ IsUnnumbered size occasion old new) → is_crash new.cause ≡ true
     crash (inl memory) = rw memory refl
-    crash (inr as_planned) = why_crash (may_make old.host.node occasion) (is_last told) (is_replaced (counted told.events) old.carried.crashes) (out_of size occasion old) (seen old.carried) new.cause as_planned.cause
+    crash (inr (inr unnumbered)) = subst (λ (c : CrashCause). is_crash c ≡ true) (sym unnumbered.cause) refl
+    crash (inr (inl as_planned)) = why_crash (may_make old.host.node occasion) (is_last told) (is_replaced (counted told.events) old.carried.crashes) (out_of size occasion old) (seen old.carried) new.cause as_planned.cause
 
 -- ---- within a step
 
@@ -185,7 +186,7 @@ each_followed size occasion old new said world is shows comes = record {
     mid_world = steps.after size occasion old world shows comes is.unplanned
 
     mid : Told
-    mid = (stepped occasion old.carried.setting.inc (out_of size occasion old) (seen old.carried)).told
+    mid = (stepped occasion old.carried.setting.inc (out_of size occasion old) is.put (seen old.carried)).told
 
     forced : List Record
     forced = (log_after (out_of size occasion old) old.host.log).forced
@@ -201,7 +202,7 @@ each_followed size occasion old new said world is shows comes = record {
 
     runs : Runs mid old.carried.setting node forced mid_world
     runs = record {
-      told_is = steps.told_after size occasion old world shows comes is.unplanned mid refl;
+      told_is = steps.told_after size occasion old world shows comes is.unplanned is.put mid refl;
       up = steps.up_after size occasion old world shows comes is.unplanned;
       inc = steps.inc_after size occasion old world shows comes is.unplanned;
       node_is = ap (λ (h : Host). h.node) (steps.host_after size occasion old world shows comes is.unplanned);

@@ -157,7 +157,7 @@ module _ {D : Type 0} (told : Type 0) (state : D → DiskState) (size : D → �
   as_seen s new e = subst (IsAlike s) (sym e) (alike s)
 
   seat_up : (old new : Up D) (world : World) → IsSeenAs f (states.Up old) (states.Up new) → SeatUp old ends clients world → SeatUp new ends clients world
-  seat_up old new world (host, (seen_is, setting)) seat =
+  seat_up old new world ((host, sessions), (seen_is, setting)) seat =
       let same : IsAlike (seen old.carried) (seen new.carried) = as_seen (seen old.carried) (seen new.carried) seen_is in
       record {
         node = record {
@@ -194,8 +194,8 @@ module _ {D : Type 0} (told : Type 0) (state : D → DiskState) (size : D → �
   pub seen_on : (old new : CellState D) → IsSeenAs f old new → IsInWorld told state size began start old ends clients → IsInWorld told state size began start new ends clients
   seen_on (states.Up old) (states.Up new) is was = record {
     reached = record { moves = was.reached.moves; world = was.reached.world; run = was.reached.run; shows = seat_up old new was.reached.world is was.reached.shows };
-    inc = ap (λ (h : HostValue (FusedValue D)). inc_of h.log) is.0 ∙ (was.inc ∙ sym (ap (λ (s : Setting). s.inc) is.1.1));
-    stands = λ t. subst (λ (h : HostValue (FusedValue D)). Stands h.log (state h.log.disk.disk)) (sym is.0) (was.stands t);
+    inc = ap (λ (h : HostValue (FusedValue D)). inc_of h.log) is.0.0 ∙ (was.inc ∙ sym (ap (λ (s : Setting). s.inc) is.1.1));
+    stands = λ t. subst (λ (h : HostValue (FusedValue D)). Stands h.log (state h.log.disk.disk)) (sym is.0.0) (was.stands t);
     roomy = λ t run. seen_roomy f state size began (states.Up old) (states.Up new) is (was.roomy t run);
   }
   seen_on (states.Down old) (states.Down new) is was = record {

@@ -102,7 +102,7 @@ outcome_rounds : {D : Type 0} (own : D → ℕ) (size : ℕ) (occasion : Occasio
     → rounds_of (state_of outcome) ≡ old.carried.chronicle.told.rounds
 outcome_rounds own size occasion old (outcomes.Whole running answers) is = ap (λ (s : Seen). s.told.rounds) is.seen ∙ begun_rounds old.carried.chronicle.told
 outcome_rounds own size occasion old (outcomes.Followed stopped answers) is =
-    ap (λ (s : Seen). s.told.rounds) is.seen ∙ stamped_rounds (stepped occasion old.carried.setting.inc (out_of size occasion old) (seen old.carried)).told
+    ap (λ (s : Seen). s.told.rounds) is.seen ∙ stamped_rounds (stepped occasion old.carried.setting.inc (out_of size occasion old) is.put (seen old.carried)).told
     ∙ begun_rounds old.carried.chronicle.told
 outcome_rounds own size occasion old (outcomes.Replaced stopped) is = ap (λ (t : Told). t.rounds) is.told ∙ begun_rounds old.carried.chronicle.told
 outcome_rounds own size occasion old (outcomes.CutOff stopped) is = ap (λ (t : Told). t.rounds) is.told ∙ begun_rounds old.carried.chronicle.told

@@ -2,7 +2,7 @@ use Rattle.std.proofs.Common.{◌∙◌, ap, refl, sym}
 use Rattle.qs_cell.specs.Cell.{may_make}
 use Rattle.qs_cell.specs.Outcomes.{outcome_of}
 use Rattle.qs_cell.specs.Within.{running_with}
-use Rattle.qs_cell.proofs.Happening.{header_as, untouched, untouched_header, unplanned_by, begun_on, worked, stands_as, moments_as}
+use Rattle.qs_cell.proofs.Happening.{sent_as, not_past_last, header_as, untouched, untouched_header, unplanned_by, begun_on, worked, stands_as, moments_as}
 use Rattle.qs_cell.proofs.running.worked_out.Goals as goal
 use Rattle.qs_cell_chronicle.specs.Carried.{seen}
 use Rattle.qs_cell_chronicle.specs.Occasions.{event_of}
@@ -24,22 +24,25 @@ returns-then-is_err-clause-moments g c = λ told.
     (ap (λ log. log.disk) c.work_out.ensures.log) (c.requires.stands told)
 
 pub returns-clause-outcome : goal.returns-clause-outcome
-returns-clause-outcome g c = λ old same begun none.
+returns-clause-outcome g c = λ old same same_sessions begun none.
     let size = g.D.Disk.byte_count c.args.host.now.log.disk.disk in
-    c.carried_out.ensures.outcome size old (ap (λ log. g.D.Disk.byte_count log.disk.disk) (sym c.work_out.ensures.log))
-    (worked size c.args.occasion old c.args.host.now c.work_out.new.host c.args.carried.now (record c.args.carried.now { chronicle = c.make_room.new.self }) c.in-Ok.out same
+    let is_out = c.in-Ok.ensures.effects ∙ ap (λ h. effects_at size h (event_of c.args.occasion)) same in
+    c.carried_out.ensures.outcome size old c.send.new.sessions (ap (λ log. g.D.Disk.byte_count log.disk.disk) (sym c.work_out.ensures.log))
+    (worked size c.args.occasion old c.args.host.now c.work_out.new.host c.send.new.sessions c.args.carried.now (record c.args.carried.now { chronicle = c.make_room.new.self }) c.in-Ok.out c.in-Ok-send.put same
     c.in-Ok.ensures.node c.work_out.ensures.saved c.work_out.ensures.log c.in-Ok.ensures.effects
     (begun_on c.args.occasion old.carried c.args.carried.now (record c.args.carried.now { chronicle = c.make_room.new.self }) begun c.make_room.ensures.told refl refl refl refl)
     (unplanned_by (may_make old.host.node c.args.occasion) c.in-Ok.out _ (seen old.carried) c.as_slice.result.now c.as_slice-2.result.now c.any_stops_before.result
     (ap (λ h. may_make h.node c.args.occasion) (sym same) ∙ (sym c.may_make.ensures ∙ c.if-not-may_make.false)) none
-    (c.in-Ok.ensures.effects ∙ ap (λ h. effects_at size h (event_of c.args.occasion)) same) c.as_slice.ensures (c.as_slice-2.ensures.value ∙ begun.points) c.any_stops_before.ensures
-    c.if-any_stops_before.false))
+    is_out c.as_slice.ensures (c.as_slice-2.ensures.value ∙ begun.points) c.any_stops_before.ensures
+    c.if-any_stops_before.false)
+    (sent_as size c.args.occasion old c.args.sessions.now c.send.new.sessions c.stamp.result c.in-Ok.out c.in-Ok-send.put same_sessions (c.stamp.ensures.stamp ∙ ap (λ t. t.stamp) begun.told) is_out c.in-Ok-send.ensures.sent)
+    (not_past_last size c.args.occasion old c.args.sessions.now c.in-Ok.out same_sessions is_out c.in-Ok-send.ensures.numbered))
 
 pub returns-clause-stands : goal.returns-clause-stands
 returns-clause-stands g c = λ told.
-    stands_as g.D.Disk.state (outcome_of c.carried_out.result (running_with {F = g.row.F.Denot} {X = g.row.X.Denot} c.carried_out.new.host c.carried_out.new.carried)) c.in-Ok.out (effects_at (g.D.Disk.byte_count c.args.host.now.log.disk.disk) c.args.host.now (event_of c.args.occasion))
+    stands_as g.D.Disk.state (outcome_of c.carried_out.result (running_with {F = g.row.F.Denot} {X = g.row.X.Denot} c.carried_out.new.host c.send.new.sessions c.carried_out.new.carried)) c.in-Ok.out (effects_at (g.D.Disk.byte_count c.args.host.now.log.disk.disk) c.args.host.now (event_of c.args.occasion))
     c.work_out.new.host.log c.args.host.now.log c.in-Ok.ensures.effects c.work_out.ensures.log
-    (c.carried_out.ensures.stands told)
+    (c.carried_out.ensures.stands told c.send.new.sessions)
 
 pub returns-clause-moments : goal.returns-clause-moments
 returns-clause-moments g c = λ told.
@@ -69,3 +72,12 @@ returns-then-not-may_make-clause-moments g c = λ told.
 
 pub returns-then-not-may_make-clause-header : goal.returns-then-not-may_make-clause-header
 returns-then-not-may_make-clause-header g c = λ told. untouched_header c.args.host.now.log g.D.Disk.state c.args.host.now.log.disk refl (c.requires.stands told)
+
+pub returns-in-Err-clause-moments : goal.returns-in-Err-clause-moments
+returns-in-Err-clause-moments g c = λ told.
+    untouched (effects_at (g.D.Disk.byte_count c.args.host.now.log.disk.disk) c.args.host.now (event_of c.args.occasion)) c.args.host.now.log g.D.Disk.state c.work_out.new.host.log.disk
+    (ap (λ log. log.disk) c.work_out.ensures.log) (c.requires.stands told)
+
+pub returns-in-Err-clause-header : goal.returns-in-Err-clause-header
+returns-in-Err-clause-header g c = λ told.
+    untouched_header c.args.host.now.log g.D.Disk.state c.work_out.new.host.log.disk (ap (λ log. log.disk) c.work_out.ensures.log) (c.requires.stands told)

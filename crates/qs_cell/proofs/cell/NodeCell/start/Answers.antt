@@ -31,4 +31,4 @@ returns-clause-moments g c = λ told.
 pub invariant_of-result : goal.invariant_of-result
 invariant_of-result g c =
     sound_started g.D.Disk.told g.D.Disk.state c.args.alloc c.args.setting c.args.plan.crashes c.args.plan.points c.in-Ok.log c.in-Ok-begin.started.running
-    c.in-Ok-begin.started.found c.in-Ok-begin.ensures.begins c.in-Ok-begin.ensures.found c.in-Ok.ensures.waiting c.requires.batch c.requires.keep c.in-Ok.ensures.stands c.in-Ok.ensures.below
+    c.in-Ok-begin.started.found c.in-Ok-begin.ensures.begins c.in-Ok-begin.ensures.found c.in-Ok.ensures.waiting c.requires.batch c.requires.keep c.requires.nodes c.requires.node c.in-Ok.ensures.stands c.in-Ok.ensures.below

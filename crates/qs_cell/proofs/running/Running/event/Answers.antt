@@ -26,18 +26,18 @@ returns-in-Err-clause-header g c = λ told. untouched_header c.args.self.now.hos
 pub returns-in-Ok-None-clause-rooms : goal.returns-in-Ok-None-clause-rooms
 returns-in-Ok-None-clause-rooms g c = λ keep roomy fresh.
     outcome_roomy keep (g.D.Disk.byte_count c.args.self.now.host.log.disk.disk) c.args.occasion c.args.self.now roomy fresh g.D.Disk.fault_count
-    (outcome_of c.worked_out.result (running_with c.worked_out.new.host c.worked_out.new.carried))
-    (c.worked_out.ensures.outcome c.args.self.now refl c.in-Ok-None.ensures.ok (sym c.in-Ok-None.ensures.cause ∙ c.in-Ok-None.field-0-is))
+    (outcome_of c.worked_out.result (running_with c.worked_out.new.host c.worked_out.new.sessions c.worked_out.new.carried))
+    (c.worked_out.ensures.outcome c.args.self.now refl refl c.in-Ok-None.ensures.ok (sym c.in-Ok-None.ensures.cause ∙ c.in-Ok-None.field-0-is))
 
 pub returns-in-Ok-Some-clause-rooms : goal.returns-in-Ok-Some-clause-rooms
 returns-in-Ok-Some-clause-rooms g c = λ keep roomy fresh.
     replaced_roomy keep (g.D.Disk.byte_count c.args.self.now.host.log.disk.disk) c.replaced.result c.in-Ok-Some.cause
-    (running_with {F = g.row.F.Denot} {X = g.row.X.Denot} c.args.self.now.host c.replaced.new.carried) c.replaced.ensures.fate
+    (running_with {F = g.row.F.Denot} {X = g.row.X.Denot} c.args.self.now.host c.args.self.now.sessions c.replaced.new.carried) c.replaced.ensures.fate
 
 pub returns-in-Err-clause-rooms : goal.returns-in-Err-clause-rooms
 returns-in-Err-clause-rooms g c = λ keep roomy fresh.
     replaced_roomy keep (g.D.Disk.byte_count c.args.self.now.host.log.disk.disk) c.replaced-in-Err.result causes.Memory
-    (running_with {F = g.row.F.Denot} {X = g.row.X.Denot} c.args.self.now.host c.replaced-in-Err.new.carried) c.replaced-in-Err.ensures.fate
+    (running_with {F = g.row.F.Denot} {X = g.row.X.Denot} c.args.self.now.host c.args.self.now.sessions c.replaced-in-Err.new.carried) c.replaced-in-Err.ensures.fate
 
 pub returns-in-Ok-None-clause-left : goal.returns-in-Ok-None-clause-left
 returns-in-Ok-None-clause-left g c = λ told keep roomy fresh.
