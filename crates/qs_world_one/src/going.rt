@@ -56,6 +56,7 @@ pub fn turns_go_on<D: Disk>()
     ensures room { (began : Began) (start : World) (old ready : CellState D) (ends : List NodeEnds) (clients : List ClientCell) → RoomGoesOn D.told D.state D.byte_count began start old ready ends clients }
     ensures begins { (began : Began) (start : World) (old begun : CellState D) (ends : List NodeEnds) (clients : List ClientCell) → VisitBegins D.told D.state D.byte_count began start old begun ends clients }
 {}
+
 /// A visit of a node that is up goes on in the world turn by turn, and one of a node that is down by a restart. And what a cell that is shown tells is the history of a run.
 pub fn visits_go_on<D: Disk>()
     ensures visits { (began : Began) (start : World) (old new : Seat D) (clients : List ClientCell) → VisitsGoOn D.told D.state D.fault_count D.byte_count began start old new clients }

@@ -263,5 +263,6 @@ pub mod TalliedCommands
 pub mod TalliedStages
 pub mod TalliedOpened
 pub mod TalliedMoves
+pub mod CountsAlone
 pub mod UncrossedEntries
 pub mod UncrossedRuns

@@ -18,7 +18,7 @@ use Rattle.qs_tm.specs.Manager as tm
 use Rattle.qs_tm.specs.Participant.{member_of}
 use Rattle.qs_tm.specs.declared.manager.Manager.{Manager}
 use Rattle.qs_tm.specs.declared.participant.Participant.{Participant}
-use Rattle.qs_world.specs.Moves.{Move, may_move, moved}
+use Rattle.qs_world.specs.Moves.{Move, Source, may_move, may_serve, moved}
 use Rattle.qs_world.specs.World.{Opening, World}
 use Rattle.qs_world_refine.specs.Sights.{server_no}
 use Rattle.qs_world_runs.specs.Joined.{Joined}
@@ -86,3 +86,7 @@ OpensCounted = Opens CountedAt
 
 abbrev pub MovesKeepCounted : (Opening → World → Type 0) → Type 0
 MovesKeepCounted P = (o : Opening) (world : World) (move : Move) → Joined P o world → CountedAt o world → may_move world move ≡ true → CountedAt o (moved move world)
+
+-- so what waits there may be served, at each moment of a run along which that goes on
+abbrev pub EachCountsAlone : (Opening → World → Type 0) → Type 0
+EachCountsAlone P = (o : Opening) (world : World) → Joined P o world → world.size ≡ 1 → world.channels.up 0 ≡ true → (source : Source) → may_serve (world.hosts 0).node source ≡ true
