@@ -13,9 +13,10 @@ use Rattle.qs_book_journal.specs.declared.script_line.Command.TheVariants as com
 use Rattle.qs_book_journal.specs.declared.script_line.PointKind.TheVariants as kinds
 use Rattle.qs_book_script.specs.declared.script.Planned.{Planned}
 use Rattle.qs_book_script.specs.declared.script.Script.{Script}
+use Rattle.qs_book_conformance.specs.Crashes.{last_stamp}
 use Rattle.qs_book_conformance.specs.OwnerRows.{a}
-use Rattle.qs_book_conformance.specs.FileRows.{put_xy, xy_start, xy_votes}
-use Rattle.qs_book_conformance.specs.Scenes.{node, client, member, put, seat, said, asks, script, with_faults, crash, stop, before, after, step, judged, well, broken_at, unlawful_at}
+use Rattle.qs_book_conformance.specs.FileRows.{put_xy, xy_start, xy_votes, found}
+use Rattle.qs_book_conformance.specs.Scenes.{node, client, tid, member, put, seat, said, asks, script, with_faults, crash, stop, before, after, step, judged, well, broken_at, unlawful_at}
 use Rattle.qs_book_conformance.specs.declared.fault.Misfit.{Misfit}
 use Rattle.qs_book_conformance.specs.declared.fault.Rule.TheVariants as rules
 
@@ -53,11 +54,21 @@ after_vote = after 0 kinds.Vote a ∷ []
 abbrev pub voted_then : List Entry → Option Misfit
 voted_then end = judged 1 (with_faults after_vote (put_xy a)) (xy_votes votes.Recoverable ++ end)
 
+-- or with a vote that has the last stamp
+abbrev pub voted_last_then : List Entry → Option Misfit
+voted_last_then end = judged 1 (with_faults after_vote (put_xy a)) (xy_start ++ (step last_stamp 0 (acts.Vote (tid 1) (member 0 0) votes.Recoverable 1 ∷ []) ++ end))
+
+abbrev pub stops_last : List Entry
+stops_last = step last_stamp 0 (acts.Crash crashes.Plan ∷ [])
+
 pub record AfterRows : Type 0 where
   pub right_after : voted_then (step 6 0 (acts.Crash crashes.Plan ∷ [])) ≡ well
   pub in_the_step : voted_then (step 5 0 (acts.Crash crashes.Plan ∷ [])) ≡ broken_at 8 rules.CrashHasItsLine
   pub later : voted_then (step 6 0 (acts.Tick ∷ []) ++ step 7 0 (acts.Crash crashes.Plan ∷ [])) ≡ broken_at 9 rules.CrashHasItsLine
   pub earlier : stopped_by after_vote ≡ broken_at 6 rules.CrashHasItsLine
+  -- which the crash has too, and no crash after it
+  pub at_last : voted_last_then stops_last ≡ well
+  pub behind_last : voted_last_then (stops_last ++ (step last_stamp 0 (acts.Restart 2 found [] ∷ []) ++ stops_last)) ≡ broken_at 9 rules.CrashHasItsLine
 
 -- ---- two transactions: the first crash may have either line, the second only the first one's
 

@@ -13,9 +13,13 @@ use Rattle.qs_book_conformance.specs.declared.fault.Rule.{Rule}
 use Rattle.qs_book_conformance.specs.declared.fault.Rule.TheVariants as rules
 use Rattle.qs_book_conformance.specs.declared.values.NodeCourse.{NodeCourse}
 
--- the step before made the entry after which a line stops the node; the crash is a step of its own
+-- no stamp is greater
+abbrev pub last_stamp : ℕ
+last_stamp = 2 ^ 62 - 1
+
+-- the step before made the entry after which a line stops the node; the crash is a step of its own, with a greater stamp where there is one
 abbrev pub is_right_after : NodeCourse → ℕ → Bool
-is_right_after node stamp = node.is_after && nat_lt node.stamp stamp
+is_right_after node stamp = node.is_after && (nat_lt node.stamp stamp || (stamp == last_stamp))
 
 -- a line is left for one more
 abbrev pub has_line : NodeCourse → Bool

@@ -11,14 +11,17 @@ use qs_book_journal::CrashCause;
 /// The quota of a node where the script sets none.
 pub const DEFAULT_QUOTA: u64 = 1_048_576;
 
+/// No stamp is greater.
+const LAST_STAMP: Stamp = (1 << 62) - 1;
+
 // ---- one node
 
 /// Whether this stamp is that of a step right after the one that made the entry after which a line
-/// stops the node.
+/// stops the node: a greater one, or the last, which stays.
 pub fn is_right_after(node: &NodeCourse, stamp: Stamp) -> bool
     ensures { result ≡ is_right_after node.now stamp }
 {
-    node.is_after && node.stamp < stamp
+    node.is_after && (node.stamp < stamp || stamp == LAST_STAMP)
 }
 
 fn crash_by(node: &mut NodeCourse, stamp: Stamp, cause: CrashCause) -> Result<(), NoMemory>

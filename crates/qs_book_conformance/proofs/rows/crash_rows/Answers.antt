@@ -16,7 +16,7 @@ returns c = record {
     each = refl;
     both = refl;
   };
-  after = record { right_after = refl; in_the_step = refl; later = refl; earlier = refl };
+  after = record { right_after = refl; in_the_step = refl; later = refl; earlier = refl; at_last = refl; behind_last = refl };
   shared = record { either = refl; turned = refl; one = refl; other = refl; past_both = refl };
   cause = record { disk = refl; between = refl; falls = refl; still = refl; stamps = refl; counts = refl; no_last = refl; memory = refl };
 }
