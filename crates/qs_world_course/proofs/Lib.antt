@@ -1,0 +1,10 @@
+pub mod Borrows
+pub mod Closes
+pub mod DueLaws
+pub mod Given
+pub mod KindsKept
+pub mod LinesLeft
+pub mod LoansGo
+pub mod LoansStay
+pub mod MadeLaws
+pub mod Stays
