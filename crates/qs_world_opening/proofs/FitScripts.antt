@@ -1,5 +1,5 @@
 -- Each script that is read fits: what holds of the lines so far goes on line by line, and so to each client.
-use Rattle.std.proofs.Common.{◌≡◌, ℕ, ◌+◌, ◌≤◌, ◌<◌, ◌==◌, ◌&&◌, ◌++◌, not, nat_le, nat_lt, Bool, true, false, List, [], ◌∷◌, Option, Some, None, append-nil, refl, sym, ap, subst, ◌∙◌, arith, if◌then◌else◌}
+use Rattle.std.proofs.Common.{◌≡◌, ℕ, ◌+◌, ◌≤◌, ◌<◌, ◌==◌, ◌&&◌, ◌++◌, not, nat_le, nat_lt, Bool, true, false, List, [], ◌∷◌, Option, Some, None, Ok, append-nil, refl, sym, subst, ◌∙◌, arith, if◌then◌else◌}
 use Rattle.std.specs.Prelude.{find}
 use Rattle.std.specs.List.{list_all}
 use Rattle.std.proofs.lemmas.Bool.Decides.{nat_tests}
@@ -13,6 +13,7 @@ use Rattle.qs_ops.specs.Operations.{server_of}
 use Rattle.qs_ops.specs.declared.operation.Op.{Op}
 use Rattle.qs_ops.specs.declared.operation.Op.TheVariants as ops
 use Rattle.qs_text_script.specs.Rules.{is_again, is_begun, is_client, is_known, is_node, is_owner, loan_line, may_use, names_order, sits, with_line}
+use Rattle.qs_text_script.specs.Script.{script_of}
 use Rattle.qs_book_script.specs.Statements.{line_states}
 use Rattle.qs_book_script.specs.declared.script.Script.{Script}
 use Rattle.qs_book_script.specs.declared.script.Seat.{Seat}
@@ -32,10 +33,10 @@ abbrev is_seat : ℕ → Seat → Bool
 is_seat nodes seat = is_in_run nodes seat.node
 
 -- what holds of the script of the lines so far
-record Holds (nodes : ℕ) (script : Script) : Type 0 where
-  seats : list_all (is_seat nodes) script.seats ≡ true
-  audit : is_audit nodes script.audit ≡ true
-  lines : AreFit nodes script.count script.lines
+pub record Holds (nodes : ℕ) (script : Script) : Type 0 where
+  pub seats : list_all (is_seat nodes) script.seats ≡ true
+  pub audit : is_audit nodes script.audit ≡ true
+  pub lines : AreFit nodes script.count script.lines
 
 turned : (b : Bool) → not b ≡ true → b ≡ false
 turned true is = absurd (cc is)
@@ -116,6 +117,10 @@ place_low nodes client seats some all = by (find (sits client) seats) refl
     by None away = some
     by (Some seat) found = seat_low nodes (sits client) seats seat all found
 
+pub script_holds : (nodes : ℕ) (text : List ℕ) (script : Script) → script_of nodes text ≡ Ok script → Holds nodes script
+script_holds nodes text script is = read_all nodes (Holds nodes) (λ before line right was. one_line nodes before was (line_states line) (lines_own line) right.known right.once) text script
+    (record { seats = refl; audit = refl; lines = none_fit nodes }) is
+
 pub script_fits : (nodes : ℕ) (text : List ℕ) (script : Script) → ScriptFits nodes text script
 script_fits nodes text script least most is = record {
   opens = λ alloc incs logs begun. record {
@@ -128,8 +133,7 @@ script_fits nodes text script least most is = record {
 }
   where
     holds : Holds nodes script
-    holds = read_all nodes (Holds nodes) (λ before line right was. one_line nodes before was (line_states line) (lines_own line) right.known right.once) text script
-        (record { seats = refl; audit = refl; lines = none_fit nodes }) is
+    holds = script_holds nodes text script is
 
     at_most : (a b : ℕ) → a ≤ b → nat_le a b ≡ true
     at_most a b le = grind (arith, nat_tests, le)

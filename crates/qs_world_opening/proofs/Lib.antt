@@ -1,8 +1,12 @@
+pub mod CourseLines
+pub mod CourseTables
 pub mod FewRounds
 pub mod FitLines
 pub mod FitScripts
 pub mod Fresh
 pub mod Labels
+pub mod Lists
+pub mod Named
 pub mod Reading
 pub mod Rising
 pub mod Stated

@@ -1,2 +1,3 @@
 pub mod Coherent
 pub mod Scripts
+pub mod CourseScripts

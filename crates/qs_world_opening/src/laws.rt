@@ -5,6 +5,7 @@ ghost use Rattle.qs_record.specs.declared.record.Record.{Record};
 ghost use Rattle.qs_book_script.specs.declared.script.Script.{Script};
 ghost use Rattle.qs_world.specs.World.{Opening};
 ghost use Rattle.qs_world_opening.specs.Coherent.{AreCoherentLogs, IsCoherentImage};
+ghost use Rattle.qs_world_opening.specs.CourseScripts.{ScriptIsOf};
 ghost use Rattle.qs_world_opening.specs.Scripts.{BeginsCoherent, MayBegin, ScriptFits, StayCoherent};
 
 use qs_log_batch::counted_once;
@@ -13,6 +14,12 @@ use qs_log_batch::counted_once;
 /// server whose operation it is, at a node of the run, each label is begun once, and nobody takes a loan of what it began.
 pub fn scripts_fit()
     ensures { (nodes : ℕ) (text : List ℕ) (script : Script) → ScriptFits nodes text script }
+{}
+
+/// Each script that is read is that of its run: the course of a journal begins with each client at its node and with its lines, and with the quotas and the
+/// audit node that the nodes have; no node has an age limit; and a client ends what it began, gives back what it took, and lends to a client at that one's node.
+pub fn scripts_are_of_their_runs()
+    ensures { (nodes : ℕ) (text : List ℕ) (script : Script) → ScriptIsOf nodes text script }
 {}
 
 /// What a run may begin with is what fits, over logs that are coherent.

@@ -3,4 +3,7 @@
 
 mod laws;
 
-pub use laws::{fresh_disks_are_coherent, logs_stay_coherent, scripts_fit, what_fits_may_begin};
+pub use laws::{
+    fresh_disks_are_coherent, logs_stay_coherent, scripts_are_of_their_runs, scripts_fit,
+    what_fits_may_begin,
+};
