@@ -7,4 +7,5 @@ pub mod LinesLeft
 pub mod LoansGo
 pub mod LoansStay
 pub mod MadeLaws
+pub mod Opens
 pub mod Stays

@@ -18,3 +18,5 @@ pub mod Answered
 pub mod Going
 -- Crashes of one node and the fault lines of the script.
 pub mod Lines
+-- What the course of a run has of its world.
+pub mod Worlds
