@@ -192,8 +192,8 @@ peer_restarted_keeps peer old new work = happens_keep (events.PeerRestarted peer
 pub serve_next_keeps : (work : Work) (server : ServerNo) → Keeps work (serve_next work server)
 serve_next_keeps work server h = (rules.serve_turn_keeps events.ServeAll (I events.ServeAll work tt) (whole events.ServeAll work tt) server refl work (refl, h)).1
 
-pub old_keeps : (work : Work) (age : ℕ) (tid : Tid) → Keeps work (abort_old age work tid)
-old_keeps work age tid h = ((whole events.Tick work tt).decides tid outcomes.Abort (Some (causes.Old age)) false work (Old age refl refl) (refl, h)).1
+pub old_keeps : (work : Work) (age : ℕ) (tid : Tid) → work.node.setting.age ≡ Some age → Keeps work (abort_old age work tid)
+old_keeps work age tid limit h = ((whole events.Tick work tt).decides tid outcomes.Abort (Some (causes.Old age)) false work (Old age refl limit refl) (refl, h)).1
 
 pub passes_keep : (work : Work) (tid : Tid) → Keeps work (try tid pass_rule work)
 passes_keep work tid h = (stages.passes_keep events.ServeAll (I events.ServeAll work tt) (whole events.ServeAll work tt) tid work (refl, h)).1

@@ -33,6 +33,7 @@ module _ (stamp : ℕ) (before : BookValue) (run : InRun before) (age time : ℕ
     pub held : HoldsWork stamp before work
     pub beside : HoldsBeside (book_at stamp before work) work.node
     pub facts : HasNodeFacts work.node
+    pub limit : work.node.setting.age ≡ Some age
     pub ticks : work.node.manager.ticks ≡ time
     pub ticked : ticked_at (book_at stamp before work) work.node.setting.node.0 ≡ Some stamp
 
@@ -68,7 +69,8 @@ module _ (stamp : ℕ) (before : BookValue) (run : InRun before) (age time : ℕ
     next = let held : HoldsWork stamp before (abort_old age work tid) = aborted stamp before tid work s.held a.part a.known a.unknown decides (causes.Old age) cause in record {
       held = held;
       beside = (goes_abort stamp before run tid (causes.Old age) work).keeps held.lawful s.beside;
-      facts = old_keeps work age tid s.facts;
+      facts = old_keeps work age tid s.limit s.facts;
+      limit = ap (λ (t : Setting). t.age) left.setting ∙ s.limit;
       ticks = left.ticks ∙ s.ticks;
       ticked = ap (λ (t : Setting). ticked_at (book_at stamp before (abort_old age work tid)) t.node.0) left.setting ∙ (left.ticked work.node.setting.node.0 ∙ s.ticked);
     }
@@ -94,20 +96,21 @@ module _ (stamp : ℕ) (before : BookValue) (run : InRun before) (work : Work) (
   abbrev ticking : Work
   ticking = tick_work work
 
-  begins : StandsAged stamp before run 0 ticking.node.manager.ticks ticking
-  begins = let later : HoldsWork stamp before ticking = by_tick stamp before work held in record {
-    held = later;
-    beside = (goes_ticked stamp before run work room).keeps later.lawful beside;
-    facts = ticks_keep work facts;
-    ticks = refl;
-    ticked = ap (λ (b : BookValue). ticked_at b work.node.setting.node.0) (book_now stamp before work ticking acts.Tick refl refl)
-        ∙ ap (option_map (λ (x : machine.NodeValue). x.ticked)) (changed_at_here (tick_node stamp) (book_at stamp before work).nodes work.node.setting.node.0 beside.state beside.there);
-  }
-
   time_is : (k b a : ℕ) → k + 1 < 2 ^ 62 → b ≤ k → k - b < a → nat_le a (min (k + 1) (2 ^ 64 - 1) - b) ≡ true → (nat_lt 0 a ≡ true) × (min (k + 1) (2 ^ 64 - 1) ≡ b + a)
   time_is k b a small low short long = (grind (arith, nat_tests, small, low, short, long), grind (arith, nat_tests, small, low, short, long))
 
   module _ (age : ℕ) (limit : work.node.setting.age ≡ Some age) where
+    begins : StandsAged stamp before run age ticking.node.manager.ticks ticking
+    begins = let later : HoldsWork stamp before ticking = by_tick stamp before work held in record {
+      held = later;
+      beside = (goes_ticked stamp before run work room).keeps later.lawful beside;
+      facts = ticks_keep work facts;
+      limit = limit;
+      ticks = refl;
+      ticked = ap (λ (b : BookValue). ticked_at b work.node.setting.node.0) (book_now stamp before work ticking acts.Tick refl refl)
+          ∙ ap (option_map (λ (x : machine.NodeValue). x.ticked)) (changed_at_here (tick_node stamp) (book_at stamp before work).nodes work.node.setting.node.0 beside.state beside.there);
+    }
+
     aged : (t : Tid) → IsIn (whiches.Aged ticking.node.manager.ticks age) work.node.manager.known t → IsAged age ticking.node.manager.ticks ticking.node.manager t
     aged t is = record { part = part; known = is.1; unknown = none; home = home; some = times.0; old = times.1 }
       where
@@ -131,7 +134,7 @@ module _ (stamp : ℕ) (before : BookValue) (run : InRun before) (work : Work) (
 
     may_these : AtEach (MayAbortOld age stamp before) (abort_old age) ticking (tm.aged age ticking.node.manager)
     may_these = subst (λ (ts : List Tid). AtEach (MayAbortOld age stamp before) (abort_old age) ticking ts) (sym (chosen_are (whiches.Aged ticking.node.manager.ticks age) work.node.manager.known []))
-        (may_all stamp before run age ticking.node.manager.ticks _ ticking (record { held = begins.held; beside = begins.beside; facts = begins.facts; ticks = begins.ticks; ticked = begins.ticked })
+        (may_all stamp before run age ticking.node.manager.ticks _ ticking begins
         (every_all (IsIn (whiches.Aged ticking.node.manager.ticks age) work.node.manager.known) (IsAged age ticking.node.manager.ticks ticking.node.manager) aged _ its.0) its.1)
       where
         its : Every (IsIn (whiches.Aged ticking.node.manager.ticks age) work.node.manager.known) (chosen (whiches.Aged ticking.node.manager.ticks age) work.node.manager.known) × AllApart (chosen (whiches.Aged ticking.node.manager.ticks age) work.node.manager.known)

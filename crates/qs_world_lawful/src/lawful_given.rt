@@ -108,7 +108,7 @@ pub fn stages_keep_the_facts()
     ensures serves { (work : Work) (server : ServerNo) → HasNodeFacts work.node → HasNodeFacts (serve_next work server).node }
     ensures restarts { (peer : NodeNo) (old new : ℕ) (work : Work) → HasNodeFacts work.node → HasNodeFacts (peer_restarted peer old new work).node }
     ensures ticks { (work : Work) → HasNodeFacts work.node → HasNodeFacts (tick_work work).node }
-    ensures olds { (work : Work) (age : ℕ) (tid : Tid) → HasNodeFacts work.node → HasNodeFacts (abort_old age work tid).node }
+    ensures olds { (work : Work) (age : ℕ) (tid : Tid) → work.node.setting.age ≡ Some age → HasNodeFacts work.node → HasNodeFacts (abort_old age work tid).node }
     ensures passes { (work : Work) (tid : Tid) → HasNodeFacts work.node → HasNodeFacts (try tid pass_rule work).node }
     ensures readies { (work : Work) (tid : Tid) → HasNodeFacts work.node → HasNodeFacts (try tid ready_rule work).node }
     ensures refuses { (work : Work) (tid : Tid) → HasNodeFacts work.node → HasNodeFacts (try tid refuse_rule work).node }

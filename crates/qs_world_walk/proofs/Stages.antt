@@ -100,7 +100,7 @@ module _ (event : Event) (I : Stage → Work → Type 0) (r : Whole event I) whe
           (λ decided is. rules.answer_keeps event I r true client command (d.Over decided) work there (tid, (its, is)))
 
       borrowers : (command : OpenCommand) → InHand client command work → (i : Option Issued) → command.issued ≡ i → (o : Option Tid) → IsMet client command false o work → W work → W (borrower_waits client i o command.line.command work)
-      borrowers command there (Some issued) is o its = shapes.if_keeps W (is_aborted issued.tid work.node) (answer client answers.Ended work) work work (λ over. rules.answer_keeps event I r true client command (d.Ended issued) work there (is, over)) (λ on h. h)
+      borrowers command there (Some issued) is o its = shapes.if_keeps W (is_aborted issued.tid work.node) (answer client answers.Ended work) work work (λ over. rules.answer_keeps event I r true client command (d.Ended issued) work there (o, (its, (is, over)))) (λ on h. h)
       borrowers command there None is None its = λ h. h
       borrowers command there None is (Some tid) its = commanded.borrower_keeps event I r client command work there true tid its
 

@@ -118,6 +118,19 @@ module _ (event : Event) (I : Stage → Work → Type 0) (k : Table event I) whe
   alone (d.Sends to message) when work is m h = absurd m
   alone deed when work is m h = k deed when work m h
 
+  -- the limit stays, so what is old is aborted by it, one after another
+  module _ (age : ℕ) where
+    abbrev Limited : Stage → Work → Type 0
+    Limited stage work = I stage work × (work.node.setting.age ≡ Some age)
+
+    limited_table : Table event Limited
+    limited_table d.Lets when work m h = (k d.Lets when work m h.0, h.1)
+    limited_table deed when work m h = (k deed when work m h.0, h.1)
+
+  ages_keep : (age : ℕ) (work : Work) → event ≡ events.Tick → work.node.setting.age ≡ Some age → P work → P (fold (abort_old age) work (tm.aged age work.node.manager))
+  ages_keep age work is limit h = (shapes.fold_keeps (Limited age after) (abort_old age)
+      (λ w tid both. rules.decided_keeps event (Limited age) (limited_table age) tid outcomes.Abort (Some (causes.Old age)) false w (may.Old age is both.1 refl) both) (tm.aged age work.node.manager) work (h, limit)).0
+
   pub whole_of : Whole event I
   whole_of = record {
     does = alone;
@@ -127,7 +140,7 @@ module _ (event : Event) (I : Stage → Work → Type 0) (k : Table event I) whe
     tells = told.tell_keeps event I k;
     inquired = told.inquiry_keeps event I k;
     notices = told.notice_keeps event I k;
-    ages = λ age work is set. shapes.fold_keeps P (abort_old age) (λ w tid. rules.decided_keeps event I k tid outcomes.Abort (Some (causes.Old age)) false w (may.Old age is refl)) (tm.aged age work.node.manager) work;
+    ages = ages_keep;
     asked = λ peer tid part work may running h. asked_keeps tid part work (k (d.BecomesAsked peer tid) tt work may h);
     asks = λ line tid part work may h. asked_keeps tid part (enter_ask tid work) (k (d.Asks line tid) tt work (may.came, (may.there, (may.commit, (may.met, (may.undecided, (part, (may.running, may.first))))))) h);
     issues = rules.issue_as_keeps event I k;

@@ -94,7 +94,7 @@ MayAnswer client command d.Unbegun work = IsMet client command true None work
 MayAnswer client command (d.Over decided) work = (tid : Tid) × (IsMet client command true (Some tid) work × (kept_outcome tid work.node ≡ Some decided))
 MayAnswer client command (d.NotIts loan) work = (tid : Tid) × (IsMet client command false (Some tid) work × ((last_taken client tid work.node.kept.now.loans ≡ Some loan) × (loan.yielded ≡ true)))
 MayAnswer client command (d.Void loan) work = (tid : Tid) × (IsMet client command false (Some tid) work × ((last_taken client tid work.node.kept.now.loans ≡ Some loan) × ((loan.yielded ≡ false) × (is_void tid loan work.node ≡ true))))
-MayAnswer client command (d.Ended issued) work = (command.issued ≡ Some issued) × (is_aborted issued.tid work.node ≡ true)
+MayAnswer client command (d.Ended issued) work = (of : Option Tid) × (IsMet client command false of work × ((command.issued ≡ Some issued) × (is_aborted issued.tid work.node ≡ true)))
 
 -- the owner's transaction is not decided, or the borrower has a loan
 abbrev pub MayUse : ClientNo → OpenCommand → Tid → Work → Type 0
@@ -141,7 +141,7 @@ pub record IsReady (tid : Tid) (part : Participant) (work : Work) : Type 0 where
 pub data MayAbort (event : Event) (tid : Tid) (cause : Option Cause) (work : Work) : Type 0 where
   Commanded : (line : ScriptLine) (part : Participant) → event ≡ command_of line → InHand line.client (fresh_command line) work → line.command ≡ commands.Abort → IsMet line.client (fresh_command line) true (Some tid) work → kept_outcome tid work.node ≡ None → IsOpen tid part work
       → cause ≡ Some causes.Asked → MayAbort event tid cause work
-  Old : (age : ℕ) → event ≡ events.Tick → cause ≡ Some (causes.Old age) → MayAbort event tid cause work
+  Old : (age : ℕ) → event ≡ events.Tick → work.node.setting.age ≡ Some age → cause ≡ Some (causes.Old age) → MayAbort event tid cause work
   Refused : (part : Participant) (first : Cause) (more : List Cause) → IsOpen tid part work → part.engage.home ≡ true → part.causes ≡ first ∷ more → cause ≡ Some first → MayAbort event tid cause work
   NoRoom : (part : Participant) (need : ℕ) → IsReady tid part work → tm.need_past tid work.room work.node.manager ≡ Some need → cause ≡ Some (causes.Room need work.room) → MayAbort event tid cause work
 
