@@ -8,4 +8,5 @@ pub mod LoansGo
 pub mod LoansStay
 pub mod MadeLaws
 pub mod Opens
+pub mod ReasonsTable
 pub mod Stays

@@ -20,3 +20,5 @@ pub mod Going
 pub mod Lines
 -- What the course of a run has of its world.
 pub mod Worlds
+-- What a step does for clients, with its reasons.
+pub mod Reasons
