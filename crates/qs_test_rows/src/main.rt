@@ -3,6 +3,7 @@
 //! A line `## KIND` of standard input says of which kind the rows behind it are, and a line `# NAME`
 //! begins a row. The module of its kind says what else a row is made of:
 //! - `histories`: histories that are judged, and neighbours of them that break a clause.
+//! - `loads`: seeds, with the load scripts that they make.
 //! - `misfits`: scripts with histories that are judged by them, and neighbours that do not conform.
 //! - `scripts`: words and scripts, with their forms, meanings and faults.
 //! - `texts`: words, scripts and histories, printed as the values that were read.
@@ -11,6 +12,7 @@
 #![tactic(auto)]
 
 mod histories;
+mod loads;
 mod misfits;
 mod printing;
 mod row;
@@ -20,6 +22,7 @@ mod texts;
 
 use anyhow::{Context, Error, bail};
 use histories::judge_history;
+use loads::show_load;
 use misfits::judge_misfit;
 use row::Row;
 use scripts::Scripts;
@@ -31,6 +34,7 @@ use texts::Texts;
 #[derive(Clone, Copy)]
 enum Kind {
     Histories,
+    Loads,
     Misfits,
     Scripts,
     Texts,
@@ -40,6 +44,7 @@ enum Kind {
 fn kind_of(heading: &str) -> Result<Kind, Error> {
     match heading {
         "histories" => Ok(Kind::Histories),
+        "loads" => Ok(Kind::Loads),
         "misfits" => Ok(Kind::Misfits),
         "scripts" => Ok(Kind::Scripts),
         "texts" => Ok(Kind::Texts),
@@ -85,6 +90,7 @@ impl Rows {
     fn add<R: AllocGlobal + Print>(&mut self, rt: &R, line: &str) -> Result<(), Error> {
         match self.kind {
             Some(Kind::Histories) | Some(Kind::Misfits) => self.add_to_row(rt, line),
+            Some(Kind::Loads) => show_load(rt, line),
             Some(Kind::Scripts) => self.scripts.add(rt, line),
             Some(Kind::Texts) => self.texts.add(rt, line),
             None => bail!("a line stands under no heading"),

@@ -17,19 +17,6 @@ struct ScriptText {
 }
 
 impl ScriptText {
-    /// Prints what is read of it.
-    fn judge<R: AllocGlobal + Print>(&self, rt: &R) -> Result<(), Error> {
-        match read_script(rt.alloc(), self.text.as_bytes(), self.nodes) {
-            Ok(script) => {
-                let printed = print_script(rt, &script);
-                drop(script);
-                printed
-            }
-            Err(ScriptFailed::Fault { line, fault }) => tell_fault(rt, line, fault),
-            Err(ScriptFailed::NoMemory) => bail!("no memory"),
-        }
-    }
-
     /// Adds what a line of a row says of its text.
     fn add(&mut self, line: &str) -> Result<(), Error> {
         if let Some(text) = line.strip_prefix("|") {
@@ -54,6 +41,23 @@ impl ScriptText {
             self.text.push_str(end)?;
         }
         Ok(())
+    }
+}
+
+/// Prints what is read of a script for so many nodes.
+pub(crate) fn judge_script<R: AllocGlobal + Print>(
+    rt: &R,
+    text: &[u8],
+    nodes: u8,
+) -> Result<(), Error> {
+    match read_script(rt.alloc(), text, nodes) {
+        Ok(script) => {
+            let printed = print_script(rt, &script);
+            drop(script);
+            printed
+        }
+        Err(ScriptFailed::Fault { line, fault }) => tell_fault(rt, line, fault),
+        Err(ScriptFailed::NoMemory) => bail!("no memory"),
     }
 }
 
@@ -92,7 +96,7 @@ impl Scripts {
     /// Prints what is read of the script that ends here, if one does.
     pub(crate) fn finish<R: AllocGlobal + Print>(&mut self, rt: &R) -> Result<(), Error> {
         if let Some(last) = self.row.as_ref() {
-            last.judge(rt)?;
+            judge_script(rt, last.text.as_bytes(), last.nodes)?;
         }
         self.row = None;
         Ok(())

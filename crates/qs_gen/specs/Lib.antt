@@ -1,0 +1,4 @@
+-- The lines of a load script.
+pub mod Lines
+-- The whole of it, as a function of its seed.
+pub mod Load
