@@ -41,7 +41,7 @@ spelled_on : (j n : ℕ) (acc : List ℕ) (t : Bool) → eqb (n / 16) 0 ≡ t �
 spelled_on j n acc t e =
     ap (λ (b : Bool). cond b (digit_glyph false (n % 16) ∷ acc) (digits_onto j 16 false (n / 16) (digit_glyph false (n % 16) ∷ acc))) e
 
--- with zeros before it, the text has one digit more than k, and then what stands behind the number
+-- zeros before it make of the text k + 1 digits of the number, with what stands behind them
 abbrev IsPadded : ℕ → ℕ → List ℕ → List ℕ → Type 0
 IsPadded k n acc spelled = replicate (suc k + length acc - length spelled) 48 ++ spelled ≡ hex_digits (suc k) n ++ acc
 

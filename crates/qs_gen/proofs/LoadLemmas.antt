@@ -1,5 +1,5 @@
 -- A part of a load script goes on by one, and is whole at its count.
-use Rattle.std.proofs.Common.{◌≡◌, ℕ, zero, suc, ◌+◌, List, refl, add-one}
+use Rattle.std.proofs.Common.{◌≡◌, ℕ, ◌+◌, List, refl, add-one}
 use Rattle.qs_gen.specs.Lines.{client_line}
 use Rattle.qs_gen.specs.Load.{with_line, with_clients, with_put, with_puts, with_transaction, with_transactions, with_commands}
 use Rattle.qs_gen.specs.declared.draft.Draft.{Draft}

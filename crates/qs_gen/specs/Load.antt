@@ -1,6 +1,6 @@
 -- The load script of a seed: the words that it needs are drawn one after another.
 use Rattle.std.specs.Prelude.{ℕ, zero, suc, List, [], ◌++◌}
-use Rattle.rand_pcg.specs.Lcg.{Lcg, started, increment_of}
+use Rattle.rand_pcg.specs.Lcg.{started, increment_of}
 use Rattle.rand_pcg.specs.Pcg.{multiplier_64, pcg32}
 use Rattle.qs_gen.specs.Lines.{client_line, begin_line, put_line, end_line}
 use Rattle.qs_gen.specs.declared.draft.Draft.{Draft}
