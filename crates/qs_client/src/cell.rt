@@ -5,7 +5,7 @@ ghost use Rattle.rtrb.specs.Ring.{received, known_free, known_items};
 ghost use Rattle.qs_link.specs.Lane.{Fed};
 ghost use Rattle.qs_client.specs.Lending.{LendsCommands, LendsAnswers};
 ghost use Rattle.qs_client.specs.Progress.{begun, number_at, to_send, sent, heard};
-ghost use Rattle.qs_client.specs.Turns.{Turns};
+ghost use Rattle.qs_client.specs.Turns.{HearsCarried, HearsThenSends, SendsIf, Turns, first_answer};
 
 use crate::progress::Progress;
 use qs_base::{ClientNo, List, NoMemory};
@@ -115,12 +115,14 @@ impl ClientCell {
         }
     }
 
-    /// A turn in a round, as `act`, but of what was carried alone: it takes no answer from the ring, and
-    /// pushes nothing into the ring. False exactly where a command was out, or all were answered, and
-    /// no answer was carried. It is no call of `act`.
+    /// A visit in a round, of what was carried alone: it takes the answer that was carried first, if one was, and then
+    /// sends the command that it stands at, if none is out. It takes nothing from a ring and pushes nothing into
+    /// one. True where it took or sent; false exactly where no answer was carried and it had nothing to send.
+    /// `NoMemory` comes where memory was refused for a command to send; then the answer is taken, if one was
+    /// carried, and nothing was sent. It is no call of `act`.
     pub fn visit(&mut self) -> Result<bool, NoMemory>
-        // What the turn did.
-        ensures turn { IfOk result (λ did. Turns (to_send self.old.progress) did self.old self.new) }
+        // What the visit did.
+        ensures turn { IfOk result (λ did. HearsThenSends did self.old self.new) }
         ensures acts { self.new.acts ≡ self.old.acts }
         ensures client { self.new.client ≡ self.old.client }
 
@@ -132,6 +134,33 @@ impl ClientCell {
         ensures answers_ring { self.new.answers.ring ≡ self.old.answers.ring }
 
         // Want of memory.
+        ensures memory { OnErr result (to_send self.new.progress ≢ None) }
+        ensures err { OnErr result (HearsCarried self.old self.new) }
+    {
+        let has_heard = self.hear_carried();
+        let has_sent = self.send_next()?;
+        Ok(has_heard || has_sent)
+    }
+
+    // Takes the answer that was carried first, and says whether there was one.
+    fn hear_carried(&mut self) -> bool
+        ensures hears { HearsCarried self.old self.new }
+        ensures some { result ≡ is_some (first_answer self.old.answers.inbox) }
+        ensures acts { self.new.acts ≡ self.old.acts }
+        ensures client { self.new.client ≡ self.old.client }
+    {
+        let answer = self.answers.take_carried();
+        hear(&mut self.progress, answer)
+    }
+
+    // Sends the line that it stands at, if none is out, and says whether it did.
+    fn send_next(&mut self) -> Result<bool, NoMemory>
+        ensures sends { OnOk result (SendsIf (to_send self.old.progress) self.old self.new) }
+        ensures some { IfOk result (λ did. did ≡ is_some (to_send self.old.progress)) }
+        ensures acts { self.new.acts ≡ self.old.acts }
+        ensures client { self.new.client ≡ self.old.client }
+        ensures ring { self.new.commands.ring ≡ self.old.commands.ring }
+        ensures answers { self.new.answers ≡ self.old.answers }
         ensures memory { OnErr result (to_send self.old.progress ≢ None) }
         ensures err { OnErr result (self.new ≡ self.old) }
     {
@@ -140,10 +169,7 @@ impl ClientCell {
                 send(&mut self.progress, &mut self.commands, line)?;
                 Ok(true)
             }
-            None => {
-                let answer = self.answers.take_carried();
-                Ok(hear(&mut self.progress, answer))
-            }
+            None => Ok(false),
         }
     }
 

@@ -1,10 +1,11 @@
 //! A script of two lines: in acts, and in visits.
-ghost use Rattle.std.specs.Prelude.{◌≡◌};
+ghost use Rattle.std.specs.Prelude.{◌≡◌, IfOk};
+ghost use Rattle.qs_link.specs.Lane.{IsLane};
 
 use qs_base::{Bytes, ClientNo, List, NoMemory};
 use qs_book_journal::{Command, LineAnswer, ScriptLine};
 use qs_client::{ClientCell, ClientEnds};
-use qs_link::{Draw, Feed, lane};
+use qs_link::{Draw, Feed, carry, lane};
 use qs_ops::Answer;
 use std::alloc::Global;
 use std::test::Fail;
@@ -42,7 +43,10 @@ fn lines(alloc: Global) -> Result<List<ScriptLine>, NoMemory> {
     Ok(lines)
 }
 
-fn lanes(alloc: Global) -> Result<(ClientEnds, Node), NoMemory> {
+fn lanes(alloc: Global) -> Result<(ClientEnds, Node), NoMemory>
+    ensures commands { IfOk result (λ ends. IsLane ends.0.commands ends.1.commands) }
+    ensures answers { IfOk result (λ ends. IsLane ends.1.answers ends.0.answers) }
+{
     let (commands, to_node) = lane(alloc)?;
     let (from_node, answers) = lane(alloc)?;
     let node = Node {
@@ -90,6 +94,32 @@ fn a_visit_leaves_the_rings_alone(rt: HostRuntime) -> Result<(), Fail> {
     let (ends, mut node) = lanes(rt.alloc())?;
     let mut client = ClientCell::new(ClientNo(0), lines, ends);
     let is_right = visits(&mut client, &mut node);
+    drop(client);
+    drop(node);
+    assert!(rt; is_right?);
+    Ok(())
+}
+
+// The answer to line 2 is carried, and the visit takes it and sends line 3.
+fn visits_on(client: &mut ClientCell, node: &mut Node) -> Result<bool, NoMemory>
+    requires commands { IsLane client.old.commands node.old.commands }
+    requires answers { IsLane node.old.answers client.old.answers }
+{
+    let has_sent = client.visit()?;
+    let answer = Answer::Done;
+    let _put = node.answers.put(LineAnswer { line: 2, answer });
+    let is_answered = carry(&mut node.answers, client.answers())? == 1;
+    let has_gone_on = client.visit()? && client.at() == Some(3);
+    let has_come = carry(client.commands(), &mut node.commands)? == 2;
+    Ok(has_sent && is_answered && has_gone_on && has_come)
+}
+
+#[test]
+fn a_visit_takes_and_sends(rt: HostRuntime) -> Result<(), Fail> {
+    let lines = lines(rt.alloc())?;
+    let (ends, mut node) = lanes(rt.alloc())?;
+    let mut client = ClientCell::new(ClientNo(0), lines, ends);
+    let is_right = visits_on(&mut client, &mut node);
     drop(client);
     drop(node);
     assert!(rt; is_right?);

@@ -10,7 +10,7 @@ use Rattle.qs_session_channels.specs.Network.{Among}
 use Rattle.qs_cell_chronicle.specs.Carried.{Commands}
 use Rattle.qs_client.specs.Progress as progress
 use Rattle.qs_client.specs.Progress.{awaits, to_send}
-use Rattle.qs_client.specs.Turns.{Turns}
+use Rattle.qs_client.specs.Turns.{HearsThenSends, SendsIf, first_answer}
 use Rattle.qs_client.specs.declared.cell.ClientCell.{ClientCell}
 use Rattle.qs_client.specs.declared.progress.Progress.{Progress}
 use Rattle.qs_disk.specs.Disk.{DiskState}
@@ -214,11 +214,14 @@ lines_heard (Some answer) r = by (awaits answer.line r)
     by true = refl
     by false = refl
 
+lines_sent : (t : Option ScriptLine) (old new : ClientCell) → SendsIf t old new → new.progress.lines ≡ old.progress.lines
+lines_sent (Some line) old new sends = ap (λ (r : Progress). r.lines) sends.progress
+lines_sent None old new same = ap (λ (c : ClientCell). c.progress.lines) same
+
 -- it keeps its lines
-lines_same : (t : Option ScriptLine) (did : Bool) (old new : ClientCell) → Turns t did old new → new.progress.lines ≡ old.progress.lines
-lines_same (Some line) did old new sends = ap (λ (r : Progress). r.lines) sends.1.progress
-lines_same None true old new takes = ap (λ (r : Progress). r.lines) takes.hears.progress ∙ lines_heard (Some takes.answer) old.progress
-lines_same None false old new hears = ap (λ (r : Progress). r.lines) hears.progress
+lines_same : (did : Bool) (old new : ClientCell) → HearsThenSends did old new → new.progress.lines ≡ old.progress.lines
+lines_same did old new turn = lines_sent (to_send turn.mid.progress) turn.mid new turn.sends
+    ∙ (ap (λ (r : Progress). r.lines) turn.hears.hears.progress ∙ lines_heard (first_answer old.answers.inbox) old.progress)
 
 visited : (inc : ℕ) (now : Option ℕ) (commands : Commands) (ends : List NodeEnds) (shown : ℕ → Client) (old new : ClientCell) (did : Bool) → ClientVisit old new did → ShowsIn inc now commands ends shown old → ShowsIn inc now commands ends shown new
 visited inc now commands ends shown old new did visit s = record {
@@ -231,7 +234,7 @@ visited inc now commands ends shown old new did visit s = record {
 }
   where
     lines : new.progress.lines ≡ old.progress.lines
-    lines = lines_same (to_send old.progress) did old new visit.turn
+    lines = lines_same did old new visit.turn
 
 apart_set : (clients : List ClientCell) (at : ℕ) (old new : ClientCell) → slice_get clients at ≡ Some old → new.client ≡ old.client → AreApart clients → AreApart (slice_set clients at new)
 apart_set [] at old new got same apart = tt

@@ -3,13 +3,12 @@ use Rattle.std.proofs.Common.{◌≡◌, ◌∙◌, ap, inl, inr, refl, subst, s
 use Rattle.std.proofs.lemmas.Bool.Decides.{nat_tests}
 use Rattle.std.specs.Global.{Global}
 use Rattle.qs_client.specs.Progress.{awaits, line_at, to_send}
-use Rattle.qs_client.specs.Turns.{Hears, Sends, Turns}
+use Rattle.qs_client.specs.Turns.{Hears, HearsCarried, HearsThenSends, Sends, SendsIf, first_answer}
 use Rattle.qs_client.specs.declared.cell.ClientCell.{ClientCell}
 use Rattle.qs_client.specs.declared.progress.Progress.{Progress}
 use Rattle.qs_book_journal.specs.declared.script_line.LineAnswer.{LineAnswer}
 use Rattle.qs_book_journal.specs.declared.script_line.ScriptLine.{ScriptLine}
 use Rattle.qs_link.specs.Lane.{DrawValue, Drawn, Fed, on_way}
-use Rattle.qs_world_rounds.specs.Rounds.{ClientVisit}
 use Rattle.rtrb.specs.Ring.{IsPair}
 use Rattle.rtrb.specs.declared.AnyItems.{AnyItems}
 use Rattle.rtrb.specs.declared.consumer.Consumer.{Consumer}
@@ -106,85 +105,93 @@ awaited r line answer out at number = rw (out, at, number) (itself line.line)
     itself : (n : ℕ) → (n == n) ≡ true
     itself n = grind (arith, nat_tests)
 
-module _ (inc : ℕ) (now : Option ℕ) (p : Place) (shown : Client) (new : ClientCell) (did : Bool) (s : ShowsClient inc now p shown) (visit : ClientVisit p.client new did) where
+module _ (inc : ℕ) (now : Option ℕ) (p : Place) (shown : Client) (new : ClientCell) where
   abbrev q : Place
   q = record p { client = new }
 
   abbrev r : Progress
   r = p.client.progress
 
-  -- a line is out already
-  not_sent : {A : Type 0} (line : ScriptLine) → to_send r ≡ Some line → r.is_out ≡ true → A
-  not_sent line e out = absurd (cc (sym (out_none r out) ∙ e))
+  -- it sends the line that it stands at, if none is out
+  module _ (ring : new.commands.ring ≡ p.client.commands.ring) where
+    -- a line is out already
+    not_sent : {A : Type 0} (line : ScriptLine) → to_send r ≡ Some line → r.is_out ≡ true → A
+    not_sent line e out = absurd (cc (sym (out_none r out) ∙ e))
 
-  send : (line : ScriptLine) → to_send r ≡ Some line → Sends line p.client new → StandsAt inc now p shown → StandsAt inc now q shown
-  send line e sends (inr (inl is)) = not_sent line e is.out
-  send line e sends (inr (inr (inl is))) = not_sent line e is.out
-  send line e sends (inr (inr (inr is))) = not_sent line e is.out
-  send line e sends (inl is) = inr (inl (record {
-    line = line;
-    out = ap (λ (x : Progress). x.is_out) sends.progress;
-    at = ap line_at sends.progress ∙ (sym (idle_line r is.idle) ∙ e);
-    command = fed_way (line ∷ []) p.client.commands new.commands p.end.commands sends.commands visit.commands ∙ ap (λ (l : List ScriptLine). l ++ line ∷ []) is.no_command;
-    not_held = is.not_held;
-    no_answer = ap (λ (d : DrawValue LineAnswer). on_way p.end.answers d) sends.answers ∙ is.no_answer;
-    lines = is.lines ∙ ap (λ (x : Progress). drop x.place x.lines) (sym sends.progress);
-    unhanded = is.unhanded;
-  }))
+    send : (line : ScriptLine) → to_send r ≡ Some line → Sends line p.client new → StandsAt inc now p shown → StandsAt inc now q shown
+    send line e sends (inr (inl is)) = not_sent line e is.out
+    send line e sends (inr (inr (inl is))) = not_sent line e is.out
+    send line e sends (inr (inr (inr is))) = not_sent line e is.out
+    send line e sends (inl is) = inr (inl (record {
+      line = line;
+      out = ap (λ (x : Progress). x.is_out) sends.progress;
+      at = ap line_at sends.progress ∙ (sym (idle_line r is.idle) ∙ e);
+      command = fed_way (line ∷ []) p.client.commands new.commands p.end.commands sends.commands ring ∙ ap (λ (l : List ScriptLine). l ++ line ∷ []) is.no_command;
+      not_held = is.not_held;
+      no_answer = ap (λ (d : DrawValue LineAnswer). on_way p.end.answers d) sends.answers ∙ is.no_answer;
+      lines = is.lines ∙ ap (λ (x : Progress). drop x.place x.lines) (sym sends.progress);
+      unhanded = is.unhanded;
+    }))
 
-  -- nothing was put in
-  commands_same : Fed [] p.client.commands new.commands → commands_on_way q ≡ commands_on_way p
-  commands_same fed = fed_way [] p.client.commands new.commands p.end.commands fed visit.commands ∙ append-nil (commands_on_way p)
+    pub send_if : (t : Option ScriptLine) → to_send r ≡ t → SendsIf t p.client new → StandsAt inc now p shown → StandsAt inc now q shown
+    send_if (Some line) e sends is = send line e sends is
+    send_if None e same is = subst (λ (c : ClientCell). StandsAt inc now (record p { client = c }) shown) (sym same) is
 
-  not_there : {A : Type 0} (answer : LineAnswer) → Drawn (answer ∷ []) p.client.answers new.answers → answers_on_way p ≡ [] → A
-  not_there answer drawn none = absurd (cc (sym none ∙ drawn_way (answer ∷ []) p.end.answers p.client.answers new.answers drawn visit.answers))
+  -- it takes an answer that was carried, or none was
+  module _ (carried : HearsCarried p.client new) where
+    -- nothing was put in
+    commands_same : Fed [] p.client.commands new.commands → commands_on_way q ≡ commands_on_way p
+    commands_same fed = fed_way [] p.client.commands new.commands p.end.commands fed carried.commands ∙ append-nil (commands_on_way p)
 
-  hear : (answer : LineAnswer) → Hears (Some answer) p.client new → StandsAt inc now p shown → StandsAt inc now q shown
-  hear answer hears (inl is) = not_there answer hears.answers is.no_answer
-  hear answer hears (inr (inl is)) = not_there answer hears.answers is.no_answer
-  hear answer hears (inr (inr (inl is))) = not_there answer hears.answers is.no_answer
-  hear answer hears (inr (inr (inr is))) = inl (record {
-    idle = ap (λ (x : Progress). x.is_out) progress_is;
-    no_command = commands_same hears.commands ∙ is.no_command;
-    not_held = is.not_held;
-    no_answer = ap (drop 1) (sym way);
-    lines = is.lines ∙ ap (λ (x : Progress). drop x.place x.lines) (sym progress_is);
-    unhanded = is.unhanded;
-  })
-    where
-      way : is.answer ∷ [] ≡ answer ∷ answers_on_way q
-      way = sym is.comes ∙ drawn_way (answer ∷ []) p.end.answers p.client.answers new.answers hears.answers visit.answers
+    not_there : {A : Type 0} (answer : LineAnswer) → Drawn (answer ∷ []) p.client.answers new.answers → answers_on_way p ≡ [] → A
+    not_there answer drawn none = absurd (cc (sym none ∙ drawn_way (answer ∷ []) p.end.answers p.client.answers new.answers drawn carried.answers))
 
-      same : is.answer ≡ answer
-      same = cc way
+    hear : (answer : LineAnswer) → Hears (Some answer) p.client new → StandsAt inc now p shown → StandsAt inc now q shown
+    hear answer hears (inl is) = not_there answer hears.answers is.no_answer
+    hear answer hears (inr (inl is)) = not_there answer hears.answers is.no_answer
+    hear answer hears (inr (inr (inl is))) = not_there answer hears.answers is.no_answer
+    hear answer hears (inr (inr (inr is))) = inl (record {
+      idle = ap (λ (x : Progress). x.is_out) progress_is;
+      no_command = commands_same hears.commands ∙ is.no_command;
+      not_held = is.not_held;
+      no_answer = ap (drop 1) (sym way);
+      lines = is.lines ∙ ap (λ (x : Progress). drop x.place x.lines) (sym progress_is);
+      unhanded = is.unhanded;
+    })
+      where
+        way : is.answer ∷ [] ≡ answer ∷ answers_on_way q
+        way = sym is.comes ∙ drawn_way (answer ∷ []) p.end.answers p.client.answers new.answers hears.answers carried.answers
 
-      waits : awaits answer.line r ≡ true
-      waits = awaited r is.line answer is.out is.at (ap (λ (a : LineAnswer). a.line) (sym same) ∙ is.number)
+        same : is.answer ≡ answer
+        same = cc way
 
-      progress_is : new.progress ≡ record r { place = r.place + 1; is_out = false }
-      progress_is = hears.progress ∙ ap (λ (b : Bool). if b then record r { place = r.place + 1; is_out = false } else r) waits
+        waits : awaits answer.line r ≡ true
+        waits = awaited r is.line answer is.out is.at (ap (λ (a : LineAnswer). a.line) (sym same) ∙ is.number)
 
-  hear_none : Hears None p.client new → StandsAt inc now p shown → StandsAt inc now q shown
-  hear_none hears is = stands_on inc now p q shown (record {
-    progress = hears.progress;
-    commands = commands_same hears.commands;
-    answers = sym (drawn_way [] p.end.answers p.client.answers new.answers hears.answers visit.answers);
-    held = refl;
-  }) is
+        progress_is : new.progress ≡ record r { place = r.place + 1; is_out = false }
+        progress_is = hears.progress ∙ ap (λ (b : Bool). if b then record r { place = r.place + 1; is_out = false } else r) waits
 
-  turn : (t : Option ScriptLine) → to_send r ≡ t → (d : Bool) → Turns t d p.client new → StandsAt inc now q shown
-  turn (Some line) e d sends = send line e sends.1 s.stands
-  turn None e true takes = hear takes.answer takes.hears s.stands
-  turn None e false hears = hear_none hears s.stands
+    hear_none : Hears None p.client new → StandsAt inc now p shown → StandsAt inc now q shown
+    hear_none hears is = stands_on inc now p q shown (record {
+      progress = hears.progress;
+      commands = commands_same hears.commands;
+      answers = sym (drawn_way [] p.end.answers p.client.answers new.answers hears.answers carried.answers);
+      held = refl;
+    }) is
 
-  pub turned : ShowsClient inc now q shown
-  turned = record {
-    number = s.number ∙ sym visit.client;
-    commands = subst (λ (ring : Producer ScriptLine Global AnyItems). IsPair ring p.end.commands.ring) (sym visit.commands) s.commands;
-    answers = subst (λ (ring : Consumer LineAnswer Global AnyItems). IsPair p.end.answers.ring ring) (sym visit.answers) s.answers;
-    at = s.at;
-    stands = turn (to_send r) refl did visit.turn;
-  }
+    pub hear_if : (answer : Option LineAnswer) → Hears answer p.client new → StandsAt inc now p shown → StandsAt inc now q shown
+    hear_if (Some answer) hears is = hear answer hears is
+    hear_if None hears is = hear_none hears is
 
 pub each_turn : (inc : ℕ) (now : Option ℕ) (p : Place) (shown : Client) → ClientTurns inc now p shown
-each_turn inc now p shown new did s visit = turned inc now p shown new did s visit
+each_turn inc now p shown new did s visit = record {
+  number = s.number ∙ sym visit.client;
+  commands = subst (λ (ring : Producer ScriptLine Global AnyItems). IsPair ring p.end.commands.ring) (sym visit.commands) s.commands;
+  answers = subst (λ (ring : Consumer LineAnswer Global AnyItems). IsPair p.end.answers.ring ring) (sym visit.answers) s.answers;
+  at = s.at;
+  stands = send_if inc now (record p { client = t.mid }) shown new (visit.commands ∙ sym t.hears.commands) (to_send t.mid.progress) refl t.sends
+      (hear_if inc now p shown t.mid t.hears (first_answer p.client.answers.inbox) t.hears.hears s.stands);
+}
+  where
+    t : HearsThenSends did p.client new
+    t = visit.turn

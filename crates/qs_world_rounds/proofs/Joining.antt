@@ -5,7 +5,7 @@ use Rattle.qs_base.specs.declared.identifiers.ClientNo.{ClientNo}
 use Rattle.qs_base.specs.declared.memory.NoMemory.{NoMemory}
 use Rattle.qs_cell.specs.Joined.{StayJoined}
 use Rattle.qs_client.specs.Progress.{to_send}
-use Rattle.qs_client.specs.Turns.{Turns}
+use Rattle.qs_client.specs.Turns.{HearsThenSends}
 use Rattle.qs_client.specs.declared.cell.ClientCell.{ClientCell}
 use Rattle.qs_book_journal.specs.declared.script_line.LineAnswer.{LineAnswer}
 use Rattle.qs_book_journal.specs.declared.script_line.ScriptLine.{ScriptLine}
@@ -136,7 +136,7 @@ told_of : (result : Result Bool NoMemory) (did : Bool) (P : Type 0) → result �
 told_of result did P is told = (λ none. told.0 (is ∙ ap (λ (b : Bool). Ok b) none), λ p. cc (told.1 p, is))
 
 pub visited_at : (clients : List ClientCell) (at : ℕ) (d here new : ClientCell) (result : Result Bool NoMemory) → at < length clients → here ≡ get_or clients at d
-    → IfOk result (λ did. Turns (to_send here.progress) did here new) → (result ≡ Ok false) ↔ (to_send here.progress ≡ None) × (here.answers.inbox ≡ [])
+    → IfOk result (λ did. HearsThenSends did here new) → (result ≡ Ok false) ↔ (to_send here.progress ≡ None) × (here.answers.inbox ≡ [])
     → new.client ≡ here.client → new.commands.ring ≡ here.commands.ring → new.answers.ring ≡ here.answers.ring
     → IfOk result (ClientVisitAt at (slice_get clients at) clients (slice_set clients at new))
 visited_at clients at d here new (Ok did) less is turn idle number commands answers =

@@ -5,7 +5,7 @@ use Rattle.qs_cell.specs.Starts.{CellValue, journal_of}
 use Rattle.qs_cell.specs.State.{StartsAgain, cause_of, is_settled_node, rounds_of}
 use Rattle.qs_cell.specs.Visits.{Visits, has_noted}
 use Rattle.qs_client.specs.Progress.{number_at, to_send}
-use Rattle.qs_client.specs.Turns.{Turns}
+use Rattle.qs_client.specs.Turns.{HearsThenSends}
 use Rattle.qs_client.specs.declared.cell.ClientCell.{ClientCell}
 use Rattle.qs_disk.specs.Disk.{DiskState}
 use Rattle.qs_book_journal.specs.declared.entry.CrashCause.{CrashCause}
@@ -78,9 +78,9 @@ NodeVisitIf false told state own size old new did = NodeStarts told state own si
 abbrev pub NodeVisit : {D : Type 0} → Type 0 → (D → DiskState) → (D → ℕ) → (D → ℕ) → CellValue D → CellValue D → Bool → Type 0
 NodeVisit told state own size old new did = NodeVisitIf (is_up old) told state own size old new did
 
--- a client sends its next command, or takes an answer that was carried; it does nothing exactly where it has no command to send and no answer was carried
+-- a client takes an answer that was carried, and then sends its next command; it does nothing exactly where no answer was carried and it has no command to send
 pub record ClientVisit (old new : ClientCell) (did : Bool) : Type 0 where
-  pub turn : Turns (to_send old.progress) did old new
+  pub turn : HearsThenSends did old new
   pub idle : (did ≡ false) ↔ (to_send old.progress ≡ None) × (old.answers.inbox ≡ [])
   pub client : new.client ≡ old.client
   pub commands : new.commands.ring ≡ old.commands.ring
