@@ -14,7 +14,7 @@ use Rattle.rtrb.specs.declared.AnyItems.{AnyItems}
 use Rattle.rtrb.specs.declared.consumer.Consumer.{Consumer}
 use Rattle.rtrb.specs.declared.producer.Producer.{Producer}
 use Rattle.qs_world.specs.World.{Client}
-use Rattle.qs_world_one.specs.Clients.{Place, ShowsClient, StandsAt, answers_on_way, commands_on_way}
+use Rattle.qs_world_one.specs.Clients.{Place, StandsAt, answers_on_way, commands_on_way}
 use Rattle.qs_world_one.specs.Turns.{AnswersCarried, ClientTurns, CommandsCarried}
 use Rattle.qs_world_one.proofs.Ways.{drawn_way, fed_way}
 
