@@ -1,5 +1,5 @@
 //! A client with its ends of the two lanes to its node.
-ghost use Rattle.std.specs.Prelude.{◌≡◌, ◌≢◌, ◌↔◌, ◌+◌, ◌<◌, ◌^◌, [], ◌∷◌, IfOk, OnOk, OnErr, Ok, None, Some, false, is_some};
+ghost use Rattle.std.specs.Prelude.{◌≡◌, ◌≢◌, ◌↔◌, ◌||◌, ◌+◌, ◌<◌, ◌^◌, [], ◌∷◌, IfOk, OnOk, OnErr, Ok, None, Some, false, is_some};
 ghost use Rattle.std.specs.Borrow.{sem};
 ghost use Rattle.rtrb.specs.Ring.{received, known_free, known_items};
 ghost use Rattle.qs_link.specs.Lane.{Fed};
@@ -139,7 +139,7 @@ impl ClientCell {
     {
         let has_heard = self.hear_carried();
         let has_sent = self.send_next()?;
-        Ok(has_heard || has_sent)
+        Ok(either(has_heard, has_sent))
     }
 
     // Takes the answer that was carried first, and says whether there was one.
@@ -217,4 +217,10 @@ fn hear(progress: &mut Progress, answer: Option<LineAnswer>) -> bool
     let is_some = answer.is_some();
     progress.hear(answer);
     is_some
+}
+
+fn either(first: bool, second: bool) -> bool
+    ensures { result ≡ (first || second) }
+{
+    first || second
 }
