@@ -9,13 +9,14 @@ use Rattle.qs_book_journal.specs.declared.entry.Entry.{Entry}
 use Rattle.qs_ops.specs.declared.no_server.NoServer.{NoServer}
 use Rattle.qs_node_step.specs.declared.event.ClientAnswer.{ClientAnswer}
 use Rattle.qs_cell_chronicle.specs.Carried.{Seen, seen}
-use Rattle.qs_cell_chronicle.specs.Chronicle.{Told, is_last, stamped, numbered, entry_of}
+use Rattle.qs_cell_chronicle.specs.Chronicle.{Told, is_last, is_last_past, stamped, numbered, entry_of}
+use Rattle.qs_cell_chronicle.specs.Occasions.{stamp_in}
 use Rattle.qs_cell_chronicle.specs.declared.occasion.Occasion.{Occasion}
 use Rattle.qs_link.specs.declared.ends.NodeEnds.{NodeEnds}
-use Rattle.qs_cell.specs.Cell.{IsOutcome, begun, stepped, out_of}
-use Rattle.qs_cell.specs.Restart.{in_round_as, IsRestarted}
+use Rattle.qs_cell.specs.Cell.{IsOutcome, begun, begun_past, stepped, out_of}
+use Rattle.qs_cell.specs.Restart.{IsRestarted}
 use Rattle.qs_cell.specs.State.{Up, IsSeenAs, state_of, state_after, carried_of, StartsAgain}
-use Rattle.qs_cell.specs.Visits.{Seat, MakesIn, TakesTurn, Turns, IsBroken, TurnsAll, TurnsSome, Visits, Breaks, Grows, entries_in, due, left_by}
+use Rattle.qs_cell.specs.Visits.{Seat, MakesIn, TakesTurn, Turns, IsBroken, TurnsAll, TurnsSome, Grows, entries_in, due, left_by}
 use Rattle.qs_cell.specs.declared.cell.EventSource.{EventSource}
 use Rattle.qs_cell.specs.Outcomes.{Outcome}
 use Rattle.qs_cell.specs.Outcomes as outcomes
@@ -34,11 +35,15 @@ grows_not old new is = record { made = []; is = is ∙ sym (append-nil old) }
 grows_by : (old mid new more : List Entry) → mid ≡ old → new ≡ mid ++ more → Grows old new
 grows_by old mid new more same is = record { made = more; is = is ∙ ap (λ (l : List Entry). l ++ more) same }
 
-grows_on : (a b c : List Entry) → Grows a b → Grows b c → Grows a c
+pub grows_on : (a b c : List Entry) → Grows a b → Grows b c → Grows a c
 grows_on a b c first second = record {
   made = first.made ++ second.made;
   is = second.is ∙ ap (λ (l : List Entry). l ++ second.made) first.is ∙ append_assoc a first.made second.made;
 }
+
+-- nothing was added
+pub entries_same : {D : Type 0} (old new : CellState D) → entries_in new ≡ entries_in old → Grows (entries_in old) (entries_in new)
+entries_same old new same = grows_not (entries_in old) (entries_in new) same
 
 -- a stamp adds nothing
 stamped_same : (told : Told) → (stamped told).journal ≡ told.journal
@@ -48,26 +53,34 @@ stamped_same told = by (is_last told) refl
     by true is = rw is refl
     by false is = rw is refl
 
+begun_same : (other : ℕ) (told : Told) → (begun_past other told).journal ≡ told.journal
+begun_same other told = by (is_last_past other (numbered told)) refl
+  where
+    by : (b : Bool) → is_last_past other (numbered told) ≡ b → (begun_past other told).journal ≡ told.journal
+    by true is = rw is refl
+    by false is = rw is refl
+
+pub past_same : (other : ℕ) (told : Told) (new made : List Entry) → new ≡ (begun_past other told).journal ++ made → Grows told.journal new
+past_same other told new made is = grows_by told.journal (begun_past other told).journal new made (begun_same other told) is
+
 -- ---- an event
 
 made_by : {D : Type 0} (own : D → ℕ) (size : ℕ) (occasion : Occasion) (old : Up D) (outcome : Outcome D Files NoServer) → IsOutcome own size occasion old outcome
     → Grows old.carried.chronicle.told.journal (carried_of (state_of outcome)).chronicle.told.journal
-made_by own size occasion old (outcomes.Whole running answers) is =
-    grows_by _ _ _ _ (stamped_same _) (ap (λ (s : Seen). s.told.journal) is.seen)
+made_by own size occasion old (outcomes.Whole running answers) is = past_same (stamp_in occasion) old.carried.chronicle.told running.carried.chronicle.told.journal _ (ap (λ (s : Seen). s.told.journal) is.seen)
 made_by own size occasion old (outcomes.Followed stopped answers) is =
     grows_on old.carried.chronicle.told.journal whole.told.journal stopped.carried.chronicle.told.journal
-    (grows_by old.carried.chronicle.told.journal (begun old.carried.chronicle.told).journal whole.told.journal
-    (map (entry_of (begun old.carried.chronicle.told).node (begun old.carried.chronicle.told).stamp) (out_of size occasion old).entries)
-    (stamped_same (numbered old.carried.chronicle.told)) refl)
+    (past_same (stamp_in occasion) old.carried.chronicle.told whole.told.journal
+    (map (entry_of (begun occasion old.carried.chronicle.told).node (begun occasion old.carried.chronicle.told).stamp) (out_of size occasion old).entries) refl)
     (grows_by whole.told.journal (stamped whole.told).journal stopped.carried.chronicle.told.journal _ (stamped_same whole.told)
     (ap (λ (s : Seen). s.told.journal) is.seen))
   where
     whole : Seen
     whole = stepped occasion old.carried.setting.inc (out_of size occasion old) is.put (seen old.carried)
-made_by own size occasion old (outcomes.Replaced stopped) is = grows_by _ _ _ _ (stamped_same _) (ap (λ (t : Told). t.journal) is.told)
-made_by own size occasion old (outcomes.CutOff stopped) is = grows_by _ _ _ _ (stamped_same _) (ap (λ (t : Told). t.journal) is.told)
+made_by own size occasion old (outcomes.Replaced stopped) is = past_same (stamp_in occasion) old.carried.chronicle.told stopped.carried.chronicle.told.journal _ (ap (λ (t : Told). t.journal) is.told)
+made_by own size occasion old (outcomes.CutOff stopped) is = past_same (stamp_in occasion) old.carried.chronicle.told stopped.carried.chronicle.told.journal _ (ap (λ (t : Told). t.journal) is.told)
 
-made_in : {D : Type 0} (told : Type 0) (state : D → DiskState) (own size : D → ℕ) (occasion : Occasion) (old new : CellState D) (answers : List ClientAnswer)
+pub made_in : {D : Type 0} (told : Type 0) (state : D → DiskState) (own size : D → ℕ) (occasion : Occasion) (old new : CellState D) (answers : List ClientAnswer)
     → MakesIn told state own size occasion old new answers → Grows (entries_in old) (entries_in new)
 made_in {D} told state own size occasion (states.Up old) new answers makes =
     subst (λ (node : CellState D). Grows old.carried.chronicle.told.journal (entries_in node)) (sym makes.node)
@@ -76,7 +89,7 @@ made_in {D} told state own size occasion (states.Down old) new answers makes = g
 
 -- ---- a visit
 
-seen_same : {D : Type 0} (f : Seen → Seen) (old new : CellState D) → ((s : Seen) → (f s).told.journal ≡ s.told.journal) → IsSeenAs f old new
+pub seen_same : {D : Type 0} (f : Seen → Seen) (old new : CellState D) → ((s : Seen) → (f s).told.journal ≡ s.told.journal) → IsSeenAs f old new
     → entries_in new ≡ entries_in old
 seen_same f (states.Up old) (states.Up new) keeps is = ap (λ (s : Seen). s.told.journal) is.1.0 ∙ keeps (seen old.carried)
 seen_same f (states.Down old) (states.Down new) keeps is = ap (λ (s : Seen). s.told.journal) is.1.1.1.0 ∙ keeps (seen old.carried)
@@ -100,22 +113,14 @@ module _ {D : Type 0} (told : Type 0) (state : D → DiskState) (own size : D �
       grows_on _ _ _ (grows_not _ _ (seen_same (λ s. s) old.node made.0 (λ s. refl) made.1.0))
       (made_in told state own size made.1.1.0 made.0 new.node made.1.1.1.1.0 made.1.1.1.1.1)
 
-  all_grow : (sources : List EventSource) (old new : Seat D) → TurnsAll told state own size sources old new → Grows (entries_in old.node) (entries_in new.node)
+  pub all_grow : (sources : List EventSource) (old new : Seat D) → TurnsAll told state own size sources old new → Grows (entries_in old.node) (entries_in new.node)
   all_grow [] old new is = grows_not _ _ (ap (λ (seat : Seat D). entries_in seat.node) is)
   all_grow (source ∷ sources) old new all = grows_on _ _ _ (one_grows source old all.0 all.1.0) (all_grow sources all.0 new all.1.1)
 
-  some_grow : (sources : List EventSource) (old new : Seat D) → TurnsSome told state own size sources old new → Grows (entries_in old.node) (entries_in new.node)
+  pub some_grow : (sources : List EventSource) (old new : Seat D) → TurnsSome told state own size sources old new → Grows (entries_in old.node) (entries_in new.node)
   some_grow [] old new is = absurd is
   some_grow (source ∷ sources) old new (inl broken) = broken_grows source old new broken
   some_grow (source ∷ sources) old new (inr on) = grows_on _ _ _ (one_grows source old on.0 on.1.0) (some_grow sources on.0 new on.1.1)
-
-  pub visit_grows : (old new : Seat D) → Visits told state own size old new → Grows (entries_in old.node) (entries_in new.node)
-  visit_grows old new visits =
-      grows_on _ _ _ (grows_not _ _ (seen_same in_round_as old.node visits.begun (λ s. refl) visits.round)) (all_grow _ _ new visits.turns)
-
-  pub break_grows : (old new : Seat D) → Breaks told state own size old new → Grows (entries_in old.node) (entries_in new.node)
-  break_grows old new breaks =
-      grows_on _ _ _ (grows_not _ _ (seen_same in_round_as old.node breaks.begun (λ s. refl) breaks.round)) (some_grow _ _ new breaks.turns)
 
 -- ---- a restart
 

@@ -65,9 +65,9 @@ disk_of_log {D} left mid old is same = is ∙ ap (λ (l : LogValue (FusedValue D
 
 -- ---- the step is worked out
 
-pub unplanned_by : (may : Bool) (out out_as : Effects) (s : Seen) (entries : List Act) (points : List Watched) (stops : Bool) → may ≡ true → ordered s ≡ None → out ≡ out_as → entries ≡ out.entries
-    → points ≡ s.points → stops ≡ list_any (stops_before entries) points → stops ≡ false → planned may out_as s ≡ None
-unplanned_by may out out_as s entries points stops may_is none same is_entries is_points is false_is =
+pub unplanned_by : (occasion : Occasion) (may : Bool) (out out_as : Effects) (s : Seen) (entries : List Act) (points : List Watched) (stops : Bool) → may ≡ true → ordered occasion s ≡ None → out ≡ out_as → entries ≡ out.entries
+    → points ≡ s.points → stops ≡ list_any (stops_before entries) points → stops ≡ false → planned occasion may out_as s ≡ None
+unplanned_by occasion may out out_as s entries points stops may_is none same is_entries is_points is false_is =
     ap (planned_after may out_as s) none ∙ (ap (λ (b : Bool). held_back b (list_any (stops_before out_as.entries) s.points)) may_is ∙ ap (λ (b : Bool). held_back true b) never)
   where
     never : list_any (stops_before out_as.entries) s.points ≡ false
@@ -86,9 +86,9 @@ begun_on occasion old mid new begun told commands crashes points setting = recor
 
 -- what the sessions did is that of the node that the event began with
 pub sent_as : {D F X : Type 0} (size : ℕ) (occasion : Occasion) (old : Running D F X) (before after : SessionsValue) (stamp : ℕ) (out : Effects) (put : List Packet)
-    → before ≡ old.sessions → stamp ≡ (begun old.carried.chronicle.told).stamp → out ≡ out_of size occasion old → Sends (ticks occasion) stamp out.messages before put after → IsSent size occasion old put after
+    → before ≡ old.sessions → stamp ≡ (begun occasion old.carried.chronicle.told).stamp → out ≡ out_of size occasion old → Sends (ticks occasion) stamp out.messages before put after → IsSent size occasion old put after
 sent_as size occasion old before after stamp out put same at is sends =
-    subst (λ (b : SessionsValue). Sends (ticks occasion) (begun old.carried.chronicle.told).stamp (out_of size occasion old).messages b put after) same
+    subst (λ (b : SessionsValue). Sends (ticks occasion) (begun occasion old.carried.chronicle.told).stamp (out_of size occasion old).messages b put after) same
     (subst (λ (s : ℕ). Sends (ticks occasion) s (out_of size occasion old).messages before put after) at
     (subst (λ (o : Effects). Sends (ticks occasion) stamp o.messages before put after) is sends))
 

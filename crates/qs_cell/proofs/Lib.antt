@@ -6,6 +6,14 @@ pub mod Standing
 pub mod Turning
 -- A cell only adds to its journal.
 pub mod Growing
+-- What stands of a node after a packet came to it.
+pub mod Hearing
+-- The turn of a node's packets.
+pub mod HearingTurns
+-- A whole visit.
+pub mod Visiting
+-- A visit is one more round, and so is a restart.
+pub mod VisitRounds
 -- What is done with the lanes as a slice.
 pub mod Written
 -- A node that memory was refused to is still down.

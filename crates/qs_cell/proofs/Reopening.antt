@@ -2,7 +2,7 @@
 use Rattle.std.proofs.Common.{◌≡◌, ◌∙◌, ◌≤◌, ◌<◌, ◌+◌, ap, subst, sym, refl, ℕ, Bool, true, false, nat_lt, List, [], ◌∷◌, arith}
 use Rattle.std.proofs.lemmas.Bool.{ltb-false, ltb-true}
 use Rattle.std.specs.Global.{Global}
-use Rattle.std.specs.Prelude.{Result, Err, if◌then◌else◌}
+use Rattle.std.specs.Prelude.{Result, Err, max, if◌then◌else◌}
 use Rattle.qs_disk.specs.Disk.{DiskState, EachImage, Frame, IsStill, Matches}
 use Rattle.qs_files.specs.declared.files.Files.{Files}
 use Rattle.qs_log_start.proofs.Beginning.{has_below, left_stand, never_damaged}
@@ -17,10 +17,11 @@ use Rattle.qs_slot.proofs.Limits.{stand_below}
 use Rattle.qs_slot.specs.Slot.{StandBelow}
 use Rattle.qs_node_step.specs.declared.event.ClientAnswer.{ClientAnswer}
 use Rattle.qs_cell_chronicle.specs.Carried.{Seen, seen}
-use Rattle.qs_cell_chronicle.specs.Chronicle.{Told, counted, in_round, is_last, numbered, stamped}
+use Rattle.qs_cell_chronicle.specs.Chronicle.{Told, counted, in_round, is_last, is_last_past, numbered, stamped, stamped_past}
 use Rattle.qs_cell_chronicle.specs.declared.carried.Carried.{Carried}
+use Rattle.qs_cell_chronicle.specs.Occasions.{stamp_in}
 use Rattle.qs_cell_chronicle.specs.declared.occasion.Occasion.{Occasion}
-use Rattle.qs_cell.specs.Cell.{IsOutcome, begun, out_of, stepped}
+use Rattle.qs_cell.specs.Cell.{IsOutcome, begun, begun_past, out_of, stepped}
 use Rattle.qs_cell.specs.Logged.{IsLogged, StandsWithin, limit_after, most_rounds}
 use Rattle.qs_cell.specs.Outcomes.{Outcome}
 use Rattle.qs_cell.specs.Outcomes as outcomes
@@ -66,18 +67,26 @@ rounds_stamped told = by (is_last told)
     by true = refl
     by false = refl
 
-rounds_begun : (told : Told) → (begun told).rounds ≡ told.rounds
-rounds_begun told = rounds_stamped (numbered told)
+-- a stamp past another one, and a number
+pub rounds_past : (other : ℕ) (told : Told) → (begun_past other told).rounds ≡ told.rounds
+rounds_past other told = by (is_last_past other told)
+  where
+    by : (last : Bool) → (if last then numbered told else record (numbered told) { stamp = max told.stamp other + 1 }).rounds ≡ told.rounds
+    by true = refl
+    by false = refl
+
+rounds_begun : (occasion : Occasion) (told : Told) → (begun occasion told).rounds ≡ told.rounds
+rounds_begun occasion told = rounds_past (stamp_in occasion) told
 
 -- it is no round
 outcome_rounds : {D : Type 0} (own : D → ℕ) (size : ℕ) (occasion : Occasion) (old : Up D) (outcome : Outcome D Files NoServer) → IsOutcome own size occasion old outcome
     → rounds_of (state_of outcome) ≡ old.carried.chronicle.told.rounds
-outcome_rounds own size occasion old (outcomes.Whole running answers) is = ap (λ (s : Seen). s.told.rounds) is.seen ∙ rounds_begun old.carried.chronicle.told
+outcome_rounds own size occasion old (outcomes.Whole running answers) is = ap (λ (s : Seen). s.told.rounds) is.seen ∙ rounds_begun occasion old.carried.chronicle.told
 outcome_rounds own size occasion old (outcomes.Followed stopped answers) is =
     ap (λ (s : Seen). s.told.rounds) is.seen ∙ rounds_stamped (stepped occasion old.carried.setting.inc (out_of size occasion old) is.put (seen old.carried)).told
-    ∙ rounds_begun old.carried.chronicle.told
-outcome_rounds own size occasion old (outcomes.Replaced stopped) is = ap (λ (t : Told). t.rounds) is.told ∙ rounds_begun old.carried.chronicle.told
-outcome_rounds own size occasion old (outcomes.CutOff stopped) is = ap (λ (t : Told). t.rounds) is.told ∙ rounds_begun old.carried.chronicle.told
+    ∙ rounds_begun occasion old.carried.chronicle.told
+outcome_rounds own size occasion old (outcomes.Replaced stopped) is = ap (λ (t : Told). t.rounds) is.told ∙ rounds_begun occasion old.carried.chronicle.told
+outcome_rounds own size occasion old (outcomes.CutOff stopped) is = ap (λ (t : Told). t.rounds) is.told ∙ rounds_begun occasion old.carried.chronicle.told
 
 -- the content of a disk that is still is an image
 matches_itself : (stable : List ℕ) (loose : List Bool) → Matches stable loose stable
@@ -92,11 +101,14 @@ content_stands limit s still here =
     subst (StandBelow limit) (still s.now.stable it) (here s.now.stable it)
 
 module _ {D : Type 0} (told : Type 0) (state : D → DiskState) (own size : D → ℕ) where
+  pub made_rounds : (occasion : Occasion) (old new : CellState D) (answers : List ClientAnswer) → MakesIn told state own size occasion old new answers → rounds_of new ≡ rounds_of old
+  made_rounds occasion (states.Up old) new answers makes = ap (λ (n : CellState D). rounds_of n) makes.node ∙ outcome_rounds own (size old.host.log.disk.disk) occasion old makes.outcome makes.is
+  made_rounds occasion (states.Down old) new answers makes = ap (λ (n : CellState D). rounds_of n) makes.0
+
   pub within_made : (occasion : Occasion) (old new : CellState D) (answers : List ClientAnswer) → MakesIn told state own size occasion old new answers
       → (told → LogStands state old) → (told → StandsWithin (rounds_of old) (state (disk_of old).disk).now) → told → StandsWithin (rounds_of new) (state (disk_of new).disk).now
   within_made occasion (states.Up old) new answers makes stands within is_told few =
-      let same : rounds_of new ≡ old.carried.chronicle.told.rounds =
-      ap (λ (n : CellState D). rounds_of n) makes.node ∙ outcome_rounds own (size old.host.log.disk.disk) occasion old makes.outcome makes.is in
+      let same : rounds_of new ≡ old.carried.chronicle.told.rounds = made_rounds occasion (states.Up old) new answers makes in
       let here : StandBelow (limit_after old.carried.chronicle.told.rounds) (state old.host.log.disk.disk).content =
       content_stands (limit_after old.carried.chronicle.told.rounds) (state old.host.log.disk.disk) (stands is_told).still (within is_told (omega (arith, same, few))) in
       λ image is. subst (λ (n : ℕ). StandBelow (limit_after n) image) (sym same)
@@ -106,7 +118,7 @@ module _ {D : Type 0} (told : Type 0) (state : D → DiskState) (own size : D �
 
   -- ---- a restart
 
-  restart_rounds : (alloc : Global) (old : Stopped D) (restarted : Restarted D Files NoServer) → IsRestarted own alloc old restarted
+  pub restart_rounds : (alloc : Global) (old : Stopped D) (restarted : Restarted D Files NoServer) → IsRestarted own alloc old restarted
       → rounds_of (state_after restarted) ≡ counted old.carried.chronicle.told.rounds
   restart_rounds alloc old (restarts.Up running) is = ap (λ (s : Seen). s.told.rounds) is.seen ∙ rounds_stamped (in_round old.carried.chronicle.told)
   restart_rounds alloc old (restarts.Down stopped why) is = ap (λ (s : Seen). s.told.rounds) is.0.seen

@@ -3,6 +3,7 @@ use Rattle.std.proofs.Common.{◌≡◌, ◌⊎◌, ◌∙◌, ◌≤◌, ◌<�
 use Rattle.std.proofs.lemmas.List.{append-nil}
 use Rattle.std.specs.Prelude.{Result}
 use Rattle.std.specs.Global.{Global}
+use Rattle.qs_cell_peers.specs.Links.{LinksValue}
 use Rattle.qs_disk.specs.Disk.{DiskState, EachImage}
 use Rattle.qs_disk.specs.Fuse.{FusedValue, mended}
 use Rattle.qs_disk.specs.Fuse.{GoesOn as GoesOnFuse}
@@ -174,12 +175,12 @@ pub started_moments : {D : Type 0} (state : D → DiskState) (P : List ℕ → T
 started_moments {D} state P s alloc setting crashes points log running begins keeps =
     subst (λ (l : LogValue (FusedValue D)). Keeps P s (state l.disk.disk)) (sym (ap (λ (h : HostValue (FusedValue D)). h.log) begins.host)) keeps
 
-pub started_of : {D : Type 0} (told : Type 0) (state : D → DiskState) (alloc : Global) (disk : D) (setting : Setting) (ends : List NodeEnds) (plan : NodePlan)
+pub started_of : {D : Type 0} (told : Type 0) (state : D → DiskState) (alloc : Global) (disk : D) (setting : Setting) (links : LinksValue) (ends : List NodeEnds) (plan : NodePlan)
     (log : LogValue (FusedValue D)) (running : Up D) (found : Recovered) (faults : ℕ) → Begins alloc setting plan.crashes plan.points log running → found ≡ found_in log
     → (told → IsRaisedLog open_limit (state disk).content log) → IsArmed plan.stops log.disk.fuse → (told → Stands log (state log.disk.disk))
-    → IsStarted told state alloc disk setting ends plan
-    (record { alloc = alloc; seat = record { node = states.Up running; ends = ends }; opened = opened_with running.carried.setting found; faults = faults })
-started_of {D} told state alloc disk setting ends plan log running found faults begins is raised armed stands =
+    → IsStarted told state alloc disk setting links ends plan
+    (record { alloc = alloc; seat = record { node = states.Up running; ends = ends }; links = links; opened = opened_with running.carried.setting found; faults = faults })
+started_of {D} told state alloc disk setting links ends plan log running found faults begins is raised armed stands =
     let same : log ≡ running.host.log = sym (ap (λ (h : HostValue (FusedValue D)). h.log) begins.host) in
     record {
       running = running;
@@ -189,6 +190,7 @@ started_of {D} told state alloc disk setting ends plan log running found faults 
       stands = λ yes. subst (λ (l : LogValue (FusedValue D)). Stands l (state l.disk.disk)) same (stands yes);
       armed = subst (λ (l : LogValue (FusedValue D)). IsArmed plan.stops l.disk.fuse) same armed;
       lanes = refl;
+      links_are = refl;
       opened = ap (λ (s : Setting). opened_with s found) begins.setting ∙ ap (opened_with (setting_in log setting)) is
           ∙ ap (λ (l : LogValue (FusedValue D)). opened_with (setting_in l setting) (found_in l)) same;
     }

@@ -29,20 +29,23 @@ use Rattle.qs_cell.specs.Outcomes as outcomes
 use Rattle.qs_cell.specs.declared.running.Running.{Running}
 use Rattle.qs_cell.specs.declared.stopped.Stopped.{Stopped}
 use Rattle.qs_cell_chronicle.specs.Carried.{Seen, seen, answered, is_replaced}
-use Rattle.qs_cell_chronicle.specs.Occasions.{event_of, did_of, taken}
-use Rattle.qs_cell_chronicle.specs.Chronicle.{Told, counted, last_stamp, is_last, stamped, numbered, noted, crashed}
+use Rattle.qs_cell_chronicle.specs.Occasions.{event_of, did_of, stamp_in, taken}
+use Rattle.qs_cell_chronicle.specs.Chronicle.{Told, counted, last_stamp, is_last_past, stamped, stamped_past, numbered, noted, crashed}
 use Rattle.qs_cell_chronicle.specs.Points.{stops_before, stops_after, spent, after_entries}
 
 -- ---- what it does to what the cell carries
 
--- the event has its number, and the step its stamp, whether it is made or not
-abbrev pub begun : Told → Told
-begun told = stamped (numbered told)
+-- the event has its number, and the step its stamp, which is greater than that of a packet that comes, whether it is made or not
+abbrev pub begun_past : ℕ → Told → Told
+begun_past other told = stamped_past other (numbered told)
+
+abbrev pub begun : Occasion → Told → Told
+begun occasion told = begun_past (stamp_in occasion) told
 
 -- the step stands whole, and puts these packets to the links
 abbrev pub stepped : Occasion → ℕ → Effects → List Packet → Seen → Seen
 stepped occasion inc out put s = record s {
-  told = noted (did_of occasion) put out.entries None (begun s.told);
+  told = noted (did_of occasion) put out.entries None (begun occasion s.told);
   commands = answered out.answers (taken occasion inc s.commands);
   points = map (after_entries out.entries) s.points;
 }
@@ -53,14 +56,19 @@ stepped occasion inc out put s = record s {
 abbrev pub why_not : Bool → Bool → Option CrashCause
 why_not at_last replaced = if at_last then Some (causes.Last last_stamp) else if replaced then Some causes.Plan else None
 
-abbrev pub ordered : Seen → Option CrashCause
-ordered s = why_not (is_last s.told) (is_replaced (counted s.told.events) s.crashes)
+abbrev pub ordered_past : ℕ → Seen → Option CrashCause
+ordered_past other s = why_not (is_last_past other s.told) (is_replaced (counted s.told.events) s.crashes)
+
+abbrev pub ordered : Occasion → Seen → Option CrashCause
+ordered occasion s = ordered_past (stamp_in occasion) s
 
 -- what waits is served where all of it can be counted
 abbrev pub may_make : NodeValue → Occasion → Bool
 may_make node (occasions.Command line) = true
 may_make node occasions.Queues = is_all_counted node
 may_make node occasions.Clock = true
+may_make node (occasions.Message packet) = true
+may_make node (occasions.Restarted packet old) = true
 
 -- or it would raise a count past its last value; or a line names the first entry of its kind, and the whole step would make it
 abbrev pub held_back : Bool → Bool → Option CrashCause
@@ -70,8 +78,8 @@ abbrev pub planned_after : Bool → Effects → Seen → Option CrashCause → O
 planned_after may out s (Some cause) = Some cause
 planned_after may out s None = held_back may (list_any (stops_before out.entries) s.points)
 
-abbrev pub planned : Bool → Effects → Seen → Option CrashCause
-planned may out s = planned_after may out s (ordered s)
+abbrev pub planned : Occasion → Bool → Effects → Seen → Option CrashCause
+planned occasion may out s = planned_after may out s (ordered occasion s)
 
 -- that line stops the node once
 abbrev pub spent_after : Bool → Effects → Seen → Option CrashCause → List Watched
@@ -92,7 +100,7 @@ out_of size occasion old = effects_at size old.host (event_of occasion)
 
 -- no crash is to stand in place of it
 abbrev pub IsUnplanned : {D F X : Type 0} → ℕ → Occasion → Running D F X → Type 0
-IsUnplanned size occasion old = planned (may_make old.host.node occasion) (out_of size occasion old) (seen old.carried) ≡ None
+IsUnplanned size occasion old = planned occasion (may_make old.host.node occasion) (out_of size occasion old) (seen old.carried) ≡ None
 
 -- a line stops the node right behind it
 abbrev pub is_followed : {D F X : Type 0} → ℕ → Occasion → Running D F X → Bool
@@ -105,10 +113,12 @@ abbrev pub ticks : Occasion → Bool
 ticks (occasions.Command line) = false
 ticks occasions.Queues = false
 ticks occasions.Clock = true
+ticks (occasions.Message packet) = false
+ticks (occasions.Restarted packet old) = false
 
 -- the step's messages go over the node's sessions with the step's stamp, in order; what goes of them is put to the links
 abbrev pub IsSent : {D F X : Type 0} → ℕ → Occasion → Running D F X → List Packet → SessionsValue → Type 0
-IsSent size occasion old put new = Sends (ticks occasion) (begun old.carried.chronicle.told).stamp (out_of size occasion old).messages old.sessions put new
+IsSent size occasion old put new = Sends (ticks occasion) (begun occasion old.carried.chronicle.told).stamp (out_of size occasion old).messages old.sessions put new
 
 -- why a node stops whose sessions could not send
 abbrev pub unsent_cause : GrowFault → CrashCause
@@ -157,9 +167,9 @@ pub record IsFollowed {D F X : Type 0} (size : ℕ) (occasion : Occasion) (old :
 
 -- as the script has it, or the last value of the stamp or of a count
 pub record IsAsPlanned {D F X : Type 0} (size : ℕ) (occasion : Occasion) (old : Running D F X) (new : Stopped D) : Type 0 where
-  pub cause : planned (may_make old.host.node occasion) (out_of size occasion old) (seen old.carried) ≡ Some new.cause
+  pub cause : planned occasion (may_make old.host.node occasion) (out_of size occasion old) (seen old.carried) ≡ Some new.cause
   pub commands : new.carried.commands ≡ taken occasion old.carried.setting.inc old.carried.commands
-  pub points : new.carried.points.items ≡ spent_after (may_make old.host.node occasion) (out_of size occasion old) (seen old.carried) (ordered (seen old.carried))
+  pub points : new.carried.points.items ≡ spent_after (may_make old.host.node occasion) (out_of size occasion old) (seen old.carried) (ordered occasion (seen old.carried))
 
 -- as a message has no number left, of which the session tells its last value
 pub record IsUnnumbered {D F X : Type 0} (size : ℕ) (occasion : Occasion) (old : Running D F X) (new : Stopped D) : Type 0 where
@@ -173,7 +183,7 @@ pub record IsUnnumbered {D F X : Type 0} (size : ℕ) (occasion : Occasion) (old
 pub record IsReplaced {D F X : Type 0} (size : ℕ) (occasion : Occasion) (old : Running D F X) (new : Stopped D) : Type 0 where
   pub disk : new.disk ≡ old.host.log.disk
   pub kept : new.kept ≡ old.host.node.kept.saved
-  pub told : new.carried.chronicle.told ≡ crashed (did_of occasion) new.cause (begun old.carried.chronicle.told)
+  pub told : new.carried.chronicle.told ≡ crashed (did_of occasion) new.cause (begun occasion old.carried.chronicle.told)
   pub crashes : new.carried.crashes ≡ old.carried.crashes
   pub setting : new.carried.setting ≡ old.carried.setting
   pub full : new.is_full ≡ false
@@ -195,7 +205,7 @@ pub record IsRefused {D F X : Type 0} (size : ℕ) (occasion : Occasion) (old : 
 -- a crash within the step: it makes no entry but its own, and is answered by none
 pub record IsCutOff {D F X : Type 0} (own : D → ℕ) (size : ℕ) (occasion : Occasion) (old : Running D F X) (new : Stopped D) : Type 0 where
   pub kept : new.kept ≡ old.host.node.kept.saved
-  pub told : new.carried.chronicle.told ≡ crashed (did_of occasion) new.cause (begun old.carried.chronicle.told)
+  pub told : new.carried.chronicle.told ≡ crashed (did_of occasion) new.cause (begun occasion old.carried.chronicle.told)
   pub commands : new.carried.commands ≡ taken occasion old.carried.setting.inc old.carried.commands
   pub crashes : new.carried.crashes ≡ old.carried.crashes
   pub points : new.carried.points.items ≡ old.carried.points.items

@@ -8,8 +8,14 @@ pub mod Restart
 pub mod Within
 -- A node that is up, or down.
 pub mod State
--- The events of a visit, one after the other.
+-- The turns of a visit, one after the other.
 pub mod Visits
+-- A packet that changes its session at most.
+pub mod Asides
+-- The packets of a visit, one after the other.
+pub mod Hearing
+-- A whole visit.
+pub mod WholeVisits
 -- The start of a cell.
 pub mod Starts
 -- Each image of a node's disk has a log.

@@ -2,6 +2,7 @@
 use Rattle.std.specs.Prelude.{◌≡◌, ℕ, false, List, [], map, None, Result, Ok, Err}
 use Rattle.std.specs.Global.{Global}
 use Rattle.qs_base.specs.declared.identifiers.NodeNo.{NodeNo}
+use Rattle.qs_cell_peers.specs.Links.{LinksValue}
 use Rattle.qs_disk.specs.Disk.{DiskState}
 use Rattle.qs_disk.specs.Fuse.{FusedValue}
 use Rattle.qs_node_host.specs.Host.{opened_host}
@@ -18,6 +19,7 @@ use Rattle.qs_node_step.specs.declared.trace.Step.{Step}
 use Rattle.qs_world.specs.Histories.{opened_with}
 use Rattle.qs_cell_chronicle.specs.Carried.{Seen, seen}
 use Rattle.qs_cell_chronicle.specs.Chronicle.{new_told}
+use Rattle.qs_cell.specs.Hearing.{Post}
 use Rattle.qs_cell.specs.Logged.{GoesOn, IsLogged, StandsWithin}
 use Rattle.qs_cell.specs.Restart.{AreNew, inc_of, found_in}
 use Rattle.qs_cell.specs.State.{Up, LogStands, IsAllowed, carried_of, disk_of, rounds_of}
@@ -31,6 +33,7 @@ use Rattle.qs_cell.specs.declared.state.CellState.TheVariants as states
 pub record CellValue (D : Type 0) : Type 0 where
   pub alloc : Global
   pub seat : Seat D
+  pub links : LinksValue
   pub opened : Opened  -- what its log held as it was started
   pub faults : ℕ  -- what the disk itself had counted as it was handed in
 
@@ -46,6 +49,10 @@ pub record IsSound {D : Type 0} (told : Type 0) (state : D → DiskState) (opene
   pub goes_on : told → LogGoesOn opened node
   pub logged : told → IsLogged opened (state (disk_of node).disk).now
   pub within : told → StandsWithin (rounds_of node) (state (disk_of node).disk).now
+
+-- with its ends of its links
+abbrev pub post_of : {D : Type 0} → CellValue D → Post D
+post_of cell = record { seat = cell.seat; links = cell.links }
 
 abbrev pub journal_of : {D : Type 0} → CellValue D → List Entry
 journal_of cell = (carried_of cell.seat.node).chronicle.told.journal
@@ -74,7 +81,7 @@ pub record Begins {D : Type 0} (alloc : Global) (given : Setting) (crashes : Lis
   pub seen : seen new.carried ≡ seen_first given.node crashes points
 
 -- the log of the disk was opened and raised, and the node begins with what it says
-pub record IsStarted {D : Type 0} (told : Type 0) (state : D → DiskState) (alloc : Global) (disk : D) (setting : Setting) (ends : List NodeEnds) (plan : NodePlan) (new : CellValue D) : Type 0 where
+pub record IsStarted {D : Type 0} (told : Type 0) (state : D → DiskState) (alloc : Global) (disk : D) (setting : Setting) (links : LinksValue) (ends : List NodeEnds) (plan : NodePlan) (new : CellValue D) : Type 0 where
   pub running : Up D
   pub node : new.seat.node ≡ states.Up running
   pub begins : Begins alloc setting plan.crashes plan.points running.host.log running
@@ -82,6 +89,7 @@ pub record IsStarted {D : Type 0} (told : Type 0) (state : D → DiskState) (all
   pub stands : told → LogStands state (states.Up running)
   pub armed : IsArmed plan.stops running.host.log.disk.fuse
   pub lanes : new.seat.ends ≡ ends
+  pub links_are : new.links ≡ links
   pub opened : new.opened ≡ opened_with (setting_in running.host.log setting) (found_in running.host.log)
 
 -- the disk, whether it is started or not

@@ -1,4 +1,4 @@
--- The events of a visit: of each source the one that is due, one after the other, as long as the node is up.
+-- The turns of a visit: of each of the node's own sources the event that is due, one after the other, as long as the node is up.
 use Rattle.std.specs.Prelude.{◌≡◌, ◌⊎◌, ℕ, Bool, true, false, not, List, [], ◌∷◌, ◌++◌, map, drop, fold, length, Option, Some, None, if◌then◌else◌}
 use Rattle.std.specs.List.{list_any}
 use Rattle.std.specs.Map.{lookup}
@@ -23,7 +23,6 @@ use Rattle.qs_cell_chronicle.specs.declared.occasion.Occasion.{Occasion}
 use Rattle.qs_cell_chronicle.specs.declared.occasion.Occasion.TheVariants as occasions
 use Rattle.qs_cell.specs.Cell.{IfStands, IsOutcome, StandsAfter, out_of}
 use Rattle.qs_link.specs.Lanes.{next_line, at_client, without_line, delivered}
-use Rattle.qs_cell.specs.Restart.{in_round_as}
 use Rattle.qs_cell.specs.State.{Up, IsSeenAs, disk_of, carried_of, is_queued, state_of, answers_of}
 use Rattle.qs_cell.specs.declared.cell.EventSource.{EventSource}
 use Rattle.qs_cell.specs.declared.cell.EventSource.TheVariants as sources
@@ -148,17 +147,6 @@ client_source end = sources.Client end.client
 
 abbrev pub sources_of : List NodeEnds → List EventSource
 sources_of ends = map client_source ends ++ (sources.Queues ∷ sources.Clock ∷ [])
-
-pub record Visits {D : Type 0} (told : Type 0) (state : D → DiskState) (own size : D → ℕ) (old new : Seat D) : Type 0 where
-  pub begun : CellState D
-  pub round : IsSeenAs in_round_as old.node begun
-  pub turns : TurnsAll told state own size (sources_of old.ends) (record { node = begun; ends = old.ends }) new
-
--- memory was refused within it, or before it began
-pub record Breaks {D : Type 0} (told : Type 0) (state : D → DiskState) (own size : D → ℕ) (old new : Seat D) : Type 0 where
-  pub begun : CellState D
-  pub round : IsSeenAs in_round_as old.node begun
-  pub turns : TurnsSome told state own size (sources_of old.ends) (record { node = begun; ends = old.ends }) new
 
 -- ---- what came of it
 

@@ -29,7 +29,7 @@ use Rattle.qs_cell.specs.declared.stopped.Restarted.TheVariants as restarts
 
 -- it has its number and its stamp, and its command is in hand
 pub record HasBegun (occasion : Occasion) (old new : Carried) : Type 0 where
-  pub told : new.chronicle.told ≡ begun old.chronicle.told
+  pub told : new.chronicle.told ≡ begun occasion old.chronicle.told
   pub commands : new.commands ≡ taken occasion old.setting.inc old.commands
   pub crashes : new.crashes ≡ old.crashes
   pub points : new.points.items ≡ old.points.items

@@ -1,13 +1,16 @@
 //! The cell of a node: its visits and restarts, between its clients and its disk.
-ghost use Rattle.std.specs.Prelude.{◌≡◌, ◌≤◌, ◌<◌, ◌⊎◌, ℕ, false, drop, get_or, length, is_none, Err, IfOk, IfErr, OnOk, OnErr, IsTrue};
-ghost use Rattle.std.specs.List.{list_any};
+ghost use Rattle.std.specs.Prelude.{◌≡◌, ◌≤◌, ◌<◌, ◌⊎◌, ℕ, true, drop, get_or, length, is_none, Err, IfOk, IfErr, OnOk, OnErr, IsTrue};
+ghost use Rattle.std.specs.List.{flat_map, list_any};
 ghost use Rattle.qs_base.specs.Causes.{Rose};
 ghost use Rattle.qs_cell.specs.Joined.{HaveSameRings, StayJoined};
 ghost use Rattle.qs_cell.specs.Logged.{HasLog, IsLogged, most_rounds};
-ghost use Rattle.qs_cell.specs.Starts.{IsStarted, started_disk, journal_of, trace_of};
+ghost use Rattle.qs_cell.specs.Hearing.{BreaksBelow, BreaksFrom, BreaksHearing, Hears, HearsBelow, HearsFrom};
+ghost use Rattle.qs_cell.specs.Starts.{IsStarted, started_disk, journal_of, post_of, trace_of};
+ghost use Rattle.qs_cell.specs.WholeVisits.{Breaks, Visits, has_put};
+ghost use Rattle.qs_cell_peers.specs.Links.{HasPut, HasPutSome, IsSameNode, is_peer_of, puts_any, puts_of};
 ghost use Rattle.qs_cell.specs.Restart.{in_round_as};
 ghost use Rattle.qs_cell.specs.State.{IsSeenAs, LogStands, IsAllowed, StartsAgain, carried_of, cause_of, disk_of, has_undecided, is_settled_node, rounds_of};
-ghost use Rattle.qs_cell.specs.Visits.{Turns, IsBroken, TurnsAll, TurnsSome, Visits, Breaks, Grows, sources_of, due, left_by, held_by, as_command, due_command, due_again, left_of, all_delivered, deliver, has_noted, is_noted, MakesIn};
+ghost use Rattle.qs_cell.specs.Visits.{Turns, IsBroken, TurnsAll, TurnsSome, Grows, sources_of, due, left_by, held_by, as_command, due_command, due_again, left_of, all_delivered, deliver, has_noted, is_noted, MakesIn};
 ghost use Rattle.qs_cell_chronicle.specs.Chronicle.{HasRoom};
 ghost use Rattle.qs_cell.specs.declared.state.RestartFault.TheVariants as restart_faults;
 ghost use Rattle.qs_disk.specs.Disk.{EachImage};
@@ -25,6 +28,7 @@ use qs_base::{ClientNo, Copied, List, NoMemory};
 use qs_book_journal::{Act, CrashCause, Entry, LineAnswer, ScriptLine};
 use qs_book_machine::Opened;
 use qs_cell_chronicle::{Carried, HeldCommand, Occasion};
+use qs_cell_peers::Links;
 use qs_disk::{Disk, Fused};
 use qs_link::{Draw, Feed, NodeEnds, carry_in, carry_out, deliver, take_line};
 use qs_log::LogOpen;
@@ -34,11 +38,14 @@ use qs_restart::Recovered;
 use std::alloc::Global;
 use std::marker::Model;
 
-/// The cell of a node: the node over its disk and log, the ends of its lanes, and what goes through crashes.
+/// The cell of a node: the node over its disk and log, its ends of links and lanes, and what goes through crashes.
 #[derive(Drop)]
 pub struct NodeCell<D: Disk> {
     alloc: Global,
     state: CellState<D>,
+    /// To the other nodes of the run. What stands in them goes through crashes.
+    links: Links,
+    /// To the node's clients.
     ends: Vec<NodeEnds>,
     /// What its log said as it was started, and for which setting.
     first: Setting,
@@ -76,20 +83,21 @@ impl<D: Disk> Model for NodeCell<D> {
 
     ghost Value = { CellValue D };
 
-    ghost view = { λ c. record { alloc = c.alloc; seat = record { node = c.state; ends = c.ends.items }; opened = opened_with c.first c.found; faults = c.faults } };
+    ghost view = { λ c. record { alloc = c.alloc; seat = record { node = c.state; ends = c.ends.items }; links = c.links; opened = opened_with c.first c.found; faults = c.faults } };
 
     ghost invariant = { λ c. IsSound D.told D.state (opened_with c.first c.found) c.state };
 }
 
 impl<D: Disk> NodeCell<D> {
     /// The log of the disk is opened, whose slots stand below 2^61, and its incarnation raised, which is that of the setting
-    /// from then on; the fuse is armed with the planned stops; and the node begins with what the log says. The ends are those
-    /// of its clients, by number. `DiskFailed` comes only where the disk's own count of faults rose, `NoMemory` where memory
+    /// from then on; the fuse is armed with the planned stops; and the node begins with what the log says. The links are to the other
+    /// nodes, and the ends those of its clients, by number. `DiskFailed` comes only where the disk's own count of faults rose, `NoMemory` where memory
     /// was refused or the fuse tripped.
     pub fn start(
         alloc: Global,
         disk: Fused<D>,
         setting: Setting,
+        links: Links,
         ends: Vec<NodeEnds>,
         plan: NodePlan,
     ) -> Result<NodeCell<D>, CellOpen<D>>
@@ -97,7 +105,7 @@ impl<D: Disk> NodeCell<D> {
         requires keep { setting.keep ≤ 144 }
         requires nodes { setting.nodes ≤ 8 }
         requires node { setting.node.0 < setting.nodes }
-        ensures started { IfOk result (IsStarted D.told D.state alloc disk.disk setting ends.items plan) }
+        ensures started { IfOk result (IsStarted D.told D.state alloc disk.disk setting links ends.items plan) }
         ensures faults { IfOk result (λ cell. cell.faults ≡ D.fault_count disk.disk) }
 
         // Why it is not started.
@@ -127,6 +135,7 @@ impl<D: Disk> NodeCell<D> {
         Ok(NodeCell {
             alloc,
             state: CellState::Up { running },
+            links,
             ends,
             first,
             found,
@@ -134,36 +143,111 @@ impl<D: Disk> NodeCell<D> {
         })
     }
 
-    /// The events of one visit in a round, as long as the node is up: the command of each client, by number, that a crash
-    /// left unanswered or that was carried, where no other is in hand; the requests in the queues, where there are any; and
-    /// a tick. Nothing is pushed into a ring. After `NoMemory`, which comes where memory was refused, the events that were
-    /// made stand, but the answers of the last may not have gone out.
+    /// The events of one visit in a round, as long as the node is up: each packet that was carried, of the other nodes by number;
+    /// the command of each client, by number, that a crash left unanswered or that was carried, where no other is in hand; the
+    /// requests in the queues, where there are any; and a tick. Then all that their steps put goes to the links. No command is
+    /// taken from a ring, and no answer pushed into one. After `NoMemory`, which comes where memory was refused, the events that
+    /// were made stand, but a packet may be lost, and what the last ones put and answered may not have gone out.
     pub fn visit(&mut self) -> Result<Visited, NoMemory>
-        ensures visits { OnOk result (Visits D.told D.state D.fault_count D.byte_count self.old.seat self.new.seat) }
-        ensures sent { IfOk result (λ visited. visited.sent ≡ false) }
+        ensures visits { OnOk result (Visits D.told D.state D.fault_count D.byte_count (post_of self.old) (post_of self.new)) }
+        ensures sent { IfOk result (λ visited. visited.sent ≡ has_put (trace_of self.old) (trace_of self.new)) }
         ensures noted { IfOk result (λ visited. visited.noted ≡ has_noted (journal_of self.old) (journal_of self.new)) }
-        ensures breaks { OnErr result (Breaks D.told D.state D.fault_count D.byte_count self.old.seat self.new.seat) }
+        ensures breaks { OnErr result (Breaks D.told D.state D.fault_count D.byte_count (post_of self.old) (post_of self.new)) }
         ensures grows { Grows (journal_of self.old) (journal_of self.new) }
         ensures opened { self.new.opened ≡ self.old.opened }
         ensures faults { self.new.faults ≡ self.old.faults }
 
-        // The lanes stay joined to the clients' ends.
+        // The links stay those of its node, and the lanes joined to the clients' ends.
+        ensures links { IsSameNode self.old.links self.new.links }
         ensures rings { HaveSameRings self.old.seat.ends self.new.seat.ends }
         ensures joined { StayJoined self.old.seat.ends self.new.seat.ends }
     {
-        let before = self.journal().len();
+        let entries = self.journal().len();
+        let steps = self.trace().len();
         self.begin_round();
+        self.hear_all()?;
         self.turn_all()?;
+        let sent = self.put_since(steps)?;
         Ok(Visited {
-            sent: false,
-            noted: has_noted(self.journal(), before),
+            sent,
+            noted: has_noted(self.journal(), entries),
         })
+    }
+
+    /// The packets that were carried, of the other nodes by number.
+    fn hear_all(&mut self) -> Result<(), NoMemory>
+        ensures hears { OnOk result (HearsBelow D.told D.state D.fault_count D.byte_count self.old.links.size (post_of self.old) (post_of self.new)) }
+        ensures breaks { OnErr result (BreaksBelow D.told D.state D.fault_count D.byte_count self.old.links.size (post_of self.old) (post_of self.new)) }
+        ensures same { IsSameNode self.old.links self.new.links }
+        ensures opened { self.new.opened ≡ self.old.opened }
+        ensures faults { self.new.faults ≡ self.old.faults }
+        ensures rings { HaveSameRings self.old.seat.ends self.new.seat.ends }
+    {
+        for from in 0..self.links.count() {
+            self.hear_from(from)?;
+        }
+        Ok(())
+    }
+
+    /// Those of a node; none of a number that is no other node of the run.
+    fn hear_from(&mut self, from: usize) -> Result<(), NoMemory>
+        ensures hears { OnOk result (HearsFrom D.told D.state D.fault_count D.byte_count from (post_of self.old) (post_of self.new)) }
+        ensures breaks { OnErr result (BreaksFrom D.told D.state D.fault_count D.byte_count from (post_of self.old) (post_of self.new)) }
+        ensures same { IsSameNode self.old.links self.new.links }
+        ensures opened { self.new.opened ≡ self.old.opened }
+        ensures faults { self.new.faults ≡ self.old.faults }
+        ensures rings { HaveSameRings self.old.seat.ends self.new.seat.ends }
+    {
+        let count = self.links.carried_from(from);
+        for _ in 0..count {
+            self.hear_next(from)?;
+        }
+        Ok(())
+    }
+
+    /// The next packet of another node, where the node is up: it is taken in, and its answers go out.
+    fn hear_next(&mut self, from: usize) -> Result<(), NoMemory>
+        requires { is_peer_of self.old.links from ≡ true }
+        ensures hears { OnOk result (Hears D.told D.state D.fault_count D.byte_count from (post_of self.old) (post_of self.new)) }
+        ensures breaks { OnErr result (BreaksHearing D.told D.state D.fault_count D.byte_count (post_of self.old) (post_of self.new)) }
+        ensures same { IsSameNode self.old.links self.new.links }
+        ensures opened { self.new.opened ≡ self.old.opened }
+        ensures faults { self.new.faults ≡ self.old.faults }
+        ensures rings { HaveSameRings self.old.seat.ends self.new.seat.ends }
+    {
+        self.state.make_room()?;
+        if self.state.cause().is_some() {
+            return Ok(());
+        }
+        let Some(packet) = self.links.take_carried(from)? else {
+            return Ok(());
+        };
+        let answers = self.state.hear(self.alloc, packet);
+        deliver_all(&mut self.ends, answers)
+    }
+
+    /// What the steps behind so many put goes to the links. It answers whether that is anything.
+    fn put_since(&mut self, before: usize) -> Result<bool, NoMemory>
+        ensures put { OnOk result (HasPut (flat_map puts_of (drop before (trace_of self.old))) self.old.links self.new.links) }
+        ensures some { OnErr result (HasPutSome (flat_map puts_of (drop before (trace_of self.old))) self.old.links self.new.links) }
+        ensures any { IfOk result (λ any. any ≡ list_any puts_any (drop before (trace_of self.old))) }
+        ensures same { IsSameNode self.old.links self.new.links }
+        ensures seat { self.new.seat ≡ self.old.seat }
+        ensures opened { self.new.opened ≡ self.old.opened }
+        ensures faults { self.new.faults ≡ self.old.faults }
+    {
+        let steps = self.state.carried().chronicle.trace();
+        match steps.get(before..) {
+            Some(steps) => self.links.put_steps(steps),
+            None => Ok(false),
+        }
     }
 
     /// One more visit.
     fn begin_round(&mut self)
         ensures node { IsSeenAs in_round_as self.old.seat.node self.new.seat.node }
         ensures ends { self.new.seat.ends ≡ self.old.seat.ends }
+        ensures links { self.new.links ≡ self.old.links }
         ensures opened { self.new.opened ≡ self.old.opened }
         ensures faults { self.new.faults ≡ self.old.faults }
     {
@@ -174,6 +258,7 @@ impl<D: Disk> NodeCell<D> {
     fn turn_all(&mut self) -> Result<(), NoMemory>
         ensures turns { OnOk result (TurnsAll D.told D.state D.fault_count D.byte_count (sources_of self.old.seat.ends) self.old.seat self.new.seat) }
         ensures breaks { OnErr result (TurnsSome D.told D.state D.fault_count D.byte_count (sources_of self.old.seat.ends) self.old.seat self.new.seat) }
+        ensures links { self.new.links ≡ self.old.links }
         ensures opened { self.new.opened ≡ self.old.opened }
         ensures faults { self.new.faults ≡ self.old.faults }
         ensures rings { HaveSameRings self.old.seat.ends self.new.seat.ends }
@@ -189,6 +274,7 @@ impl<D: Disk> NodeCell<D> {
     fn turn(&mut self, source: EventSource) -> Result<(), NoMemory>
         ensures turns { OnOk result (Turns D.told D.state D.fault_count D.byte_count source self.old.seat self.new.seat) }
         ensures breaks { OnErr result (IsBroken D.told D.state D.fault_count D.byte_count source self.old.seat self.new.seat) }
+        ensures links { self.new.links ≡ self.old.links }
         ensures opened { self.new.opened ≡ self.old.opened }
         ensures faults { self.new.faults ≡ self.old.faults }
         ensures rings { HaveSameRings self.old.seat.ends self.new.seat.ends }
@@ -211,6 +297,7 @@ impl<D: Disk> NodeCell<D> {
         ensures damaged { D.told → (at : ℕ) → result ≡ Err (restart_faults.Damaged at) → most_rounds < rounds_of self.old.seat.node }
         ensures grows { Grows (journal_of self.old) (journal_of self.new) }
         ensures ends { self.new.seat.ends ≡ self.old.seat.ends }
+        ensures links { self.new.links ≡ self.old.links }
         ensures opened { self.new.opened ≡ self.old.opened }
         ensures faults { self.new.faults ≡ self.old.faults }
     {
@@ -239,6 +326,7 @@ impl<D: Disk> NodeCell<D> {
         requires { SendsTo from.old (ends_of client self.old.seat.ends) }
         ensures carries { CarriesIn client from.old from.new self.old.seat.ends self.new.seat.ends result (ends_of client self.old.seat.ends) }
         ensures node { self.new.seat.node ≡ self.old.seat.node }
+        ensures links { self.new.links ≡ self.old.links }
         ensures opened { self.new.opened ≡ self.old.opened }
         ensures faults { self.new.faults ≡ self.old.faults }
         ensures joined { StayJoined self.old.seat.ends self.new.seat.ends }
@@ -255,6 +343,7 @@ impl<D: Disk> NodeCell<D> {
         requires { SendsFrom (ends_of client self.old.seat.ends) to.old }
         ensures carries { CarriesOut client to.old to.new self.old.seat.ends self.new.seat.ends result (ends_of client self.old.seat.ends) }
         ensures node { self.new.seat.node ≡ self.old.seat.node }
+        ensures links { self.new.links ≡ self.old.links }
         ensures opened { self.new.opened ≡ self.old.opened }
         ensures faults { self.new.faults ≡ self.old.faults }
         ensures joined { StayJoined self.old.seat.ends self.new.seat.ends }

@@ -1,5 +1,5 @@
 //! A node that is up: its events.
-ghost use Rattle.std.specs.Prelude.{◌≡◌, ◌↔◌, ℕ, ◌+◌, ◌-◌, ◌<◌, ◌^◌, true, None, Err, map, length, OnOk, IfOk};
+ghost use Rattle.std.specs.Prelude.{◌≡◌, ◌↔◌, ℕ, ◌+◌, ◌-◌, ◌<◌, ◌^◌, true, None, Err, map, length, All, OnOk, IfOk};
 ghost use Rattle.qs_disk.specs.Moments.{Keeps};
 ghost use Rattle.qs_disk.specs.Fuse.{FusedValue};
 ghost use Rattle.qs_node_host.specs.Host.{IsOldOrAfter, worked_node, effects_at};
@@ -8,6 +8,7 @@ ghost use Rattle.qs_node_host.specs.Spelled.{AreSpelled};
 ghost use Rattle.qs_node_host.specs.declared.fault.HostFault.TheVariants as faults;
 ghost use Rattle.qs_book_journal.specs.declared.entry.CrashCause.TheVariants as causes;
 ghost use Rattle.qs_log.specs.Log.{Stands};
+ghost use Rattle.qs_packet.specs.Grammar.{IsPacket};
 ghost use Rattle.qs_book_machine.specs.Clauses.{is_crash};
 ghost use Rattle.qs_cell_chronicle.specs.Chronicle.{HasRoom, noted};
 ghost use Rattle.qs_cell_chronicle.specs.Carried.{seen, answered};
@@ -17,6 +18,7 @@ ghost use Rattle.qs_slot.specs.Slot.{SayTheSame};
 ghost use Rattle.qs_base.specs.declared.memory.GrowFault.TheVariants.{Last};
 ghost use Rattle.qs_cell_peers.specs.Sessions.{LacksNumber, SessionsValue};
 ghost use Rattle.qs_cell_peers.specs.Steps.{Sends};
+ghost use Rattle.qs_cell.specs.Asides.{IsAsideOutcome, aside_outcome};
 ghost use Rattle.qs_cell.specs.Cell.{begun, ordered, why_not, may_make, ticks, unsent_cause, fault_cause, out_of, IsOutcome, IfStands, StandsAfter};
 ghost use Rattle.qs_cell.specs.Outcomes.{stopped_of, outcome_of};
 ghost use Rattle.qs_cell.specs.Roomy.{ComesNew, IsRoomyOutcome};
@@ -64,7 +66,7 @@ pub enum Fate {
 }
 
 impl<D: Disk, F: Server, X: Server> Running<D, F, X> {
-    /// An event: it takes its number and the next stamp. Then, in this order: the last stamp or a line `crash` stops the
+    /// An event: it takes its number and the next stamp, past that of a packet that it brings. Then, in this order: the last stamp or a line `crash` stops the
     /// node in place of it; what waits at the servers does, where not all of it can be counted; a line `before` does,
     /// where the whole step would make the entry that it names; a message that finds no number does; the force is cut
     /// off; the step stands, and its packets are in the trace; a line `after` stops the node behind it.
@@ -104,6 +106,28 @@ impl<D: Disk, F: Server, X: Server> Running<D, F, X> {
         }
     }
 
+    /// A packet that changes its session at most, which has taken it in: an event, which takes its number and the next stamp past the
+    /// packet's. The last stamp, or a line `crash`, stops the node in place of it; then the cause is answered, and only
+    /// `into_stopped` is to be called. Else the step stands, and nothing comes of it. It takes no memory; room for a crash is to
+    /// be made before.
+    pub fn set_aside(&mut self, packet: Packet) -> Option<CrashCause>
+        requires room { HasRoom 1 1 self.old.carried.chronicle }
+        ensures outcome { IsAsideOutcome packet self.old (aside_outcome result self.new) }
+        ensures host { self.new.host ≡ self.old.host }
+    {
+        let stamp = packet.stamp;
+        let chronicle = &mut self.carried.chronicle;
+        let is_last = chronicle.is_last_past(stamp);
+        let number = chronicle.number();
+        chronicle.next_stamp_past(stamp);
+        let cause = why_not(is_last, is_replaced(number, &self.carried.crashes));
+        match cause {
+            None => chronicle.note_none(Did::Packet { packet }),
+            Some(cause) => chronicle.note_crash(Did::Packet { packet }, cause),
+        }
+        cause
+    }
+
     /// What is left of it where it stops. It takes no memory.
     pub fn into_stopped(self, cause: CrashCause, is_full: bool) -> Stopped<D>
         ensures { result ≡ stopped_of cause is_full self }
@@ -133,16 +157,17 @@ fn replaced(carried: &mut Carried, occasion: Occasion, cause: CrashCause) -> Fat
 /// The event takes its number and its stamp, and the command is in hand. It answers why the event is not to be made: the
 /// stamp stood at its last value, or a line names the number.
 fn begin(carried: &mut Carried, occasion: &Occasion) -> Result<Option<CrashCause>, NoMemory>
-    ensures told { carried.new.chronicle.told ≡ begun carried.old.chronicle.told }
+    ensures told { carried.new.chronicle.told ≡ begun occasion.now carried.old.chronicle.told }
     ensures ok { OnOk result (HasBegun occasion.now carried.old carried.new) }
     ensures crashes { carried.new.crashes ≡ carried.old.crashes }
     ensures setting { carried.new.setting ≡ carried.old.setting }
     ensures room { HasRoom carried.old.chronicle.entries carried.old.chronicle.steps carried.new.chronicle }
-    ensures cause { IfOk result (λ cause. cause ≡ ordered (seen carried.old)) }
+    ensures cause { IfOk result (λ cause. cause ≡ ordered occasion.now (seen carried.old)) }
 {
-    let is_last = carried.chronicle.is_last();
+    let other = occasion.stamp();
+    let is_last = carried.chronicle.is_last_past(other);
     let number = carried.chronicle.number();
-    carried.chronicle.next_stamp();
+    carried.chronicle.next_stamp_past(other);
     take(&mut carried.commands, occasion, carried.setting.inc)?;
     Ok(why_not(is_last, is_replaced(number, &carried.crashes)))
 }
@@ -169,7 +194,10 @@ fn take(
 {
     match occasion {
         Occasion::Command { line } => take_in_hand(commands, line, inc),
-        Occasion::Queues | Occasion::Clock => Ok(()),
+        Occasion::Queues
+        | Occasion::Clock
+        | Occasion::Message { .. }
+        | Occasion::Restarted { .. } => Ok(()),
     }
 }
 
@@ -184,7 +212,7 @@ fn worked_out<D: Disk, F: Server, X: Server>(
 ) -> Fate
     requires stands { D.told → Stands host.old.log (D.state host.old.log.disk.disk) }
     requires room { HasRoom 1 1 carried.old.chronicle }
-    ensures outcome { (old : Running D F X) → host.old ≡ old.host → sessions.old ≡ old.sessions → HasBegun occasion old.carried carried.old → ordered (seen old.carried) ≡ None
+    ensures outcome { (old : Running D F X) → host.old ≡ old.host → sessions.old ≡ old.sessions → HasBegun occasion old.carried carried.old → ordered occasion (seen old.carried) ≡ None
         → IsOutcome D.fault_count (D.byte_count host.old.log.disk.disk) occasion old (outcome_of result (running_with host.new sessions.new carried.new)) }
     ensures stands { D.told → IfStands (outcome_of result (running_with {F = F} {X = X} host.new sessions.new carried.new)) (λ disk. StandsAfter (effects_at (D.byte_count host.old.log.disk.disk) host.old (event_of occasion)) host.old.log disk (D.state disk.disk)) }
     ensures moments { D.told → Keeps (IsOldOrAfter (effects_at (D.byte_count host.old.log.disk.disk) host.old (event_of occasion)) host.old.log)
@@ -252,7 +280,10 @@ fn may_make<D: Disk, F: Server, X: Server>(host: &Host<Fused<D>, F, X>, occasion
 {
     match occasion {
         Occasion::Queues => host.may_serve(),
-        Occasion::Command { .. } | Occasion::Clock => true,
+        Occasion::Command { .. }
+        | Occasion::Clock
+        | Occasion::Message { .. }
+        | Occasion::Restarted { .. } => true,
     }
 }
 
@@ -280,6 +311,7 @@ fn carried_out<D: Disk, F: Server, X: Server>(
     put: List<Packet>,
 ) -> Fate
     requires spelled { AreSpelled out }
+    requires put { All IsPacket put }
     requires stands { D.told → Stands host.old.log (D.state host.old.log.disk.disk) }
     requires room { HasRoom (length out.entries + 1) 2 carried.old.chronicle }
     ensures outcome { (size : ℕ) (old : Running D F X) (sessions : SessionsValue) → size ≡ D.byte_count host.old.log.disk.disk
@@ -358,6 +390,7 @@ fn whole<D: Disk, F: Server, X: Server>(
     out: Effects,
     put: List<Packet>,
 ) -> Fate
+    requires put { All IsPacket put }
     requires room { HasRoom (length out.entries + 1) 2 carried.old.chronicle }
     ensures outcome { (size : ℕ) (old : Running D F X) (sessions : SessionsValue) → HasStepped size occasion old host.now sessions carried.old out put
         → IsOutcome D.fault_count size occasion old (outcome_of result (running_with host.now sessions carried.new)) }
@@ -385,6 +418,7 @@ fn note(
     put: List<Packet>,
     entries: List<Act>,
 )
+    requires put { All IsPacket put }
     requires room { HasRoom (length entries + 1) 2 carried.old.chronicle }
     ensures told { carried.new.chronicle.told ≡ noted (did_of occasion) put entries None carried.old.chronicle.told }
     ensures room { HasRoom 1 1 carried.new.chronicle }

@@ -1,12 +1,14 @@
 //! A node that is up, or down.
 ghost use Rattle.std.specs.Prelude.{◌≡◌, ℕ, [], OnOk};
 ghost use Rattle.qs_cell.specs.State.{carried_of, cause_of, disk_of, is_queued, has_undecided, is_settled_node, IsSeenAs, LogStands, IsAllowed, StartsAgain, stopped_state, state_after, answer_of, answer_after};
+ghost use Rattle.qs_cell.specs.Hearing.{HasTakenIn, SetsAside, TakesIn};
 ghost use Rattle.qs_cell.specs.Visits.{MakesIn};
 ghost use Rattle.qs_cell.specs.Restart.{in_round_as};
 ghost use Rattle.qs_cell.specs.Roomy.{ComesNewTo, IsRoomyNode, IsSetToKeep, StartsRoomy};
 ghost use Rattle.qs_disk.specs.Disk.{EachImage};
 ghost use Rattle.qs_node_host.specs.Roomy.{HasRoomyLog};
 ghost use Rattle.qs_cell_chronicle.specs.Chronicle.{HasRoom};
+ghost use Rattle.qs_packet.specs.Grammar.{IsPacket};
 
 use crate::running::{Fate, Running};
 use crate::stopped::{Restarted, Stopped};
@@ -14,11 +16,13 @@ use core::mem;
 use qs_base::{List, NoMemory};
 use qs_book_journal::{CrashCause, Entry};
 use qs_cell_chronicle::{Carried, Occasion};
+use qs_cell_peers::Heard;
 use qs_disk::{Disk, Fused};
 use qs_files::Files;
 use qs_log_start::ReopenFault;
 use qs_node_step::{ClientAnswer, Step};
 use qs_ops::NoServer;
+use qs_packet::Packet;
 use std::alloc::Global;
 use thiserror::Error;
 
@@ -148,6 +152,59 @@ impl<D: Disk> CellState<D> {
                 List::new(alloc)
             }
         }
+    }
+
+    /// The packet comes to the node, if it is up: the session with its node takes it in, and it is an event, be it of the node or of
+    /// the cell alone; its answers go out. One that does not come from another node to this one is dropped. Room for a crash is to be
+    /// made before.
+    pub fn hear(&mut self, alloc: Global, packet: Packet) -> List<ClientAnswer>
+        requires packet { IsPacket packet }
+        requires stands { D.told → LogStands D.state self.old }
+        requires room { HasRoom 1 1 (carried_of self.old).chronicle }
+        ensures takes { TakesIn D.told D.state D.fault_count D.byte_count packet self.old self.new result }
+        ensures stands { D.told → LogStands D.state self.new }
+        ensures setting { (carried_of self.new).setting ≡ (carried_of self.old).setting }
+    {
+        match self.take_in(&packet) {
+            Heard::Message => self.event(alloc, Occasion::Message { packet }),
+            Heard::Restarted { old } => self.event(alloc, Occasion::Restarted { packet, old }),
+            Heard::Aside => self.set_aside(alloc, packet),
+            Heard::Strange => {
+                drop(packet);
+                List::new(alloc)
+            }
+        }
+    }
+
+    /// The sessions of a node that is up take the packet in.
+    fn take_in(&mut self, packet: &Packet) -> Heard
+        requires packet { IsPacket packet.now }
+        ensures { HasTakenIn packet.now self.old self.new result }
+    {
+        match self {
+            CellState::Up { running } => running.sessions.hear(packet),
+            CellState::Down { .. } => Heard::Strange,
+        }
+    }
+
+    /// A packet that changes its session at most.
+    fn set_aside(&mut self, alloc: Global, packet: Packet) -> List<ClientAnswer>
+        requires room { HasRoom 1 1 (carried_of self.old).chronicle }
+        ensures sets { SetsAside packet self.old self.new result }
+        ensures stands { D.told → LogStands D.state self.old → LogStands D.state self.new }
+    {
+        let cause = match self {
+            CellState::Up { running } => running.set_aside(packet),
+            CellState::Down { .. } => {
+                drop(packet);
+                return List::new(alloc);
+            },
+        };
+        let Some(cause) = cause else {
+            return List::new(alloc);
+        };
+        self.stop(cause, false);
+        List::new(alloc)
     }
 
     /// A node that is up is down from now on.

@@ -1,10 +1,12 @@
 -- What a cell tells: its journal, its trace, and its counts, and what each event, crash and restart adds.
-use Rattle.std.specs.Prelude.{ℕ, ◌≤◌, ◌+◌, ◌-◌, ◌^◌, Bool, List, [], ◌∷◌, ◌++◌, map, Option, Some, None, nat_le, min, if◌then◌else◌}
+use Rattle.std.specs.Prelude.{ℕ, ◌≤◌, ◌<◌, ◌+◌, ◌-◌, ◌^◌, Bool, List, [], ◌∷◌, ◌++◌, map, Option, Some, None, nat_le, min, max, if◌then◌else◌}
+use Rattle.std.specs.List.{All}
 use Rattle.qs_base.specs.declared.identifiers.NodeNo.{NodeNo}
 use Rattle.qs_book_journal.specs.declared.entry.Act.{Act}
 use Rattle.qs_book_journal.specs.declared.entry.Act.TheVariants as acts
 use Rattle.qs_book_journal.specs.declared.entry.CrashCause.{CrashCause}
 use Rattle.qs_book_journal.specs.declared.entry.Entry.{Entry}
+use Rattle.qs_packet.specs.Grammar.{IsPacket}
 use Rattle.qs_packet.specs.declared.packet.Packet.{Packet}
 use Rattle.qs_node_step.specs.declared.trace.Did.{Did}
 use Rattle.qs_node_step.specs.declared.trace.Step.{Step}
@@ -21,6 +23,11 @@ pub record Told : Type 0 where
 -- one more, unless the count stands at its type's last value
 abbrev pub counted : ℕ → ℕ
 counted count = min (count + 1) (2 ^ 64 - 1)
+
+-- what holds of each: all that its steps put has a spelling
+pub record IsInOrder (stamp : ℕ) (trace : List Step) : Type 0 where
+  pub low : stamp < 2 ^ 62
+  pub spelled : All (λ (step : Step). All IsPacket step.put) trace
 
 -- what is told, and the room for more entries and steps
 pub record ChronicleValue : Type 0 where
@@ -46,6 +53,13 @@ is_last told = nat_le last_stamp told.stamp
 -- a step's stamp is one more than that of the step before; the last one stays
 abbrev pub stamped : Told → Told
 stamped told = if is_last told then told else record told { stamp = told.stamp + 1 }
+
+-- that of a step that brings a packet is greater than the packet's as well; where the greater one of the two is the last, the node's own stays
+abbrev pub is_last_past : ℕ → Told → Bool
+is_last_past other told = nat_le last_stamp (max told.stamp other)
+
+abbrev pub stamped_past : ℕ → Told → Told
+stamped_past other told = if is_last_past other told then told else record told { stamp = max told.stamp other + 1 }
 
 -- an event takes its number
 abbrev pub numbered : Told → Told

@@ -1,6 +1,8 @@
 //! What a cell tells: its journal, its trace, and its counts.
-ghost use Rattle.std.specs.Prelude.{◌≡◌, ◌≤◌, ◌<◌, ◌^◌, ◌+◌, ◌++◌, ◌∷◌, fold, length, Some, None, [], IfOk, OnOk};
-ghost use Rattle.qs_cell_chronicle.specs.Chronicle.{HasRoom, new_told, is_last, stamped, numbered, in_round, with_entry, step_of, noted, crashed};
+ghost use Rattle.std.specs.Prelude.{◌≡◌, ◌≤◌, ◌<◌, ◌^◌, ◌+◌, ◌++◌, ◌∷◌, fold, length, Some, None, [], All, IfOk, OnOk};
+ghost use Rattle.qs_node_step.specs.declared.trace.Step.{Step};
+ghost use Rattle.qs_packet.specs.Grammar.{IsPacket};
+ghost use Rattle.qs_cell_chronicle.specs.Chronicle.{HasRoom, new_told, is_last, is_last_past, stamped, stamped_past, numbered, in_round, with_entry, step_of, noted, crashed};
 
 use crate::Tape;
 use qs_base::{List, NoMemory, NodeNo, Stamp};
@@ -34,8 +36,7 @@ struct Pages {
 }
 
 impl Model for Chronicle {
-    ghost use Rattle.std.specs.Prelude.{◌<◌, ◌^◌};
-    ghost use Rattle.qs_cell_chronicle.specs.Chronicle.{ChronicleValue};
+    ghost use Rattle.qs_cell_chronicle.specs.Chronicle.{ChronicleValue, IsInOrder};
 
     ghost Value = { ChronicleValue };
 
@@ -45,7 +46,7 @@ impl Model for Chronicle {
       steps = c.pages.value.trace.spare;
     } };
 
-    ghost invariant = { λ c. c.pages.value.stamp < 2 ^ 62 };
+    ghost invariant = { λ c. IsInOrder c.pages.value.stamp c.pages.value.trace.items };
 }
 
 impl Chronicle {
@@ -87,11 +88,11 @@ impl Chronicle {
         self.pages.stamp
     }
 
-    /// Whether the stamp stands at its last value.
-    pub fn is_last(&self) -> bool
-        ensures { result ≡ is_last self.now.told }
+    /// Whether no stamp is greater than the last step's and another one.
+    pub fn is_last_past(&self, other: Stamp) -> bool
+        ensures { result ≡ is_last_past other self.now.told }
     {
-        self.pages.stamp >= LAST_STAMP
+        self.pages.stamp.max(other) >= LAST_STAMP
     }
 
     /// The next step's stamp: one more, unless it stands at its last value.
@@ -101,6 +102,18 @@ impl Chronicle {
     {
         if self.pages.stamp < LAST_STAMP {
             self.pages.stamp += 1;
+        }
+    }
+
+    /// The stamp of a step that brings a packet with that one: one more than the greater of both, unless that one is the last; then it
+    /// stays as it is.
+    pub fn next_stamp_past(&mut self, other: Stamp)
+        ensures told { self.new.told ≡ stamped_past other self.old.told }
+        ensures room { HasRoom self.old.entries self.old.steps self.new }
+    {
+        let greatest = self.pages.stamp.max(other);
+        if greatest < LAST_STAMP {
+            self.pages.stamp = greatest + 1;
         }
     }
 
@@ -124,6 +137,7 @@ impl Chronicle {
 
     /// A step that puts these packets to the links, with the entries of these acts, for which there is room. It takes no memory.
     pub fn note(&mut self, did: Did, put: List<Packet>, acts: List<Act>)
+        requires put { All IsPacket put }
         requires room { HasRoom (length acts) 1 self.old }
         ensures told { self.new.told ≡ noted did put acts None self.old.told }
         ensures entries { self.old.entries ≤ self.new.entries + length acts }
@@ -150,6 +164,15 @@ impl Chronicle {
     {
         let nothing = List::new(self.pages.alloc);
         self.add_entry(act);
+        self.add_step(did, nothing, None);
+    }
+
+    /// A step without entries, for which there is room, that puts nothing. It takes no memory.
+    pub fn note_none(&mut self, did: Did)
+        requires room { 0 < self.old.steps }
+        ensures told { self.new.told ≡ noted did [] [] None self.old.told }
+    {
+        let nothing = List::new(self.pages.alloc);
         self.add_step(did, nothing, None);
     }
 
@@ -182,6 +205,7 @@ impl Chronicle {
 
     /// A step, without its entries.
     fn add_step(&mut self, did: Did, put: List<Packet>, crash: Option<CrashCause>)
+        requires put { All IsPacket put }
         requires room { 0 < self.old.steps }
         ensures told { self.new.told ≡ record self.old.told { trace = self.old.told.trace ++ step_of self.old.told did put crash ∷ [] } }
         ensures entries { self.new.entries ≡ self.old.entries }
@@ -206,9 +230,10 @@ impl Chronicle {
         self.pages.journal.items()
     }
 
-    /// The steps so far, in order.
+    /// The steps so far, in order. All that they put has a spelling.
     pub fn trace(&self) -> &[Step]
-        ensures { result.now ≡ self.now.told.trace }
+        ensures trace { result.now ≡ self.now.told.trace }
+        ensures spelled { All (λ (step : Step). All IsPacket step.put) result.now }
     {
         self.pages.trace.items()
     }

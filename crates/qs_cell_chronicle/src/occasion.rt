@@ -1,10 +1,11 @@
 //! What an event of a node is made of.
 ghost use Rattle.std.specs.Prelude.{◌≡◌, IfOk};
-ghost use Rattle.qs_cell_chronicle.specs.Occasions.{event_of, did_of};
+ghost use Rattle.qs_cell_chronicle.specs.Occasions.{event_of, did_of, stamp_in};
 
-use qs_base::{Copied, NoMemory};
+use qs_base::{Copied, NoMemory, Stamp};
 use qs_book_journal::ScriptLine;
 use qs_node_step::{Did, Event};
+use qs_packet::Packet;
 
 /// What an event of a node is made of.
 #[derive(Drop)]
@@ -15,6 +16,10 @@ pub enum Occasion {
     Queues,
     /// Time that passes.
     Clock,
+    /// The message in turn of another node, in a packet.
+    Message { packet: Packet },
+    /// Another node, known in incarnation `old`, was found to be in that of the packet.
+    Restarted { packet: Packet, old: u64 },
 }
 
 impl Occasion {
@@ -31,7 +36,26 @@ impl Occasion {
             },
             Occasion::Queues => Event::ServeAll,
             Occasion::Clock => Event::Tick,
+            Occasion::Message { packet } => Event::Received {
+                peer: packet.from,
+                message: packet.message.copy()?,
+            },
+            Occasion::Restarted { packet, old } => Event::PeerRestarted {
+                peer: packet.from,
+                old: *old,
+                new: packet.inc,
+            },
         })
+    }
+
+    /// The stamp of the packet that it brings, and 0 where it brings none.
+    pub fn stamp(&self) -> Stamp
+        ensures { result ≡ stamp_in self.now }
+    {
+        match self {
+            Occasion::Message { packet } | Occasion::Restarted { packet, .. } => packet.stamp,
+            Occasion::Command { .. } | Occasion::Queues | Occasion::Clock => 0,
+        }
     }
 
     /// As a step of the trace names it.
@@ -42,6 +66,9 @@ impl Occasion {
             Occasion::Command { line } => Did::Command { line },
             Occasion::Queues => Did::ServeAll,
             Occasion::Clock => Did::Tick,
+            Occasion::Message { packet } | Occasion::Restarted { packet, .. } => {
+                Did::Packet { packet }
+            }
         }
     }
 }

@@ -3,6 +3,7 @@ pub mod Places
 pub mod Putting
 -- The sessions of a node.
 pub mod Changing
+pub mod Hearing
 pub mod Sending
 pub mod Sends
 pub mod Ticking

@@ -1,16 +1,18 @@
 -- Packets are put to the links of a node, one after the other.
-use Rattle.std.proofs.Common.{◌≡◌, ℕ, ◌+◌, ◌<◌, ◌==◌, Bool, true, false, List, [], ◌∷◌, ◌++◌, refl, sym, ap, subst, ◌∙◌, append-nil, drop, get_or, length, set, take}
-use Rattle.std.specs.List.{filter}
+use Rattle.std.proofs.Common.{◌≡◌, ℕ, zero, suc, ◌+◌, ◌<◌, ◌==◌, Bool, true, false, List, [], ◌∷◌, ◌++◌, refl, sym, ap, subst, ◌∙◌, append_assoc, append-nil, arith, drop, get_or, length, set, take}
+use Rattle.std.specs.List.{filter, flat_map}
 use Rattle.std.proofs.lemmas.Bool.{eqb-false, eqb-true}
-use Rattle.std.proofs.lemmas.List.{get_or_read, length-set, take-append-drop}
+use Rattle.std.proofs.lemmas.List.{get_or_read, length-set, take-append-drop, take_more}
+use Rattle.std.proofs.lemmas.List.Concat.{flat_map-append}
 use Rattle.std.proofs.lemmas.List.Elements.{filter-append}
 use Rattle.qs_base.specs.declared.identifiers.NodeNo.{NodeNo}
 use Rattle.qs_link.specs.Lane.{DrawValue, FeedValue, Fed}
 use Rattle.qs_link.specs.Plan.{OutgoingValue, PutNone, PutOne}
 use Rattle.qs_link.specs.Planned.{PutAll}
 use Rattle.qs_link.proofs.Feeding.{fed_trans}
+use Rattle.qs_node_step.specs.declared.trace.Step.{Step}
 use Rattle.qs_packet.specs.declared.packet.Packet.{Packet}
-use Rattle.qs_cell_peers.specs.Links.{HasPut, HasPutSome, LinksValue, is_peer_of, out_of}
+use Rattle.qs_cell_peers.specs.Links.{HasPut, HasPutSome, LinksValue, is_peer_of, out_of, puts_of}
 use Rattle.qs_cell_peers.specs.NoEnds.{no_out}
 use Rattle.qs_cell_peers.specs.Peers.{is_peer, is_to, place}
 use Rattle.qs_cell_peers.proofs.Places.{elsewhere, peer_is, place_below, there}
@@ -75,3 +77,32 @@ put_more xs ys old mid new a b = record {
 -- what was put of a list before memory was refused
 pub put_some : (packets : List Packet) (i : ℕ) (old mid new : LinksValue) → HasPut (take i packets) old mid → new ≡ mid → HasPutSome packets old new
 put_some packets i old mid new put same = record { front = take i packets; rest = drop i packets; is = sym (take-append-drop i packets); put = subst (λ (v : LinksValue). HasPut (take i packets) old v) (sym same) put }
+
+-- ---- what steps put, step by step
+
+pub more_puts : (steps : List Step) (i : ℕ) (d : Step) → i < length steps → d ≡ get_or steps i d → flat_map puts_of (take (i + 1) steps) ≡ flat_map puts_of (take i steps) ++ d.put
+more_puts steps i d lt is = ap (flat_map puts_of) (take_more steps i d lt ∙ ap (λ (s : Step). take i steps ++ s ∷ []) (sym is))
+    ∙ (flat_map-append puts_of (take i steps) (d ∷ []) ∙ ap (λ (l : List Packet). flat_map puts_of (take i steps) ++ l) (append-nil d.put))
+
+split_at : (steps : List Step) (i : ℕ) (d : Step) → i < length steps → take i steps ++ get_or steps i d ∷ drop (suc i) steps ≡ steps
+split_at [] i d lt = absurd (omega (arith, lt))
+split_at (step ∷ steps) zero d lt = refl
+split_at (step ∷ steps) (suc i) d lt = ap (λ (l : List Step). step ∷ l) (split_at steps i d (omega (arith, lt)))
+
+pub some_puts : (steps : List Step) (i : ℕ) (d : Step) (old mid new : LinksValue) → i < length steps → d ≡ get_or steps i d → HasPut (flat_map puts_of (take i steps)) old mid
+    → HasPutSome d.put mid new → HasPutSome (flat_map puts_of steps) old new
+some_puts steps i d old mid new lt is put some = record {
+  front = before ++ some.front;
+  rest = some.rest ++ behind;
+  is = ap (flat_map puts_of) (sym (ap (λ (s : Step). take i steps ++ s ∷ drop (suc i) steps) is ∙ split_at steps i d lt))
+      ∙ (flat_map-append puts_of (take i steps) (d ∷ drop (suc i) steps)
+      ∙ (ap (λ (l : List Packet). before ++ (l ++ behind)) some.is
+      ∙ (ap (λ (l : List Packet). before ++ l) (append_assoc some.front some.rest behind) ∙ sym (append_assoc before some.front (some.rest ++ behind)))));
+  put = put_more before some.front old mid new put some.put;
+}
+  where
+    before : List Packet
+    before = flat_map puts_of (take i steps)
+
+    behind : List Packet
+    behind = flat_map puts_of (drop (suc i) steps)

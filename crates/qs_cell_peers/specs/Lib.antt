@@ -2,5 +2,6 @@ pub mod Peers
 pub mod Sessions
 pub mod Ticks
 pub mod Steps
+pub mod Hears
 pub mod NoEnds
 pub mod Links

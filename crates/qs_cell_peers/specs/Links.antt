@@ -1,11 +1,12 @@
 -- A node's ends of its links: one to each other node of the run, and one from it.
-use Rattle.std.specs.Prelude.{◌≡◌, ◌++◌, ◌+◌, ◌<◌, ℕ, true, Bool, List, IfOk, OnOk, Result, get_or, length}
+use Rattle.std.specs.Prelude.{◌≡◌, ◌++◌, ◌+◌, ◌==◌, ◌<◌, ℕ, true, not, Bool, List, IfOk, OnOk, Result, get_or, length, if◌then◌else◌}
 use Rattle.std.specs.List.{filter}
 use Rattle.qs_base.specs.declared.identifiers.NodeNo.{NodeNo}
 use Rattle.qs_base.specs.declared.memory.NoMemory.{NoMemory}
 use Rattle.qs_link.specs.Lane.{DrawValue, IsFifo, IsFront, IsLane, on_way}
 use Rattle.qs_link.specs.Plan.{OutgoingValue}
 use Rattle.qs_link.specs.Planned.{Carried, PutAll}
+use Rattle.qs_node_step.specs.declared.trace.Step.{Step}
 use Rattle.qs_packet.specs.declared.packet.Packet.{Packet}
 use Rattle.rtrb.specs.Ring.{SameConsumer, SameProducer}
 use Rattle.qs_cell_peers.specs.NoEnds.{no_into, no_out}
@@ -27,6 +28,17 @@ out_of links m = get_or links.out (place links.me.0 m) no_out
 
 abbrev pub into_of : LinksValue → ℕ → DrawValue Packet
 into_of links m = get_or links.into (place links.me.0 m) no_into
+
+-- how many packets of node m were carried
+abbrev pub carried_from : LinksValue → ℕ → ℕ
+carried_from links m = if is_peer_of links m then length (into_of links m).inbox else 0
+
+-- what a step puts, and whether it puts anything
+abbrev pub puts_of : Step → List Packet
+puts_of step = step.put
+
+abbrev pub puts_any : Step → Bool
+puts_any step = not (length step.put == 0)
 
 -- there are as many of one kind as of the other, and the node is one of the run
 pub record AreLinks (n : NodeNo) (out : List OutgoingValue) (into : List (DrawValue Packet)) : Type 0 where

@@ -1,14 +1,17 @@
 //! A node's ends of its links.
 ghost use Rattle.std.specs.Prelude.{◌≡◌, ◌+◌, ◌<◌, ◌↔◌, ℕ, true, not, [], ◌==◌, ◌∷◌, All, IfOk, IfSome, OnOk, OnErr, Some, length, slice_get};
+ghost use Rattle.std.specs.List.{flat_map, list_any};
 ghost use Rattle.qs_packet.specs.Grammar.{IsPacket};
+ghost use Rattle.qs_node_step.specs.declared.trace.Step.{Step};
 ghost use Rattle.qs_link.specs.Lane.{IsLane};
 ghost use Rattle.qs_link.specs.Link.{Took, TookNone};
-ghost use Rattle.qs_cell_peers.specs.Links.{HasCarried, HasPut, HasPutSome, IsSameNode, SameInto, SameOut, into_of, is_peer_of, out_of};
+ghost use Rattle.qs_cell_peers.specs.Links.{HasCarried, HasPut, HasPutSome, IsSameNode, SameInto, SameOut, carried_from, into_of, is_peer_of, out_of, puts_any, puts_of};
 ghost use Rattle.qs_cell_peers.specs.Peers.{place};
 
 use crate::peers::{is_other, place_of};
 use qs_base::{List, NoMemory, NodeNo};
 use qs_link::{Incoming, Outgoing, carry_link};
+use qs_node_step::Step;
 use qs_packet::Packet;
 use std::marker::Model;
 
@@ -49,6 +52,23 @@ impl Links {
         }
     }
 
+    /// How many nodes the run has.
+    pub fn count(&self) -> usize
+        ensures { result ≡ self.now.size }
+    {
+        self.out.len() + 1
+    }
+
+    /// How many packets of a node were carried; none of a number that is no other node of the run.
+    pub fn carried_from(&self, from: usize) -> usize
+        ensures { result ≡ carried_from self.now from }
+    {
+        if !is_other(self.out.len(), self.me, from) {
+            return 0;
+        }
+        self.into[place_of(self.me, from)].carried()
+    }
+
     /// Puts the packets, each to the link of its node, in order; one to no other node of the run is dropped. After `NoMemory`, which comes
     /// where memory was refused, the first ones were put, up to one.
     pub fn put_all(&mut self, packets: &[Packet]) -> Result<(), NoMemory>
@@ -60,6 +80,20 @@ impl Links {
             self.put_one(packet)?;
         }
         Ok(())
+    }
+
+    /// Puts what these steps put, step by step, and tells whether that is anything. After `NoMemory`, which comes where memory was refused,
+    /// the first packets were put, up to one.
+    pub fn put_steps(&mut self, steps: &[Step]) -> Result<bool, NoMemory>
+        requires { All (λ (step : Step). All IsPacket step.put) steps.now }
+        ensures put { OnOk result (HasPut (flat_map puts_of steps.now) self.old self.new) }
+        ensures some { OnErr result (HasPutSome (flat_map puts_of steps.now) self.old self.new) }
+        ensures any { IfOk result (λ any. any ≡ list_any puts_any steps.now) }
+    {
+        for step in steps {
+            self.put_all(step.put.as_slice())?;
+        }
+        Ok(steps.iter().any(puts_any))
     }
 
     /// Puts a packet to the link of its node. After `NoMemory` all is as it was.
@@ -75,18 +109,19 @@ impl Links {
         self.out[place_of(self.me, to)].put(packet)
     }
 
-    /// Takes the next packet of that peer that was carried; `None` exactly where its inbox is empty. After `NoMemory`, which comes where
+    /// Takes the next packet of that peer that was carried; `None` exactly where its inbox is empty. No ring is touched. After `NoMemory`, which comes where
     /// memory was refused, that packet is lost.
-    pub fn take_carried(&mut self, from: NodeNo) -> Result<Option<Packet>, NoMemory>
-        requires { is_peer_of self.old from.0 ≡ true }
+    pub fn take_carried(&mut self, from: usize) -> Result<Option<Packet>, NoMemory>
+        requires { is_peer_of self.old from ≡ true }
         ensures same { IsSameNode self.old self.new }
         ensures out { SameOut (λ m. true) self.old self.new }
-        ensures others { SameInto (λ m. not (m == from.0)) self.old self.new }
-        ensures took { Took result (into_of self.old from.0) (into_of self.new from.0) }
+        ensures others { SameInto (λ m. not (m == from)) self.old self.new }
+        ensures took { Took result (into_of self.old from) (into_of self.new from) }
+        ensures ring { (into_of self.new from).ring ≡ (into_of self.old from).ring }
         ensures packet { IfOk result (λ p. IfSome p IsPacket) }
-        ensures none { TookNone result ↔ ((into_of self.old from.0).inbox ≡ []) }
+        ensures none { TookNone result ↔ ((into_of self.old from).inbox ≡ []) }
     {
-        self.into[place_of(self.me, usize::from(from.0))].take_carried()
+        self.into[place_of(self.me, from)].take_carried()
     }
 
     /// Moves what stands on the link from another node to this one, in its ring and its outbox, into the inbox, and says how many packets
@@ -106,4 +141,11 @@ impl Links {
         let here = place_of(self.me, usize::from(from.me.0));
         carry_link(&mut from.out[there], &mut self.into[here])
     }
+}
+
+/// Whether a step puts anything.
+fn puts_any(step: &Step) -> bool
+    ensures { result ≡ puts_any step.now }
+{
+    !step.put.is_empty()
 }

@@ -1,19 +1,23 @@
 //! The sessions of a node, one with each other node of the run.
-ghost use Rattle.std.specs.Prelude.{◌≡◌, ◌≢◌, ◌<◌, ◌≤◌, ◌^◌, ◌+◌, ◌-◌, ◌==◌, ◌∷◌, ◌++◌, [], ℕ, true, false, not, All, Err, IfOk, IfSome, OnOk, is_none, map, option_to_list, if◌then◌else◌};
+ghost use Rattle.std.specs.Prelude.{◌≡◌, ◌≢◌, ◌<◌, ◌≤◌, ◌^◌, ◌+◌, ◌-◌, ◌==◌, ◌∷◌, ◌++◌, [], ℕ, true, All, Err, IfOk, OnOk, map, option_to_list, if◌then◌else◌};
 ghost use Rattle.std.specs.List.{filter};
 ghost use Rattle.qs_base.specs.declared.memory.GrowFault.TheVariants.{Last};
-ghost use Rattle.qs_session_channels.specs.End.{answer, fresh, tick_packets, ticked};
+ghost use Rattle.qs_session_channels.specs.End.{fresh, tick_packets, ticked};
 ghost use Rattle.qs_session_channels.specs.Network.{with_at};
 ghost use Rattle.qs_packet.specs.Grammar.{IsPacket};
+ghost use Rattle.qs_packet.specs.declared.message.Message.{Message};
 ghost use Rattle.qs_packet.specs.declared.message.Message.TheVariants.{Hello};
 ghost use Rattle.qs_node_spelled.specs.Spelled.{IsSendable};
-ghost use Rattle.qs_session.specs.Seen.{answer_of, seen};
+ghost use Rattle.qs_session.specs.Seen.{answer_with, seen};
 ghost use Rattle.qs_node_step.specs.declared.event.Sending.{Sending};
-ghost use Rattle.qs_cell_peers.specs.Peers.{comes_to, goes_from, is_to};
-ghost use Rattle.qs_cell_peers.specs.Sessions.{EndAs, LacksNumber, all_sent, ends_of, is_peer_of, numbers_given, one_sent, sent_to, taken_in};
+ghost use Rattle.qs_cell_peers.specs.Hears.{ends_heard, heard_as, heard_of};
+ghost use Rattle.qs_cell_peers.specs.declared.heard.Heard.TheVariants as heards;
+ghost use Rattle.qs_cell_peers.specs.Peers.{goes_from, is_to};
+ghost use Rattle.qs_cell_peers.specs.Sessions.{EndAs, LacksNumber, all_sent, ends_of, is_peer_of, numbers_given, one_sent, sent_to};
 ghost use Rattle.qs_cell_peers.specs.Steps.{Sends};
 ghost use Rattle.qs_cell_peers.specs.Ticks.{all_ticked, tick_to};
 
+use crate::heard::Heard;
 use crate::peers::{comes, is_other, place_of};
 use qs_base::{Copied, GrowFault, List, NoMemory, NodeNo, Stamp};
 use qs_node_step::Sending;
@@ -141,20 +145,20 @@ impl Sessions {
         Ok(())
     }
 
-    /// Takes a packet in. `None` exactly where it does not come from a peer to this node; then it is dropped. Takes no memory.
-    pub fn hear(&mut self, packet: Packet) -> Option<Taken>
-        requires { IsPacket packet }
-        ensures strange { is_none result ≡ not (comes_to self.old.size self.old.me.0 packet) }
-        ensures answer { IfSome result (λ taken. answer_of taken ≡ answer (ends_of self.old packet.from.0) (seen packet)) }
-        ensures ends { comes_to self.old.size self.old.me.0 packet ≡ true → EndAs self.old (taken_in (ends_of self.old) packet) self.new }
-        ensures dropped { comes_to self.old.size self.old.me.0 packet ≡ false → EndAs self.old (ends_of self.old) self.new }
+    /// The session with the packet's node takes it in, and tells what it is to this one. Takes no memory.
+    pub fn hear(&mut self, packet: &Packet) -> Heard
+        requires { IsPacket packet.now }
+        ensures heard { result ≡ heard_of self.old packet.now }
+        ensures ends { EndAs self.old (ends_heard self.old packet.now) self.new }
     {
-        if !comes(self.sessions.len(), self.me, &packet) {
-            drop(packet);
-            return None;
+        if !comes(self.sessions.len(), self.me, packet) {
+            return Heard::Strange;
         }
         let at = place_of(self.me, usize::from(packet.from.0));
-        Some(hear(&mut self.sessions[at], packet))
+        let taken = hear(&mut self.sessions[at], packet);
+        let heard = heard_as(&taken);
+        drop(taken);
+        heard
     }
 
     /// Each session ticks, in the order of the other nodes: the packets that are due, in order. After an error some have ticked.
@@ -192,6 +196,34 @@ impl Sessions {
         }
         let due = tick(&mut self.sessions[place_of(self.me, number)], stamp)?;
         add_all(packets, due)
+    }
+}
+
+/// What a packet is to the node, by what its session answers; none stands for its message, which is in turn.
+fn heard_as(taken: &Option<Taken>) -> Heard
+    ensures { (message : Message) → result ≡ heard_as (answer_with taken.now message) }
+{
+    match taken {
+        None | Some(Taken::Message { .. }) => Heard::Message,
+        Some(Taken::NewPeer { old, .. }) => known_as(*old),
+        Some(
+            Taken::OldPeer { .. }
+            | Taken::OldSelf { .. }
+            | Taken::Hello
+            | Taken::Repeat { .. }
+            | Taken::Early { .. },
+        ) => Heard::Aside,
+    }
+}
+
+/// What a later incarnation is to the node; the earlier one that it knew is 0 where it knew none.
+fn known_as(old: u64) -> Heard
+    ensures { result ≡ (if old == 0 then heards.Aside else heards.Restarted old) }
+{
+    if old == 0 {
+        Heard::Aside
+    } else {
+        Heard::Restarted { old }
     }
 }
 

@@ -119,6 +119,13 @@ impl<T: Drop> Feed<T> {
 }
 
 impl<T: Drop> Draw<T> {
+    /// How many items were carried and not taken.
+    pub fn carried(&self) -> usize
+        ensures { result ≡ length self.now.inbox }
+    {
+        self.inbox.len()
+    }
+
     /// Takes the next item that was carried. The ring is left alone.
     pub fn take_carried(&mut self) -> Option<T>
         ensures drawn { Drawn (option_to_list result) self.old self.new }

@@ -61,11 +61,19 @@ impl Incoming {
         }
     }
 
-    /// Takes the next packet that was carried; `None` exactly where the inbox is empty. After
+    /// How many packets were carried and not taken.
+    pub fn carried(&self) -> usize
+        ensures { result ≡ length self.now.inbox }
+    {
+        self.draw.carried()
+    }
+
+    /// Takes the next packet that was carried; `None` exactly where the inbox is empty. The ring is left alone. After
     /// `NoMemory`, which comes where memory was refused, that packet is lost.
     pub fn take_carried(&mut self) -> Result<Option<Packet>, NoMemory>
         ensures took { Took result self.old self.new }
         ensures packet { IfOk result (λ p. IfSome p IsPacket) }
+        ensures ring { self.new.ring ≡ self.old.ring }
         ensures none { TookNone result ↔ (self.old.inbox ≡ []) }
     {
         match self.draw.take_carried() {

@@ -5,7 +5,7 @@ ghost use Rattle.qs_session_channels.specs.End.{sent, sent_packet, received, ans
 ghost use Rattle.qs_packet.specs.Grammar.{IsPacket};
 ghost use Rattle.qs_packet.specs.declared.message.Message.TheVariants.{Hello};
 ghost use Rattle.qs_node_spelled.specs.Spelled.{IsSendable};
-ghost use Rattle.qs_session.specs.Seen.{seen, answer_of, IsFrom};
+ghost use Rattle.qs_session.specs.Seen.{seen, answer_with, IsFrom};
 ghost use Rattle.qs_session.specs.Spelled.{IsSpelled};
 
 use crate::session::Session;
@@ -35,16 +35,16 @@ pub fn post(
     session.send(message, stamp)
 }
 
-/// Takes a packet that came over a link.
+/// Takes in a packet that came over a link, as `receive`; `None` exactly where its message is the next one. Takes no memory.
 #[tactic(auto, using(crate::proofs::Spelling::spelled_receive))]
-pub fn hear(session: &mut Session, packet: Packet) -> Taken
+pub fn hear(session: &mut Session, packet: &Packet) -> Option<Taken>
     requires spelled { IsSpelled session.old }
-    requires packet { IsPacket packet }
+    requires packet { IsPacket packet.now }
     ensures spelled { IsSpelled session.new }
-    ensures answer { answer_of result ≡ answer session.old.end (seen packet) }
-    ensures end { session.new ≡ record session.old { end = received session.old.end (seen packet) } }
+    ensures answer { answer_with result packet.now.message ≡ answer session.old.end (seen packet.now) }
+    ensures end { session.new ≡ record session.old { end = received session.old.end (seen packet.now) } }
 {
-    session.receive(packet)
+    session.hear(packet)
 }
 
 /// What is due at a tick has a spelling.

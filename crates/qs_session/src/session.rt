@@ -120,6 +120,14 @@ impl Session {
         }
     }
 
+    /// Takes in a packet that is lent, as `receive`; `None` exactly where its message is the next one.
+    pub(crate) fn hear(&mut self, packet: &Packet) -> Option<Taken>
+        ensures answer { answer_with result packet.now.message ≡ answer self.old.end (seen packet.now) }
+        ensures end { self.new ≡ record self.old { end = received self.old.end (seen packet.now) } }
+    {
+        self.take_in(packet.inc, packet.to_inc, packet.number, packet.ack)
+    }
+
     /// What is due at a tick: every unacknowledged message again, in order; where there is none, an acknowledgement
     /// that is owed; else a greeting, while the peer is unknown or was not met. After want of memory all is as it was.
     pub fn tick(&mut self, stamp: Stamp) -> Result<List<Packet>, NoMemory>

@@ -3,6 +3,7 @@ use Rattle.std.proofs.Common.{◌≡◌, ◌∙◌, ap, inl, inr, refl, subst, s
 use Rattle.std.specs.Prelude.{⊤}
 use Rattle.qs_cell.specs.Starts.{CellValue}
 use Rattle.qs_cell.specs.State.{StartsAgain, Up, cause_of, is_queued}
+use Rattle.qs_cell.specs.Hearing.{Post}
 use Rattle.qs_cell.specs.Visits.{IsSameNode, Seat, TakesTurn, TurnsAll, client_source, due, left_by, sources_of}
 use Rattle.qs_cell.specs.declared.state.CellState.{CellState}
 use Rattle.qs_cell.specs.declared.state.CellState.TheVariants as states
@@ -21,6 +22,7 @@ use Rattle.qs_world_one.specs.Reached.{IsInWorld}
 use Rattle.qs_world_one.specs.Seats.{HasCell, OfClient, OfNode}
 use Rattle.qs_world_one.specs.Visiting.{IsOwn, IsTurnOf}
 use Rattle.qs_world_one.specs.Rooms.{Began}
+use Rattle.qs_world_one.proofs.Alone.{IsOwnVisit, own_visit}
 use Rattle.qs_world_one.proofs.Reaching.{each_restart}
 use Rattle.qs_world_one.proofs.Visited.{each_room, each_turn_goes, each_visit_begins}
 
@@ -108,10 +110,13 @@ module _ {D : Type 0} (told : Type 0) (state : D → DiskState) (own size : D �
       (client_turn end (all end (inl refl)) turn.ready old.ends) turn.turn (was_granted (map client_source ends ++ sources_of []) mid new rest granted)
       (each_room told state size began start old.node turn.ready old.ends clients turn.same was))
 
-pub each_visit : {D : Type 0} (told : Type 0) (state : D → DiskState) (own size : D → ℕ) (began : Began) (start : World) (old new : Seat D) (clients : List ClientCell) → VisitsGoOn told state own size began start old new clients
-each_visit told state own size began start old new clients visits granted all was =
-    all_turns told state own size began start clients old.ends (record { node = visits.begun; ends = old.ends }) new visits.turns granted all
-    (each_visit_begins told state size began start old.node visits.begun old.ends clients visits.round was)
+pub each_visit : {D : Type 0} (told : Type 0) (state : D → DiskState) (own size : D → ℕ) (began : Began) (start : World) (old new : Post D) (clients : List ClientCell) → VisitsGoOn told state own size began start old new clients
+each_visit {D} told state own size began start old new clients visits alone granted all was =
+    all_turns told state own size began start clients old.seat.ends (record { node = its.begun; ends = old.seat.ends }) new.seat its.turns granted all
+    (each_visit_begins told state size began start old.seat.node its.begun old.seat.ends clients its.round was)
+  where
+    its : IsOwnVisit told state own size old.seat new.seat
+    its = own_visit told state own size old new alone visits
 
 -- whatever the restart answers
 pub starts_on : {D : Type 0} (told : Type 0) (state : D → DiskState) (own size : D → ℕ) (began : Began) (start : World) (old new : CellValue D) (answer : Result Bool RestartFault) (clients : List ClientCell) → told

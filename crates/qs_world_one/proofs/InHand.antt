@@ -15,6 +15,7 @@ use Rattle.qs_node_step.specs.State.{NodeValue, client_cmp}
 use Rattle.qs_node_step.specs.Step.{effects_of, after_step}
 use Rattle.qs_node_step.specs.declared.event.ClientAnswer.{ClientAnswer}
 use Rattle.qs_node_step.specs.declared.state.OpenCommand.{OpenCommand}
+use Rattle.qs_world_one.specs.Events.{BringsNone}
 use Rattle.qs_world_one.specs.Showing.{AnswersHeld, AnswersRight, IsHeldAs, IsInHand, Waiting, answers_to, held_for, its_line, line_of}
 use Rattle.qs_world_one.proofs.AnswersOnce.{Answered, Fate, Waits, Went}
 use Rattle.qs_world_one.proofs.AnswersOut.{left}
@@ -32,11 +33,15 @@ abbrev came_of : Occasion → Waiting → Waiting
 came_of (occasions.Command line) waits = insert_entry client_cmp waits line.client (record { line = line; issued = None })
 came_of occasions.Queues waits = waits
 came_of occasions.Clock waits = waits
+came_of (occasions.Message packet) waits = waits
+came_of (occasions.Restarted packet old) waits = waits
 
-is_come : (occasion : Occasion) (waits : Waiting) → IsCome (event_of occasion) waits (came_of occasion waits)
-is_come (occasions.Command line) waits = refl
-is_come occasions.Queues waits = refl
-is_come occasions.Clock waits = refl
+is_come : (occasion : Occasion) (waits : Waiting) → BringsNone occasion → IsCome (event_of occasion) waits (came_of occasion waits)
+is_come (occasions.Command line) waits own = refl
+is_come occasions.Queues waits own = refl
+is_come occasions.Clock waits own = refl
+is_come (occasions.Message packet) waits own = absurd own
+is_come (occasions.Restarted packet old) waits own = absurd own
 
 came_held : (occasion : Occasion) (inc : ℕ) (waits : Waiting) (commands : Commands) → IsInHand waits commands → IsInHand (came_of occasion waits) (taken occasion inc commands)
 came_held (occasions.Command line) inc waits commands h = record {
@@ -65,10 +70,12 @@ came_held (occasions.Command line) inc waits commands h = record {
         (h.held k number (ap line_of (sym (lookup_put_apart client_cmp line.client command (exact line.client) (is_at (client_cmp k)) (not_at k line.client far) waits)) ∙ at))
 came_held occasions.Queues inc waits commands h = h
 came_held occasions.Clock inc waits commands h = h
+came_held (occasions.Message packet) inc waits commands h = h
+came_held (occasions.Restarted packet old) inc waits commands h = h
 
 -- ---- through the step
 
-module _ (node : NodeValue) (occasion : Occasion) (free inc : ℕ) (commands : Commands) (h : IsInHand node.commands commands) where
+module _ (node : NodeValue) (occasion : Occasion) (own : BringsNone occasion) (free inc : ℕ) (commands : Commands) (h : IsInHand node.commands commands) where
   abbrev came : Waiting
   came = came_of occasion node.commands
 
@@ -85,7 +92,7 @@ module _ (node : NodeValue) (occasion : Occasion) (free inc : ℕ) (commands : C
   h_came = came_held occasion inc node.commands commands h
 
   went : (k : ClientNo) → Went k came now [] said
-  went k = step_goes k node (event_of occasion) free came (is_come occasion node.commands)
+  went k = step_goes k node (event_of occasion) free came (is_come occasion node.commands own)
 
   fate : (k : ClientNo) → Fate k came now [] said
   fate k = (went k).fate h_came.rising

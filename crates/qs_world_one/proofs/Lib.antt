@@ -1,3 +1,5 @@
+-- The only node of a run hears from nobody.
+pub mod Alone
 -- Stamps of a cell, and the order of steps in a world of one node.
 pub mod Stamps
 -- A whole step.

@@ -157,7 +157,7 @@ module _ {D : Type 0} (told : Type 0) (state : D → DiskState) (own size : D �
     }
       where
         reached : Reached start (SeatDown stopped (all_delivered said (left source old ends)) clients kept_log)
-        reached = reach_then start (step_of bytes occasion old) (stop_behind old stopped.cause)
+        reached = reach_then start (step_of bytes occasion old) (stop_behind occasion old stopped.cause)
             (reach start (step_of bytes occasion old) was.reached (λ world seat. seated.followed bytes source occasion old ends clients world due_is seat stopped said is))
     goes_on (outcomes.Replaced stopped) is granted stands moments same = record {
       first = lost_log;
@@ -170,7 +170,7 @@ module _ {D : Type 0} (told : Type 0) (state : D → DiskState) (own size : D �
     }
       where
         reached : Reached start (SeatDown stopped (left source old ends) clients lost_log)
-        reached = reach start (stop_of old stopped.cause) was.reached (λ world seat. seated.replaced bytes source occasion old ends clients world due_is seat stopped is granted)
+        reached = reach start (stop_of occasion old stopped.cause) was.reached (λ world seat. seated.replaced bytes source occasion old ends clients world due_is seat stopped is granted)
     goes_on (outcomes.CutOff stopped) is granted stands moments same = record {
       first = lost_log;
       other = kept_log;

@@ -2,7 +2,7 @@
 use Rattle.std.proofs.Common.{◌≡◌, ◌⊎◌, ◌∙◌, ap, inl, inr, refl, subst, sym, ℕ, zero, suc, Bool, true, false, List, [], ◌∷◌, ◌++◌, Option, Some, None, Err, map}
 use Rattle.std.specs.Prelude.{⊤}
 use Rattle.qs_cell.specs.Cell.{IfStands, IsOutcome, StandsAfter, out_of}
-use Rattle.qs_cell.specs.Starts.{CellValue}
+use Rattle.qs_cell.specs.Starts.{CellValue, post_of}
 use Rattle.qs_cell.specs.State.{Up, cause_of, disk_of, state_of}
 use Rattle.qs_cell.specs.Visits.{IsBroken, IsSameNode, Makes, MakesIn, Seat, TakesTurn, TurnsAll, TurnsSome, client_source, due, left_by, sources_of}
 use Rattle.qs_cell.specs.Outcomes.{Outcome}
@@ -21,6 +21,7 @@ use Rattle.qs_node_host.specs.Host.{IsOldOrAfter}
 use Rattle.qs_link.specs.declared.ends.NodeEnds.{NodeEnds}
 use Rattle.qs_ops.specs.declared.no_server.NoServer.{NoServer}
 use Rattle.qs_world_rounds.specs.Breaks.{NodeRefusedIf, RefusedAt, RefusesRound, VisitsUntil}
+use Rattle.qs_world_rounds.specs.Seats.{IsAlone}
 use Rattle.qs_world_rounds.specs.Rounds.{Cast, is_refused, is_up}
 use Rattle.qs_node_step.specs.declared.event.ClientAnswer.{ClientAnswer}
 use Rattle.qs_world.specs.World.{World}
@@ -30,6 +31,7 @@ use Rattle.qs_world_one.specs.Rounding.{IsCastIn}
 use Rattle.qs_world_one.specs.Seats.{From, IsDueFrom, OfClient, OfNode}
 use Rattle.qs_world_one.specs.Visiting.{IsOwn, IsTurnOf}
 use Rattle.qs_world_one.specs.Rooms.{Began}
+use Rattle.qs_world_one.proofs.Alone.{IsOwnBreak, IsOwnVisit, own_break, own_visit}
 use Rattle.qs_world_one.proofs.Acted.{client_turn, its_own, starts_on, turn_down}
 use Rattle.qs_world_one.proofs.Reaching.{goes_on}
 use Rattle.qs_world_one.proofs.Rounded.{carries_go, visit_goes}
@@ -174,13 +176,25 @@ module _ {D : Type 0} (told : Type 0) (state : D → DiskState) (own size : D �
   some_leave (source ∷ sources) old new (inl broken) all s = broken_leaves source all.0.0 all.0.1 old new broken s
   some_leave (source ∷ sources) old new (inr (mid, (turn, rest))) all s = some_leave sources mid new rest all.1 (turn_stands source all.0.0 all.0.1 old mid turn.ready turn.same turn.turn s)
 
-  node_leaves : told → (up : Bool) (old new : CellValue D) → NodeRefusedIf up told state own size old new → AreOfClients old.seat.ends clients
+  node_leaves : told → (up : Bool) (old new : CellValue D) → NodeRefusedIf up told state own size old new → IsAlone old.links → AreOfClients old.seat.ends clients
       → IsInWorld told state size began start old.seat.node old.seat.ends clients → Shown new.seat.node
-  node_leaves t true old new (inl breaks) all was = some_leave (sources_of old.seat.ends) (record { node = breaks.begun; ends = old.seat.ends }) new.seat breaks.turns (its_turns old.seat.ends all)
-      (inl (each_visit_begins told state size began start old.seat.node breaks.begun old.seat.ends clients breaks.round was))
-  node_leaves t true old new (inr (visits, refused)) all was = shown_of new.seat (turns_stand (sources_of old.seat.ends) (record { node = visits.begun; ends = old.seat.ends }) new.seat visits.turns
-      (its_turns old.seat.ends all) (inl (each_visit_begins told state size began start old.seat.node visits.begun old.seat.ends clients visits.round was)))
-  node_leaves t false old new starts all was = itself new.seat.node old.seat.ends
+  node_leaves t true old new (inl breaks) alone all was = elim its.turns [
+    | inl some ↦ some_leave (sources_of old.seat.ends) (record { node = its.begun; ends = old.seat.ends }) new.seat some (its_turns old.seat.ends all) begun
+    | inr turns ↦ shown_of new.seat (turns_stand (sources_of old.seat.ends) (record { node = its.begun; ends = old.seat.ends }) new.seat turns (its_turns old.seat.ends all) begun)
+  ]
+    where
+      its : IsOwnBreak told state own size old.seat new.seat
+      its = own_break told state own size (post_of old) (post_of new) alone breaks
+
+      begun : Stands (record { node = its.begun; ends = old.seat.ends })
+      begun = inl (each_visit_begins told state size began start old.seat.node its.begun old.seat.ends clients its.round was)
+  node_leaves t true old new (inr (visits, refused)) alone all was =
+      shown_of new.seat (turns_stand (sources_of old.seat.ends) (record { node = its.begun; ends = old.seat.ends }) new.seat its.turns (its_turns old.seat.ends all)
+      (inl (each_visit_begins told state size began start old.seat.node its.begun old.seat.ends clients its.round was)))
+    where
+      its : IsOwnVisit told state own size old.seat new.seat
+      its = own_visit told state own size (post_of old) (post_of new) alone visits
+  node_leaves t false old new starts alone all was = itself new.seat.node old.seat.ends
       (starts_on told state own size began start old (record new { seat = record { node = new.seat.node; ends = old.seat.ends } }) (Err restart_faults.NoMemory) clients t starts refl was)
 
 -- ---- the round
@@ -190,7 +204,7 @@ module _ {D : Type 0} (told : Type 0) (state : D → DiskState) (own size : D �
   cast_leaves cast was = record { shown = cast.node.seat.node; ends = cast.node.seat.ends; clients = cast.clients; in_world = was.carried.shows; disk = refl }
 
   at_leaves : (place : ℕ) (old new : Cast D) → RefusedAt told state own size place old new → IsCastIn told state size began start old → IsShownDisk told state size began start new.node.seat.node
-  at_leaves zero old new refused was = node_leaves told state own size began start old.clients t (is_up old.node) old.node new.node refused was.lanes was.carried.shows
+  at_leaves zero old new refused was = node_leaves told state own size began start old.clients t (is_up old.node) old.node new.node refused was.alone was.lanes was.carried.shows
   at_leaves (suc at) old new same was = subst (λ (c : CellValue D). IsShownDisk told state size began start c.seat.node) (sym same) (cast_leaves old was)
 
   until_leaves : (places : List ℕ) (old new : Cast D) → VisitsUntil told state own size (RefusedAt told state own size) places old new → IsCastIn told state size began start old

@@ -68,8 +68,8 @@ module _ {D : Type 0} (state : D → DiskState) (own size : D → ℕ) (began : 
   -- the step is one of the world
   fresh : IsRoomyRun began start → IsUnplanned bytes occasion old → ComesNew bytes occasion old
   fresh run unplanned = subst (λ (n : NodeValue). BeginsNew (event_of occasion) (begin_incarnation (work_on n (free_of bytes old.host)))) (ap (λ (h : Host). h.node) reached.shows.node.host)
-      (run.begins reached.moves reached.world reached.run (stamp_at old) (free_of bytes old.host) (source_of occasion) (event_of occasion)
-      (record { may = steps.may bytes occasion old reached.world reached.shows.node comes unplanned; comes = comes.comes (stamp_at old) }))
+      (run.begins reached.moves reached.world reached.run (stamp_at occasion old) (free_of bytes old.host) (source_of occasion) (event_of occasion)
+      (record { may = steps.may bytes occasion old reached.world reached.shows.node comes unplanned; comes = comes.comes (stamp_at occasion old) }))
     where
       comes : Comes occasion reached.world
       comes = seated.comes_with bytes source occasion old ends clients reached.world due_is reached.shows unplanned

@@ -8,8 +8,8 @@ use Rattle.qs_cell.specs.State.{Up}
 use Rattle.qs_cell.specs.Visits.{all_delivered}
 use Rattle.qs_cell.specs.declared.stopped.Stopped.{Stopped}
 use Rattle.qs_cell_chronicle.specs.Carried.{Commands, Seen, answered, is_replaced, seen}
-use Rattle.qs_cell_chronicle.specs.Chronicle.{Told, counted, in_round, is_last}
-use Rattle.qs_cell_chronicle.specs.Occasions.{event_of, taken}
+use Rattle.qs_cell_chronicle.specs.Chronicle.{Told, counted, in_round, is_last_past}
+use Rattle.qs_cell_chronicle.specs.Occasions.{event_of, stamp_in, taken}
 use Rattle.qs_cell_chronicle.specs.declared.occasion.Occasion.{Occasion}
 use Rattle.qs_cell_chronicle.specs.declared.occasion.Occasion.TheVariants as occasions
 use Rattle.qs_client.specs.declared.cell.ClientCell.{ClientCell}
@@ -69,6 +69,8 @@ back_same (occasions.Command line) clients k at = by (k == line.client.0) refl
     by false e = rw e refl
 back_same occasions.Queues clients k at = refl
 back_same occasions.Clock clients k at = refl
+back_same (occasions.Message packet) clients k at = refl
+back_same (occasions.Restarted packet old) clients k at = refl
 
 -- ---- each event
 
@@ -77,6 +79,8 @@ serves_as : (occasion : Occasion) (node : NodeValue) → may_serve node (source_
 serves_as (occasions.Command line) node = refl
 serves_as occasions.Queues node = refl
 serves_as occasions.Clock node = refl
+serves_as (occasions.Message packet) node = refl
+serves_as (occasions.Restarted packet old) node = refl
 
 module _ {D : Type 0} (size : ℕ) (source : From) (occasion : Occasion) (old : Up D) (ends : List NodeEnds) (clients : List ClientCell) (world : World) (due_is : IsDueFrom source occasion old ends clients) (seat : SeatUp old ends clients world) where
   abbrev inc : ℕ
@@ -93,18 +97,19 @@ module _ {D : Type 0} (size : ℕ) (source : From) (occasion : Occasion) (old : 
 
   pub comes_with : IsUnplanned size occasion old → Comes occasion world
   comes_with unplanned = record {
+    own = it.own;
     comes = it.comes;
     served = ap (λ (h : Host). may_serve h.node (source_of occasion)) seat.node.host
         ∙ (serves_as occasion old.host.node
-        ∙ may_be_made (may_make old.host.node occasion) (is_last old.carried.chronicle.told) (is_replaced (counted old.carried.chronicle.told.events) old.carried.crashes) (out_of size occasion old) (seen old.carried) unplanned);
+        ∙ may_be_made (may_make old.host.node occasion) (is_last_past (stamp_in occasion) old.carried.chronicle.told) (is_replaced (counted old.carried.chronicle.told.events) old.carried.crashes) (out_of size occasion old) (seen old.carried) unplanned);
   }
 
   -- each is answered who has a command in hand, and what waits on is in hand
   right : AnswersRight in_hand_then (out_of size occasion old).answers
-  right = answers_right old.host.node occasion (free_of size old.host) inc old.carried.commands seat.held
+  right = answers_right old.host.node occasion it.own (free_of size old.host) inc old.carried.commands seat.held
 
   still : IsInHand (node_after size old.host (event_of occasion)).commands (answered (out_of size occasion old).answers in_hand_then)
-  still = still_held old.host.node occasion (free_of size old.host) inc old.carried.commands seat.held
+  still = still_held old.host.node occasion it.own (free_of size old.host) inc old.carried.commands seat.held
 
   -- the step's answers have gone out
   each_told : ShowsEach inc (Some inc) (answered (out_of size occasion old).answers in_hand_then) (all_delivered (out_of size occasion old).answers (left source old ends)) (clients_after (out_of size occasion old).answers over) clients
@@ -160,7 +165,7 @@ module _ {D : Type 0} (size : ℕ) (source : From) (occasion : Occasion) (old : 
   each_told_back client there = each_handed_back inc (Some inc) (answered (out_of size occasion old).answers in_hand_then) (all_delivered (out_of size occasion old).answers (left source old ends)) (clients_after (out_of size occasion old).answers over) client (each_told client there)
 
   pub followed : (new : Stopped D) (said : List ClientAnswer) → IsFollowed size occasion old new said
-      → MovesTo (MovesTo (SeatDown new (all_delivered said (left source old ends)) clients (log_after (out_of size occasion old) old.host.log).forced) (stop_behind old new.cause)) (step_of size occasion old) world
+      → MovesTo (MovesTo (SeatDown new (all_delivered said (left source old ends)) clients (log_after (out_of size occasion old) old.host.log).forced) (stop_behind occasion old new.cause)) (step_of size occasion old) world
   followed new said is = record {
     may = goes.may;
     leads = record {
@@ -168,33 +173,33 @@ module _ {D : Type 0} (size : ℕ) (source : From) (occasion : Occasion) (old : 
       leads = record {
         node = goes.leads.leads;
         rising = subst (λ (c : Commands). IsRising client_cmp c) (sym commands_are) told_rising;
-        each = subst (λ (a : List ClientAnswer). ShowsEach new.carried.setting.inc None new.carried.commands (all_delivered a (left source old ends)) (moved (stop_behind old new.cause) (moved (step_of size occasion old) world)).clients clients) (sym is.answers)
+        each = subst (λ (a : List ClientAnswer). ShowsEach new.carried.setting.inc None new.carried.commands (all_delivered a (left source old ends)) (moved (stop_behind occasion old new.cause) (moved (step_of size occasion old) world)).clients clients) (sym is.answers)
             (down new (answered (out_of size occasion old).answers in_hand_then) (all_delivered (out_of size occasion old).answers (left source old ends)) (handed_back 0 (clients_after (out_of size occasion old).answers over))
-            (moved (stop_behind old new.cause) (moved (step_of size occasion old) world)).clients commands_are is.setting world_clients each_told_back);
+            (moved (stop_behind occasion old new.cause) (moved (step_of size occasion old) world)).clients commands_are is.setting world_clients each_told_back);
       };
     };
   }
     where
-      goes : MovesTo (MovesTo (ShowsDown new (log_after (out_of size occasion old) old.host.log).forced) (stop_behind old new.cause)) (step_of size occasion old) world
+      goes : MovesTo (MovesTo (ShowsDown new (log_after (out_of size occasion old) old.host.log).forced) (stop_behind occasion old new.cause)) (step_of size occasion old) world
       goes = each_followed size occasion old new said world is seat.node (comes_with is.unplanned)
 
       commands_are : new.carried.commands ≡ answered (out_of size occasion old).answers in_hand_then
       commands_are = ap (λ (s : Seen). s.commands) is.seen
 
-      world_clients : (k : ℕ) → (moved (stop_behind old new.cause) (moved (step_of size occasion old) world)).clients k ≡ handed_back 0 (clients_after (out_of size occasion old).answers over) k
+      world_clients : (k : ℕ) → (moved (stop_behind occasion old new.cause) (moved (step_of size occasion old) world)).clients k ≡ handed_back 0 (clients_after (out_of size occasion old).answers over) k
       world_clients k = ap (λ (w : World). handed_back 0 w.clients k) (steps.leads size occasion old world seat.node (comes_with is.unplanned) is.unplanned)
 
-  pub replaced : (new : Stopped D) → IsReplaced size occasion old new → is_refused (Some new.cause) ≡ false → MovesTo (SeatDown new (left source old ends) clients old.host.log.forced) (stop_of old new.cause) world
+  pub replaced : (new : Stopped D) → IsReplaced size occasion old new → is_refused (Some new.cause) ≡ false → MovesTo (SeatDown new (left source old ends) clients old.host.log.forced) (stop_of occasion old new.cause) world
   replaced new is granted = record {
     may = goes.may;
     leads = record {
       node = goes.leads;
       rising = subst (λ (c : Commands). IsRising client_cmp c) (sym (commands_are is.why)) it.rising;
-      each = down new in_hand_then (left source old ends) (handed_back 0 world.clients) (moved (stop_of old new.cause) world).clients (commands_are is.why) is.setting (λ k. refl) each_back;
+      each = down new in_hand_then (left source old ends) (handed_back 0 world.clients) (moved (stop_of occasion old new.cause) world).clients (commands_are is.why) is.setting (λ k. refl) each_back;
     };
   }
     where
-      goes : MovesTo (ShowsDown new old.host.log.forced) (stop_of old new.cause) world
+      goes : MovesTo (ShowsDown new old.host.log.forced) (stop_of occasion old new.cause) world
       goes = each_replaced size occasion old new world is seat.node
 
       refused : new.cause ≡ causes.Memory → is_refused (Some new.cause) ≡ true
@@ -220,7 +225,7 @@ module _ {D : Type 0} (size : ℕ) (source : From) (occasion : Occasion) (old : 
       goes = each_cut own size occasion old new world is seat.node (comes_with is.unplanned) is_kept
 
       world_clients : (k : ℕ) → (moved (cut_of size occasion old is_kept new.cause) world).clients k ≡ handed_back 0 world.clients k
-      world_clients k = ap (λ (o : Option Event). (cut_with world 0 (stamp_at old) (free_of size old.host) is_kept new.cause o).clients k) (it.comes (stamp_at old))
+      world_clients k = ap (λ (o : Option Event). (cut_with world 0 (stamp_at occasion old) (free_of size old.host) is_kept new.cause o).clients k) (it.comes (stamp_at occasion old))
 
 -- ---- a restart
 

@@ -1,10 +1,12 @@
 -- Stamps of a cell, and the order of steps in a world of one node: each step has the next stamp, and the last one stays.
-use Rattle.std.proofs.Common.{◌≡◌, refl, ℕ, ◌+◌, ◌≤◌, ◌<◌, ◌==◌, ◌&&◌, ◌||◌, Bool, true, false, List, None, map, nat_lt, nat_le, arith, if◌then◌else◌}
+use Rattle.std.proofs.Common.{◌≡◌, refl, ℕ, ◌+◌, ◌≤◌, ◌<◌, ◌==◌, ◌&&◌, ◌||◌, Bool, true, false, List, None, map, nat_lt, nat_le, max, arith, if◌then◌else◌}
 use Rattle.std.proofs.lemmas.Bool.Decides.{nat_tests}
 use Rattle.qs_cell.specs.Cell.{begun, planned_after, why_not}
 use Rattle.qs_cell_chronicle.specs.Carried.{Seen}
 use Rattle.qs_cell_chronicle.specs.Chronicle as chronicle
-use Rattle.qs_cell_chronicle.specs.Chronicle.{Told, in_round, is_last, last_stamp, numbered, stamped}
+use Rattle.qs_cell_chronicle.specs.Chronicle.{Told, in_round, is_last, is_last_past, last_stamp, numbered, stamped}
+use Rattle.qs_cell_chronicle.specs.Occasions.{stamp_in}
+use Rattle.qs_cell_chronicle.specs.declared.occasion.Occasion.{Occasion}
 use Rattle.qs_book_journal.specs.declared.entry.Act.{Act}
 use Rattle.qs_node_step.specs.declared.event.Effects.{Effects}
 use Rattle.qs_world.specs.Moves.{is_in_order, is_later, node_no, stamp_limit}
@@ -30,6 +32,10 @@ pub record IsNext (told new : Told) : Type 0 where
 not_last_le : (last stamp : ℕ) → nat_le last stamp ≡ false → stamp + 1 ≤ last
 not_last_le last stamp e = grind (arith, nat_tests, e)
 
+-- a stamp past another one is greater
+above : (stamp other : ℕ) → stamp ≤ max stamp other + 1
+above stamp other = omega arith
+
 pub next_stamped : (told : Told) → IsNext told (stamped told)
 next_stamped told = by (is_last told) refl
   where
@@ -38,8 +44,12 @@ next_stamped told = by (is_last told) refl
     by false e = record { node = refl; journal = refl; later = omega arith; within = λ le. not_last_le last_stamp told.stamp e }
 
 -- an event takes its number as well, and a restart is one more round
-pub next_begun : (told : Told) → IsNext told (begun told)
-next_begun told = let next : IsNext (numbered told) (begun told) = next_stamped (numbered told) in record { node = next.node; journal = next.journal; later = next.later; within = next.within }
+pub next_begun : (occasion : Occasion) (told : Told) → IsNext told (begun occasion told)
+next_begun occasion told = by (is_last_past (stamp_in occasion) told) refl
+  where
+    by : (b : Bool) → is_last_past (stamp_in occasion) told ≡ b → IsNext told (if b then numbered told else record (numbered told) { stamp = max told.stamp (stamp_in occasion) + 1 })
+    by true e = record { node = refl; journal = refl; later = omega arith; within = λ le. le }
+    by false e = record { node = refl; journal = refl; later = above told.stamp (stamp_in occasion); within = λ le. not_last_le last_stamp (max told.stamp (stamp_in occasion)) e }
 
 pub next_round : (told : Told) → IsNext told (stamped (in_round told))
 next_round told = let next : IsNext (in_round told) (stamped (in_round told)) = next_stamped (in_round told) in record { node = next.node; journal = next.journal; later = next.later; within = next.within }
@@ -56,8 +66,11 @@ may_be_made may false true out s e = absurd (cc e)
 may_be_made true false false out s e = refl
 may_be_made false false false out s e = absurd (cc e)
 
-pub rises : (told : Told) → is_last told ≡ false → told.stamp < (begun told).stamp
-rises told e = rw e (omega arith)
+pub rises : (occasion : Occasion) (told : Told) → is_last_past (stamp_in occasion) told ≡ false → told.stamp < (begun occasion told).stamp
+rises occasion told e = rw e (past told.stamp (stamp_in occasion))
+  where
+    past : (stamp other : ℕ) → stamp < max stamp other + 1
+    past stamp other = omega arith
 
 -- ---- the order of steps
 

@@ -4,8 +4,8 @@ use Rattle.qs_cell.specs.Cell.{IsUnplanned, IsWhole, begun, may_make, out_of}
 use Rattle.qs_cell.specs.declared.running.Running.{Running}
 use Rattle.qs_session_channels.specs.Channels.{Channels}
 use Rattle.qs_cell_chronicle.specs.Carried.{Seen, is_replaced, seen}
-use Rattle.qs_cell_chronicle.specs.Chronicle.{Told, counted, is_last, last_stamp, noted}
-use Rattle.qs_cell_chronicle.specs.Occasions.{did_of, event_of}
+use Rattle.qs_cell_chronicle.specs.Chronicle.{Told, counted, is_last_past, last_stamp, noted}
+use Rattle.qs_cell_chronicle.specs.Occasions.{did_of, event_of, stamp_in}
 use Rattle.qs_cell_chronicle.specs.declared.occasion.Occasion.{Occasion}
 use Rattle.qs_cell_chronicle.specs.declared.occasion.Occasion.TheVariants as occasions
 use Rattle.qs_disk.specs.Fuse.{FusedValue}
@@ -26,20 +26,22 @@ use Rattle.qs_world.specs.Moves as moves
 use Rattle.qs_world.specs.Moves.{may_move, moved, node_no, step_with, stepped_host, taken_by}
 use Rattle.qs_world.specs.Posting.{entries_of}
 use Rattle.qs_world.specs.World.{Host, Parcel, World}
-use Rattle.qs_world_one.specs.Events.{Comes, MovesTo, WholeMoves, source_of, stamp_at, step_of}
+use Rattle.qs_world_one.specs.Events.{BringsNone, Comes, MovesTo, WholeMoves, source_of, stamp_at, step_of}
 use Rattle.qs_world_one.specs.Shown.{ShowsTold, ShowsUp}
 use Rattle.qs_world_one.proofs.Stamps.{IsNext, later, next_begun, not_last, rises, same_entries}
 
 -- nothing of the channels is taken by an event of one node
-pub nothing_taken : (world : World) (occasion : Occasion) → taken_by world 0 (source_of occasion) ≡ world.channels
-nothing_taken world (occasions.Command line) = refl
-nothing_taken world occasions.Queues = refl
-nothing_taken world occasions.Clock = refl
+pub nothing_taken : (world : World) (occasion : Occasion) → BringsNone occasion → taken_by world 0 (source_of occasion) ≡ world.channels
+nothing_taken world (occasions.Command line) own = refl
+nothing_taken world occasions.Queues own = refl
+nothing_taken world occasions.Clock own = refl
+nothing_taken world (occasions.Message packet) own = absurd own
+nothing_taken world (occasions.Restarted packet old) own = absurd own
 
 -- a step that is to be made has a later stamp
-pub step_rises : {D F X : Type 0} (size : ℕ) (occasion : Occasion) (old : Running D F X) → IsUnplanned size occasion old → is_last old.carried.chronicle.told ≡ false
+pub step_rises : {D F X : Type 0} (size : ℕ) (occasion : Occasion) (old : Running D F X) → IsUnplanned size occasion old → is_last_past (stamp_in occasion) old.carried.chronicle.told ≡ false
 step_rises size occasion old unplanned =
-    not_last (may_make old.host.node occasion) (is_last old.carried.chronicle.told) (is_replaced (counted old.carried.chronicle.told.events) old.carried.crashes) (out_of size occasion old) (seen old.carried) unplanned
+    not_last (may_make old.host.node occasion) (is_last_past (stamp_in occasion) old.carried.chronicle.told) (is_replaced (counted old.carried.chronicle.told.events) old.carried.crashes) (out_of size occasion old) (seen old.carried) unplanned
 
 module _ {D F X : Type 0} (size : ℕ) (occasion : Occasion) (old : Running D F X) (world : World) (shows : ShowsUp old world) (comes : Comes occasion world) (unplanned : IsUnplanned size occasion old) where
   abbrev told : Told
@@ -52,20 +54,20 @@ module _ {D F X : Type 0} (size : ℕ) (occasion : Occasion) (old : Running D F 
   node = node_after size old.host (event_of occasion)
 
   abbrev stamp : ℕ
-  stamp = stamp_at old
+  stamp = stamp_at occasion old
 
   abbrev pub after : World
   after = moves.stepped world 0 stamp (source_of occasion) node out
 
-  at_next : IsNext told (begun told)
-  at_next = next_begun told
+  at_next : IsNext told (begun occasion told)
+  at_next = next_begun occasion told
 
   pub host_stamp : (world.hosts 0).stamp ≡ told.stamp
   host_stamp = ap (λ (h : Host). h.stamp) shows.host
 
   -- it may be made
   pub may : may_move world (step_of size occasion old) ≡ true
-  may = rw (shows.up, later told world stamp shows.told host_stamp (rises told (step_rises size occasion old unplanned)) (at_next.within shows.told.within), comes.comes stamp, comes.served) refl
+  may = rw (shows.up, later told world stamp shows.told host_stamp (rises occasion told (step_rises size occasion old unplanned)) (at_next.within shows.told.within), comes.comes stamp, comes.served) refl
 
   -- and leads there
   pub leads : moved (step_of size occasion old) world ≡ after
@@ -73,7 +75,7 @@ module _ {D F X : Type 0} (size : ℕ) (occasion : Occasion) (old : Running D F 
       ap (step_with world 0 stamp (free_of size old.host) (source_of occasion)) (comes.comes stamp)
       ∙ ap (λ (h : Host). moves.stepped world 0 stamp (source_of occasion) (after_step h.node (event_of occasion) (free_of size old.host)) (effects_of h.node (event_of occasion) (free_of size old.host))) shows.host
 
-  pub told_after : (put : List Packet) (new : Told) → new ≡ noted (did_of occasion) put out.entries None (begun told) → ShowsTold new after
+  pub told_after : (put : List Packet) (new : Told) → new ≡ noted (did_of occasion) put out.entries None (begun occasion told) → ShowsTold new after
   told_after put new is = record {
     size = shows.told.size;
     node = ap (λ (t : Told). t.node) is ∙ (at_next.node ∙ shows.told.node);
@@ -81,15 +83,15 @@ module _ {D F X : Type 0} (size : ℕ) (occasion : Occasion) (old : Running D F 
     last = ap (λ (t : Told). (t.stamp, 0)) (sym is);
     journal =
         ap (λ (l : List _). l ++ entries_of 0 stamp out.entries) (shows.told.journal ∙ sym at_next.journal)
-        ∙ (ap (λ (l : List _). (begun told).journal ++ l) (sym (same_entries (begun told) stamp out.entries (at_next.node ∙ shows.told.node)))
+        ∙ (ap (λ (l : List _). (begun occasion told).journal ++ l) (sym (same_entries (begun occasion told) stamp out.entries (at_next.node ∙ shows.told.node)))
         ∙ sym (ap (λ (t : Told). t.journal) is));
   }
 
   pub up_after : after.channels.up 0 ≡ true
-  up_after = ap (λ (up : ℕ → Bool). up 0) (up_all 0 stamp out.messages (taken_by world 0 (source_of occasion))) ∙ (ap (λ (c : Channels Parcel). c.up 0) (nothing_taken world occasion) ∙ shows.up)
+  up_after = ap (λ (up : ℕ → Bool). up 0) (up_all 0 stamp out.messages (taken_by world 0 (source_of occasion))) ∙ (ap (λ (c : Channels Parcel). c.up 0) (nothing_taken world occasion comes.own) ∙ shows.up)
 
   pub inc_after : after.channels.inc 0 ≡ old.carried.setting.inc
-  inc_after = ap (λ (inc : ℕ → ℕ). inc 0) (inc_all 0 stamp out.messages (taken_by world 0 (source_of occasion))) ∙ (ap (λ (c : Channels Parcel). c.inc 0) (nothing_taken world occasion) ∙ shows.inc)
+  inc_after = ap (λ (inc : ℕ → ℕ). inc 0) (inc_all 0 stamp out.messages (taken_by world 0 (source_of occasion))) ∙ (ap (λ (c : Channels Parcel). c.inc 0) (nothing_taken world occasion comes.own) ∙ shows.inc)
 
   pub host_after : after.hosts 0 ≡ host_of stamp (record { node = node; log = log_after out old.host.log })
   host_after = ap (stepped_host stamp node out) shows.host ∙ sym (stepped_as_host told.stamp stamp old.host node out)
@@ -100,7 +102,7 @@ module _ {D F X : Type 0} (size : ℕ) (occasion : Occasion) (old : Running D F 
   -- ---- the step stands whole
 
   module _ (new : Running D F X) (said : List ClientAnswer) (is : IsWhole size occasion old new said) where
-    told_is : new.carried.chronicle.told ≡ noted (did_of occasion) is.put out.entries None (begun told)
+    told_is : new.carried.chronicle.told ≡ noted (did_of occasion) is.put out.entries None (begun occasion told)
     told_is = ap (λ (s : Seen). s.told) is.seen
 
     host_same : host_of stamp (record { node = node; log = log_after out old.host.log }) ≡ host_of stamp new.host

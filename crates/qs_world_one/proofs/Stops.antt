@@ -5,8 +5,8 @@ use Rattle.qs_cell.specs.Cell.{IsAsPlanned, IsFaulted, IsRefused, IsUnnumbered, 
 use Rattle.qs_cell.specs.declared.running.Running.{Running}
 use Rattle.qs_cell.specs.declared.stopped.Stopped.{Stopped}
 use Rattle.qs_cell_chronicle.specs.Carried.{Seen, is_replaced, seen}
-use Rattle.qs_cell_chronicle.specs.Chronicle.{Told, counted, crashed, is_last, last_stamp, stamped}
-use Rattle.qs_cell_chronicle.specs.Occasions.{did_of, event_of}
+use Rattle.qs_cell_chronicle.specs.Chronicle.{Told, counted, crashed, is_last, is_last_past, last_stamp, stamped}
+use Rattle.qs_cell_chronicle.specs.Occasions.{did_of, event_of, stamp_in}
 use Rattle.qs_cell_chronicle.specs.declared.occasion.Occasion.{Occasion}
 use Rattle.qs_engage.specs.Engage.{last_number}
 use Rattle.qs_node_host.specs.Host.{free_of, log_after, node_after}
@@ -112,16 +112,16 @@ why_crash true false false out s cause e = by (list_any (stops_before out.entrie
 
 pub each_replaced : {D F X : Type 0} (size : ℕ) (occasion : Occasion) (old : Running D F X) (new : Stopped D) (world : World) → ReplacedMoves size occasion old new world
 each_replaced size occasion old new world is shows = record {
-  may = may told (begun told) at_next old.carried.setting old.host.node old.host.log.forced old.host.log.forced world runs (did_of occasion) new.cause (crash is.why);
-  leads = subst (λ (l : List Record). ShowsDown new old.host.log.forced (moves.stopped world 0 (begun told).stamp new.cause l)) (sym runs.log_is)
-      (shown told (begun told) at_next old.carried.setting old.host.node old.host.log.forced old.host.log.forced world runs (did_of occasion) new.cause new is.told is.kept is.setting);
+  may = may told (begun occasion told) at_next old.carried.setting old.host.node old.host.log.forced old.host.log.forced world runs (did_of occasion) new.cause (crash is.why);
+  leads = subst (λ (l : List Record). ShowsDown new old.host.log.forced (moves.stopped world 0 (begun occasion told).stamp new.cause l)) (sym runs.log_is)
+      (shown told (begun occasion told) at_next old.carried.setting old.host.node old.host.log.forced old.host.log.forced world runs (did_of occasion) new.cause new is.told is.kept is.setting);
 }
   where
     told : Told
     told = old.carried.chronicle.told
 
-    at_next : IsNext told (begun told)
-    at_next = next_begun told
+    at_next : IsNext told (begun occasion told)
+    at_next = next_begun occasion told
 
     runs : Runs told old.carried.setting old.host.node old.host.log.forced world
     runs = runs_up old world shows
@@ -129,7 +129,7 @@ each_replaced size occasion old new world is shows = record {
     crash : (new.cause ≡ causes.Memory) ⊎ (IsAsPlanned size occasion old new ⊎ IsUnnumbered size occasion old new) → is_crash new.cause ≡ true
     crash (inl memory) = rw memory refl
     crash (inr (inr unnumbered)) = subst (λ (c : CrashCause). is_crash c ≡ true) (sym unnumbered.cause) refl
-    crash (inr (inl as_planned)) = why_crash (may_make old.host.node occasion) (is_last told) (is_replaced (counted told.events) old.carried.crashes) (out_of size occasion old) (seen old.carried) new.cause as_planned.cause
+    crash (inr (inl as_planned)) = why_crash (may_make old.host.node occasion) (is_last_past (stamp_in occasion) told) (is_replaced (counted told.events) old.carried.crashes) (out_of size occasion old) (seen old.carried) new.cause as_planned.cause
 
 -- ---- within a step
 
@@ -154,14 +154,14 @@ pub each_cut : {D F X : Type 0} (own : D → ℕ) (size : ℕ) (occasion : Occas
 each_cut own size occasion old new world is shows comes is_kept = record {
   may = may_cut;
   leads = subst (ShowsDown new left) (sym leads)
-      (shown told (begun told) at_next old.carried.setting old.host.node old.host.log.forced left world (runs_up old world shows) (did_of occasion) new.cause new is.told is.kept is.setting);
+      (shown told (begun occasion told) at_next old.carried.setting old.host.node old.host.log.forced left world (runs_up old world shows) (did_of occasion) new.cause new is.told is.kept is.setting);
 }
   where
     told : Told
     told = old.carried.chronicle.told
 
-    at_next : IsNext told (begun told)
-    at_next = next_begun told
+    at_next : IsNext told (begun occasion told)
+    at_next = next_begun occasion told
 
     left : List Record
     left = cut_log (world.hosts 0) is_kept (out_of size occasion old)
@@ -169,17 +169,17 @@ each_cut own size occasion old new world is shows comes is_kept = record {
     may_cut : may_move world (cut_of size occasion old is_kept new.cause) ≡ true
     may_cut = rw (steps.may size occasion old world shows comes is.unplanned, cut_crash own size occasion old new is.why) refl
 
-    leads : moved (cut_of size occasion old is_kept new.cause) world ≡ moves.stopped world 0 (stamp_at old) new.cause left
+    leads : moved (cut_of size occasion old is_kept new.cause) world ≡ moves.stopped world 0 (stamp_at occasion old) new.cause left
     leads =
-        ap (cut_with world 0 (stamp_at old) (free_of size old.host) is_kept new.cause) (comes.comes (stamp_at old))
-        ∙ ap (λ (n : NodeValue). moves.stopped world 0 (stamp_at old) new.cause (cut_log (world.hosts 0) is_kept (effects_of n (event_of occasion) (free_of size old.host)))) (ap (λ (h : Host). h.node) shows.host)
+        ap (cut_with world 0 (stamp_at occasion old) (free_of size old.host) is_kept new.cause) (comes.comes (stamp_at occasion old))
+        ∙ ap (λ (n : NodeValue). moves.stopped world 0 (stamp_at occasion old) new.cause (cut_log (world.hosts 0) is_kept (effects_of n (event_of occasion) (free_of size old.host)))) (ap (λ (h : Host). h.node) shows.host)
 
 -- ---- right behind a step
 
 pub each_followed : {D F X : Type 0} (size : ℕ) (occasion : Occasion) (old : Running D F X) (new : Stopped D) (said : List ClientAnswer) (world : World) → FollowedMoves size occasion old new said world
 each_followed size occasion old new said world is shows comes = record {
   may = steps.may size occasion old world shows comes is.unplanned;
-  leads = subst (MovesTo (ShowsDown new forced) (stop_behind old new.cause)) (sym (steps.leads size occasion old world shows comes is.unplanned)) behind;
+  leads = subst (MovesTo (ShowsDown new forced) (stop_behind occasion old new.cause)) (sym (steps.leads size occasion old world shows comes is.unplanned)) behind;
 }
   where
     mid_world : World
@@ -222,7 +222,7 @@ each_followed size occasion old new said world is shows comes = record {
     same_stamp true a c e = e
     same_stamp false a c e = ap (λ (s : ℕ). s + 1) e
 
-    behind : MovesTo (ShowsDown new forced) (stop_behind old new.cause) mid_world
+    behind : MovesTo (ShowsDown new forced) (stop_behind occasion old new.cause) mid_world
     behind =
-        subst (λ (c : CrashCause). MovesTo (ShowsDown new forced) (stop_behind old c) mid_world) (sym is.cause)
-        (subst (λ (s : ℕ). MovesTo (ShowsDown new forced) (Stop 0 s causes.Plan) mid_world) (same_stamp (is_last (begun old.carried.chronicle.told)) mid (begun old.carried.chronicle.told) refl) at_plan)
+        subst (λ (c : CrashCause). MovesTo (ShowsDown new forced) (stop_behind occasion old c) mid_world) (sym is.cause)
+        (subst (λ (s : ℕ). MovesTo (ShowsDown new forced) (Stop 0 s causes.Plan) mid_world) (same_stamp (is_last (begun occasion old.carried.chronicle.told)) mid (begun occasion old.carried.chronicle.told) refl) at_plan)

@@ -21,7 +21,7 @@ use Rattle.qs_node_step.specs.declared.event.ClientAnswer.{ClientAnswer}
 use Rattle.qs_world.specs.Moves as moves
 use Rattle.qs_world.specs.Moves.{cut_log, cut_with, handed_by, may_serve, moved}
 use Rattle.qs_world.specs.World.{World}
-use Rattle.qs_world_one.specs.Events.{source_of}
+use Rattle.qs_world_one.specs.Events.{BringsNone, source_of}
 use Rattle.qs_world_one.specs.Seats.{From, HasCell, IsDueFrom, OfClient, OfNode, SeatUp, ShowsEach, left}
 use Rattle.qs_world_one.specs.Showing.{HandsOver, IsDue, ShowsIn, held_for}
 use Rattle.qs_world_one.proofs.Handing as handing
@@ -57,6 +57,7 @@ command_due inc (Some held) next occasion e = by (is_due_again inc held) refl e
 
 -- the event is the world's next of its source, and each client stands where it should once it is taken
 pub record IsTaken {D : Type 0} (source : From) (occasion : Occasion) (old : Up D) (ends : List NodeEnds) (clients : List ClientCell) (world : World) : Type 0 where
+  pub own : BringsNone occasion
   pub comes : (stamp : ℕ) → moves.event_of world 0 stamp (source_of occasion) ≡ Some (event_of occasion)
   pub rising : IsRising client_cmp (taken occasion old.carried.setting.inc old.carried.commands)
   pub each : ShowsEach old.carried.setting.inc (Some old.carried.setting.inc) (taken occasion old.carried.setting.inc old.carried.commands) (left source old ends) (handed_by (source_of occasion) world.clients) clients
@@ -65,6 +66,7 @@ command_taken : {D : Type 0} (from : ClientNo) (line : ScriptLine) (old : Up D) 
     → IsDue old.carried.setting.inc (held_for from old.carried.commands) (next_line from ends) line → SeatUp old ends clients world
     → IsTaken (OfClient from) (occasions.Command line) old ends clients world
 command_taken from line old ends clients world has due_is seat = record {
+  own = tt;
   comes = λ stamp. event_is;
   rising = put_rises client_cmp client_total line.client (record { line = line; inc = inc }) commands seat.rising;
   each = λ client there. each_comes inc commands ends world.clients line from client own due_is (seat.each client there);
@@ -97,5 +99,7 @@ event_taken (OfClient from) occasion old ends clients world (e, has) seat =
     let it : IsCommandDue old.carried.setting.inc (held_for from old.carried.commands) (next_line from ends) occasion = command_due old.carried.setting.inc (held_for from old.carried.commands) (next_line from ends) occasion e in
     subst (λ (o : Occasion). IsTaken (OfClient from) o old ends clients world) (sym it.is) (command_taken from it.line old ends clients world has it.due_is seat)
 event_taken OfNode (occasions.Command line) old ends clients world e seat = absurd (cc e)
-event_taken OfNode occasions.Queues old ends clients world e seat = record { comes = λ stamp. refl; rising = seat.rising; each = seat.each }
-event_taken OfNode occasions.Clock old ends clients world e seat = record { comes = λ stamp. refl; rising = seat.rising; each = seat.each }
+event_taken OfNode (occasions.Message packet) old ends clients world e seat = absurd (cc e)
+event_taken OfNode (occasions.Restarted packet known) old ends clients world e seat = absurd (cc e)
+event_taken OfNode occasions.Queues old ends clients world e seat = record { own = tt; comes = λ stamp. refl; rising = seat.rising; each = seat.each }
+event_taken OfNode occasions.Clock old ends clients world e seat = record { own = tt; comes = λ stamp. refl; rising = seat.rising; each = seat.each }

@@ -2,13 +2,15 @@
 use Rattle.std.specs.Prelude.{◌≡◌, ℕ, Bool, false, List}
 use Rattle.qs_cell.specs.Starts.{CellValue}
 use Rattle.qs_cell.specs.State.{carried_of, cause_of}
-use Rattle.qs_cell.specs.Visits.{Seat, Visits}
+use Rattle.qs_cell.specs.Hearing.{Post}
+use Rattle.qs_cell.specs.WholeVisits.{Visits}
 use Rattle.qs_cell.specs.declared.state.CellState.{CellState}
 use Rattle.qs_session_channels.specs.Network.{Among}
 use Rattle.qs_client.specs.declared.cell.ClientCell.{ClientCell}
 use Rattle.qs_disk.specs.Disk.{DiskState}
 use Rattle.qs_link.specs.declared.ends.NodeEnds.{NodeEnds}
 use Rattle.qs_world_rounds.specs.Rounds.{NodeStarts, is_refused}
+use Rattle.qs_world_rounds.specs.Seats.{IsAlone}
 use Rattle.qs_world.specs.World.{World}
 use Rattle.qs_world_one.specs.Reached.{IsInWorld, Reached}
 use Rattle.qs_world_one.specs.Seats.{HasCell}
@@ -19,10 +21,10 @@ abbrev pub AreOfClients : List NodeEnds → List ClientCell → Type 0
 AreOfClients ends clients = (end : NodeEnds) → Among ends end → HasCell end.client clients
 
 -- a node that is up makes its events, and no memory is refused
-abbrev pub VisitsGoOn : {D : Type 0} → Type 0 → (D → DiskState) → (D → ℕ) → (D → ℕ) → Began → World → Seat D → Seat D → List ClientCell → Type 0
+abbrev pub VisitsGoOn : {D : Type 0} → Type 0 → (D → DiskState) → (D → ℕ) → (D → ℕ) → Began → World → Post D → Post D → List ClientCell → Type 0
 VisitsGoOn told state own size began start old new clients =
-    Visits told state own size old new → is_refused (cause_of new.node) ≡ false → AreOfClients old.ends clients
-    → IsInWorld told state size began start old.node old.ends clients → IsInWorld told state size began start new.node new.ends clients
+    Visits told state own size old new → IsAlone old.links → is_refused (cause_of new.seat.node) ≡ false → AreOfClients old.seat.ends clients
+    → IsInWorld told state size began start old.seat.node old.seat.ends clients → IsInWorld told state size began start new.seat.node new.seat.ends clients
 
 -- a node that is down is started again, where the disk tells what is on it
 abbrev pub StartsGoOn : {D : Type 0} → Type 0 → (D → DiskState) → (D → ℕ) → (D → ℕ) → Began → World → CellValue D → CellValue D → Bool → List ClientCell → Type 0

@@ -1,5 +1,5 @@
 -- What each outcome of an event is in a world of one node: a step, a step and a stop behind it, a stop, or a step that is cut off.
-use Rattle.std.specs.Prelude.{◌≡◌, ℕ, Bool, true, List, Some}
+use Rattle.std.specs.Prelude.{◌≡◌, ℕ, ⊤, Bool, true, List, Some}
 use Rattle.qs_cell.specs.Cell.{IsCutOff, IsFollowed, IsReplaced, IsWhole, begun, out_of}
 use Rattle.qs_cell.specs.declared.running.Running.{Running}
 use Rattle.qs_cell.specs.declared.stopped.Stopped.{Stopped}
@@ -21,27 +21,38 @@ abbrev pub source_of : Occasion → Source
 source_of (occasions.Command line) = moves.Commanded line.client.0
 source_of occasions.Queues = moves.Queues
 source_of occasions.Clock = moves.Clock
+source_of (occasions.Message packet) = moves.Handed packet.from.0
+source_of (occasions.Restarted packet old) = moves.Noticed packet.from.0 packet.inc
+
+-- no packet comes with it: of the only node of a run none does
+abbrev pub BringsNone : Occasion → Type 0
+BringsNone (occasions.Command line) = ⊤
+BringsNone occasions.Queues = ⊤
+BringsNone occasions.Clock = ⊤
+BringsNone (occasions.Message packet) = ⊥
+BringsNone (occasions.Restarted packet old) = ⊥
 
 -- the event is the next of its source there, and what waits can be counted
 pub record Comes (occasion : Occasion) (world : World) : Type 0 where
+  pub own : BringsNone occasion
   pub comes : (stamp : ℕ) → moves.event_of world 0 stamp (source_of occasion) ≡ Some (event_of occasion)
   pub served : may_serve (world.hosts 0).node (source_of occasion) ≡ true
 
 -- the stamp of the step, and of a crash right behind it
-abbrev pub stamp_at : {D F X : Type 0} → Running D F X → ℕ
-stamp_at old = (begun old.carried.chronicle.told).stamp
+abbrev pub stamp_at : {D F X : Type 0} → Occasion → Running D F X → ℕ
+stamp_at occasion old = (begun occasion old.carried.chronicle.told).stamp
 
 abbrev pub step_of : {D F X : Type 0} → ℕ → Occasion → Running D F X → Move
-step_of size occasion old = Step 0 (stamp_at old) (free_of size old.host) (source_of occasion)
+step_of size occasion old = Step 0 (stamp_at occasion old) (free_of size old.host) (source_of occasion)
 
 abbrev pub cut_of : {D F X : Type 0} → ℕ → Occasion → Running D F X → Bool → CrashCause → Move
-cut_of size occasion old is_kept cause = Cut 0 (stamp_at old) (free_of size old.host) (source_of occasion) is_kept cause
+cut_of size occasion old is_kept cause = Cut 0 (stamp_at occasion old) (free_of size old.host) (source_of occasion) is_kept cause
 
-abbrev pub stop_of : {D F X : Type 0} → Running D F X → CrashCause → Move
-stop_of old cause = Stop 0 (stamp_at old) cause
+abbrev pub stop_of : {D F X : Type 0} → Occasion → Running D F X → CrashCause → Move
+stop_of occasion old cause = Stop 0 (stamp_at occasion old) cause
 
-abbrev pub stop_behind : {D F X : Type 0} → Running D F X → CrashCause → Move
-stop_behind old cause = Stop 0 (stamped (begun old.carried.chronicle.told)).stamp cause
+abbrev pub stop_behind : {D F X : Type 0} → Occasion → Running D F X → CrashCause → Move
+stop_behind occasion old cause = Stop 0 (stamped (begun occasion old.carried.chronicle.told)).stamp cause
 
 -- ---- what they lead to
 
@@ -58,12 +69,12 @@ WholeMoves size occasion old new said world =
 abbrev pub FollowedMoves : {D F X : Type 0} → ℕ → Occasion → Running D F X → Stopped D → List ClientAnswer → World → Type 0
 FollowedMoves size occasion old new said world =
     IsFollowed size occasion old new said → ShowsUp old world → Comes occasion world
-    → MovesTo (MovesTo (ShowsDown new (log_after (out_of size occasion old) old.host.log).forced) (stop_behind old new.cause)) (step_of size occasion old) world
+    → MovesTo (MovesTo (ShowsDown new (log_after (out_of size occasion old) old.host.log).forced) (stop_behind occasion old new.cause)) (step_of size occasion old) world
 
 -- in place of it the node stops, where the cause is one that history has
 abbrev pub ReplacedMoves : {D F X : Type 0} → ℕ → Occasion → Running D F X → Stopped D → World → Type 0
 ReplacedMoves size occasion old new world =
-    IsReplaced size occasion old new → ShowsUp old world → MovesTo (ShowsDown new old.host.log.forced) (stop_of old new.cause) world
+    IsReplaced size occasion old new → ShowsUp old world → MovesTo (ShowsDown new old.host.log.forced) (stop_of occasion old new.cause) world
 
 -- a step that is cut off leaves the log of before, or with its batch that of after: each is a move
 abbrev pub CutMoves : {D F X : Type 0} → (D → ℕ) → ℕ → Occasion → Running D F X → Stopped D → World → Type 0

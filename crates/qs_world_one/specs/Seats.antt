@@ -60,6 +60,8 @@ abbrev pub is_of_node : Occasion → Bool
 is_of_node (occasions.Command line) = false
 is_of_node occasions.Queues = true
 is_of_node occasions.Clock = true
+is_of_node (occasions.Message packet) = false
+is_of_node (occasions.Restarted packet old) = false
 
 -- the event is due from there, and who sends the commands of a source is one of the clients
 abbrev pub IsDueFrom : {D : Type 0} → From → Occasion → Up D → List NodeEnds → List ClientCell → Type 0
@@ -81,13 +83,13 @@ WholeInSeat size source occasion old new ends clients said world =
 abbrev pub FollowedInSeat : {D : Type 0} → ℕ → From → Occasion → Up D → Stopped D → List NodeEnds → List ClientCell → List ClientAnswer → World → Type 0
 FollowedInSeat size source occasion old new ends clients said world =
     IsDueFrom source occasion old ends clients → IsFollowed size occasion old new said → SeatUp old ends clients world
-    → MovesTo (MovesTo (SeatDown new (all_delivered said (left source old ends)) clients (log_after (out_of size occasion old) old.host.log).forced) (stop_behind old new.cause)) (step_of size occasion old) world
+    → MovesTo (MovesTo (SeatDown new (all_delivered said (left source old ends)) clients (log_after (out_of size occasion old) old.host.log).forced) (stop_behind occasion old new.cause)) (step_of size occasion old) world
 
 -- a stop in place of a step, for another reason than that memory was refused: where it was, the run ends
 abbrev pub ReplacedInSeat : {D : Type 0} → ℕ → From → Occasion → Up D → Stopped D → List NodeEnds → List ClientCell → World → Type 0
 ReplacedInSeat size source occasion old new ends clients world =
     IsDueFrom source occasion old ends clients → IsReplaced size occasion old new → is_refused (Some new.cause) ≡ false → SeatUp old ends clients world
-    → MovesTo (SeatDown new (left source old ends) clients old.host.log.forced) (stop_of old new.cause) world
+    → MovesTo (SeatDown new (left source old ends) clients old.host.log.forced) (stop_of occasion old new.cause) world
 
 -- a step that is cut off, with its batch kept or lost
 abbrev pub CutInSeat : {D : Type 0} → (D → ℕ) → ℕ → From → Occasion → Up D → Stopped D → List NodeEnds → List ClientCell → World → Type 0

@@ -3,6 +3,7 @@ ghost use Rattle.std.specs.Prelude.{ℕ, List, Result, Bool};
 ghost use Rattle.std.specs.Global.{Global};
 ghost use Rattle.qs_cell.specs.Starts.{CellValue};
 ghost use Rattle.qs_cell.specs.State.{Up};
+ghost use Rattle.qs_cell.specs.Hearing.{Post};
 ghost use Rattle.qs_cell.specs.Visits.{Seat};
 ghost use Rattle.qs_cell.specs.declared.state.CellState.{CellState};
 ghost use Rattle.qs_cell.specs.declared.state.RestartFault.{RestartFault};
@@ -59,7 +60,7 @@ pub fn turns_go_on<D: Disk>()
 
 /// A visit of a node that is up goes on in the world turn by turn, and one of a node that is down by a restart. And what a cell that is shown tells is the history of a run.
 pub fn visits_go_on<D: Disk>()
-    ensures visits { (began : Began) (start : World) (old new : Seat D) (clients : List ClientCell) → VisitsGoOn D.told D.state D.fault_count D.byte_count began start old new clients }
+    ensures visits { (began : Began) (start : World) (old new : Post D) (clients : List ClientCell) → VisitsGoOn D.told D.state D.fault_count D.byte_count began start old new clients }
     ensures starts { (began : Began) (start : World) (old new : CellValue D) (did : Bool) (clients : List ClientCell) → StartsGoOn D.told D.state D.fault_count D.byte_count began start old new did clients }
     ensures history { (began : Began) (start : World) (node : CellState D) (ends : List NodeEnds) (clients : List ClientCell) → TellsHistory D.told D.state D.byte_count began start node ends clients }
 {}

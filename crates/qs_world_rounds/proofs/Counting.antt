@@ -6,32 +6,17 @@ use Rattle.std.proofs.lemmas.List.{length-append}
 use Rattle.std.proofs.lemmas.List.Edits.{length-swap}
 use Rattle.std.proofs.lemmas.List.Sorted.{IsPermutation-swap, sum_by-IsPermutation}
 use Rattle.std.proofs.lemmas.List.Sums.{sum_by-append, sum_by-take-le}
+use Rattle.qs_cell.proofs.VisitRounds.{start_rounds, visit_rounds}
 use Rattle.std.specs.Global.{Global}
 use Rattle.std.specs.List.{swap}
-use Rattle.std.specs.Prelude.{Result, if◌then◌else◌}
-use Rattle.qs_cell.specs.Cell.{IsOutcome, begun, out_of, stepped}
 use Rattle.qs_cell.specs.Logged.{most_rounds}
-use Rattle.qs_cell.specs.Outcomes.{Outcome}
-use Rattle.qs_cell.specs.Outcomes as outcomes
-use Rattle.qs_cell.specs.Restart.{IsRestarted, in_round_as}
-use Rattle.qs_cell.specs.Starts.{CellValue}
-use Rattle.qs_cell.specs.State.{IsSeenAs, StartsAgain, Up, carried_of, rounds_of, state_after, state_of}
-use Rattle.qs_cell.specs.Visits.{MakesIn, Seat, TakesTurn, TurnsAll, Visits, due, left_by, sources_of}
+use Rattle.qs_cell.specs.Starts.{CellValue, post_of}
+use Rattle.qs_cell.specs.State.{rounds_of}
 use Rattle.qs_cell.specs.declared.state.CellState.{CellState}
-use Rattle.qs_cell.specs.declared.state.CellState.TheVariants as states
-use Rattle.qs_cell.specs.declared.state.RestartFault.{RestartFault}
-use Rattle.qs_cell.specs.declared.stopped.Restarted.{Restarted}
-use Rattle.qs_cell.specs.declared.stopped.Restarted.TheVariants as restarts
-use Rattle.qs_cell.specs.declared.stopped.Stopped.{Stopped}
-use Rattle.qs_cell_chronicle.specs.Carried.{Seen, seen}
-use Rattle.qs_cell_chronicle.specs.Chronicle.{Told, counted, in_round, is_last, numbered, stamped}
-use Rattle.qs_cell_chronicle.specs.declared.occasion.Occasion.{Occasion}
+use Rattle.qs_cell_chronicle.specs.Carried.{Seen}
+use Rattle.qs_cell_chronicle.specs.Chronicle.{counted}
 use Rattle.qs_client.specs.declared.cell.ClientCell.{ClientCell}
 use Rattle.qs_disk.specs.Disk.{DiskState}
-use Rattle.qs_files.specs.declared.files.Files.{Files}
-use Rattle.qs_link.specs.declared.ends.NodeEnds.{NodeEnds}
-use Rattle.qs_node_step.specs.declared.event.ClientAnswer.{ClientAnswer}
-use Rattle.qs_ops.specs.declared.no_server.NoServer.{NoServer}
 use Rattle.qs_world_plans.specs.Order.{drawn_order, places_below, shuffled}
 use Rattle.qs_world_rounds.specs.Rounds.{Cast, CarriesAll, IsRound, NodeVisitIf, Rounds, VisitAll, VisitAt, count_of, is_up, node_turns, visits_of}
 use Rattle.qs_world_rounds.specs.Seats.{HasBegun}
@@ -86,73 +71,14 @@ late_once n most visits rng order is late =
     let same : node_turns order ≡ node_turns (drawn_order n rng).0 = ap (λ (l : List ℕ). node_turns l) is in
     omega (arith, same, drawn_once n rng, late)
 
--- ---- an event is no visit
-
-stamped_rounds : (told : Told) → (stamped told).rounds ≡ told.rounds
-stamped_rounds told = by (is_last told)
-  where
-    by : (last : Bool) → (if last then told else record told { stamp = told.stamp + 1 }).rounds ≡ told.rounds
-    by true = refl
-    by false = refl
-
-begun_rounds : (told : Told) → (begun told).rounds ≡ told.rounds
-begun_rounds told = stamped_rounds (numbered told)
-
-outcome_rounds : {D : Type 0} (own : D → ℕ) (size : ℕ) (occasion : Occasion) (old : Up D) (outcome : Outcome D Files NoServer) → IsOutcome own size occasion old outcome
-    → rounds_of (state_of outcome) ≡ old.carried.chronicle.told.rounds
-outcome_rounds own size occasion old (outcomes.Whole running answers) is = ap (λ (s : Seen). s.told.rounds) is.seen ∙ begun_rounds old.carried.chronicle.told
-outcome_rounds own size occasion old (outcomes.Followed stopped answers) is =
-    ap (λ (s : Seen). s.told.rounds) is.seen ∙ stamped_rounds (stepped occasion old.carried.setting.inc (out_of size occasion old) is.put (seen old.carried)).told
-    ∙ begun_rounds old.carried.chronicle.told
-outcome_rounds own size occasion old (outcomes.Replaced stopped) is = ap (λ (t : Told). t.rounds) is.told ∙ begun_rounds old.carried.chronicle.told
-outcome_rounds own size occasion old (outcomes.CutOff stopped) is = ap (λ (t : Told). t.rounds) is.told ∙ begun_rounds old.carried.chronicle.told
-
-seen_rounds : {D : Type 0} (f : Seen → Seen) (old new : CellState D) → IsSeenAs f old new → rounds_of new ≡ (f (seen (carried_of old))).told.rounds
-seen_rounds f (states.Up old) (states.Up new) same = ap (λ (s : Seen). s.told.rounds) same.1.0
-seen_rounds f (states.Down old) (states.Down new) same = ap (λ (s : Seen). s.told.rounds) same.1.1.1.0
-seen_rounds f (states.Up old) (states.Down new) same = absurd same
-seen_rounds f (states.Down old) (states.Up new) same = absurd same
-
 -- ---- a visit and a restart are one
 
 module _ {D : Type 0} (told : Type 0) (state : D → DiskState) (own size : D → ℕ) where
-  made_rounds : (occasion : Occasion) (old new : CellState D) (answers : List ClientAnswer) → MakesIn told state own size occasion old new answers → rounds_of new ≡ rounds_of old
-  made_rounds occasion (states.Up old) new answers makes = ap (λ (n : CellState D). rounds_of n) makes.node ∙ outcome_rounds own (size old.host.log.disk.disk) occasion old makes.outcome makes.is
-  made_rounds occasion (states.Down old) new answers makes = ap (λ (n : CellState D). rounds_of n) makes.0
-
-  turn_rounds : (is_due : Option Occasion) (left : List NodeEnds) (old new : Seat D) → TakesTurn told state own size is_due left old new → rounds_of new.node ≡ rounds_of old.node
-  turn_rounds None left old new taken = ap (λ (s : Seat D). rounds_of s.node) taken
-  turn_rounds (Some occasion) left old new (answers, (makes, ends)) = made_rounds occasion old.node new.node answers makes
-
-  turns_rounds : (sources : List _) (old new : Seat D) → TurnsAll told state own size sources old new → rounds_of new.node ≡ rounds_of old.node
-  turns_rounds [] old new turns = ap (λ (s : Seat D). rounds_of s.node) turns
-  turns_rounds (source ∷ sources) old new (mid, (turn, rest)) =
-      turns_rounds sources mid new rest
-      ∙ (turn_rounds (due source turn.ready old.ends) (left_by source turn.ready old.ends) (record { node = turn.ready; ends = old.ends }) mid turn.turn
-      ∙ seen_rounds (λ s. s) old.node turn.ready turn.same)
-
-  visit_rounds : (old new : Seat D) → Visits told state own size old new → rounds_of new.node ≤ rounds_of old.node + 1
-  visit_rounds old new visits =
-      let all : rounds_of new.node ≡ rounds_of visits.begun = turns_rounds (sources_of old.ends) (record { node = visits.begun; ends = old.ends }) new visits.turns in
-      let one : rounds_of visits.begun ≡ counted (rounds_of old.node) = seen_rounds in_round_as old.node visits.begun visits.round in
-      omega (arith, all, one)
-
-  risen_rounds : (alloc : Global) (old : Stopped D) (restarted : Restarted D Files NoServer) → IsRestarted own alloc old restarted
-      → rounds_of (state_after restarted) ≡ counted old.carried.chronicle.told.rounds
-  risen_rounds alloc old (restarts.Up running) is = ap (λ (s : Seen). s.told.rounds) is.seen ∙ stamped_rounds (in_round old.carried.chronicle.told)
-  risen_rounds alloc old (restarts.Down stopped why) is = ap (λ (s : Seen). s.told.rounds) is.0.seen
-
-  restart_rounds : (alloc : Global) (old new : CellState D) (answer : Result Bool RestartFault) → StartsAgain told state own size alloc old new answer → rounds_of new ≤ rounds_of old + 1
-  restart_rounds alloc (states.Up running) new answer starts =
-      let same : rounds_of new ≡ running.carried.chronicle.told.rounds = ap (λ (n : CellState D). rounds_of n) starts.0 in
-      omega (arith, same)
-  restart_rounds alloc (states.Down stopped) new answer starts =
-      let one : rounds_of new ≡ counted stopped.carried.chronicle.told.rounds = ap (λ (n : CellState D). rounds_of n) starts.node ∙ risen_rounds alloc stopped starts.restarted starts.is in
-      omega (arith, one)
-
   node_rounds : (up : Bool) (old new : CellValue D) (did : Bool) → NodeVisitIf up told state own size old new did → rounds_of new.seat.node ≤ rounds_of old.seat.node + 1
-  node_rounds true old new did visit = visit_rounds old.seat new.seat visit.visits
-  node_rounds false old new did visit = restart_rounds old.alloc old.seat.node new.seat.node (Ok did) visit.starts
+  node_rounds true old new did visit =
+      let one : rounds_of new.seat.node ≡ counted (rounds_of old.seat.node) = visit_rounds told state own size (post_of old) (post_of new) visit.visits in
+      omega (arith, one)
+  node_rounds false old new did visit = start_rounds told state own size old.alloc old.seat.node new.seat.node (Ok did) visit.starts
 
   -- ---- a round has as many as the node stands in its order
 

@@ -1,5 +1,5 @@
 -- Rounds, one after the other, and how they end.
-use Rattle.std.proofs.Common.{◌≡◌, ◌∙◌, ◌≤◌, subst, sym, refl, inl, inr, ℕ, zero, suc, ◌+◌, ◌-◌, Bool, arith}
+use Rattle.std.proofs.Common.{◌≡◌, ◌∙◌, ◌≤◌, ap, subst, sym, refl, inl, inr, ℕ, zero, suc, ◌+◌, ◌-◌, Bool, arith}
 use Rattle.qs_base.specs.Causes.{Rose}
 use Rattle.qs_cell.specs.Starts.{journal_of}
 use Rattle.qs_disk.specs.Disk.{DiskState}
@@ -7,6 +7,8 @@ use Rattle.qs_world_plans.specs.Budget.{budget}
 use Rattle.qs_world_plans.specs.Order.{seeded, drawn_order}
 use Rattle.qs_world_rounds.specs.Breaks.{BreaksRound, RefusesRound, own_faults}
 use Rattle.qs_world_rounds.specs.Endings.{EndsWith, IsEnding, IsCutShort, IsOutOfMemory, IsOver}
+use Rattle.qs_cell.proofs.HearingTurns.{same_on}
+use Rattle.qs_cell_peers.specs.Links.{IsSameNode, LinksValue}
 use Rattle.qs_world_rounds.specs.Rounds.{Cast, IsRound, IsSameStart, Rounds, count_of}
 use Rattle.qs_world_rounds.specs.declared.rounds.Ending.{Ending}
 use Rattle.qs_book_script.specs.declared.script.Script.{Script}
@@ -80,5 +82,13 @@ module _ {D : Type 0} (told : Type 0) (state : D → DiskState) (own size : D �
       → RefusesRound told state own size (drawn_order (count_of b) later).0 b c → IsOutOfMemory told state own size seed a c
   refused_at seed n a b c later all refused = record { rounds = n; before = b; drawn = later; earlier = all; refused = refused }
 
+-- the links stay whose they are
+pub same_by : (old new : LinksValue) → new ≡ old → IsSameNode old new
+same_by old new is = record { size = ap (λ (v : LinksValue). v.size) is; me = ap (λ (v : LinksValue). v.me) is }
+
 pub same_start : {D : Type 0} (a b c : Cast D) → IsSameStart a.node b.node → IsSameStart b.node c.node → IsSameStart a.node c.node
-same_start a b c first second = record { opened = second.opened ∙ first.opened; faults = second.faults ∙ first.faults }
+same_start a b c first second = record {
+  opened = second.opened ∙ first.opened;
+  faults = second.faults ∙ first.faults;
+  links = same_on a.node.links b.node.links c.node.links first.links second.links;
+}

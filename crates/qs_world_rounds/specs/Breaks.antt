@@ -1,9 +1,9 @@
 -- A round that is cut short: the disk of the node failed as the node was started again, or memory was refused.
 use Rattle.std.specs.Prelude.{◌≡◌, ◌⊎◌, ℕ, zero, suc, Bool, true, false, List, [], ◌∷◌, Err}
 use Rattle.qs_base.specs.Causes.{Rose}
-use Rattle.qs_cell.specs.Starts.{CellValue}
+use Rattle.qs_cell.specs.Starts.{CellValue, post_of}
 use Rattle.qs_cell.specs.State.{StartsAgain, cause_of, disk_of}
-use Rattle.qs_cell.specs.Visits.{Breaks, Visits}
+use Rattle.qs_cell.specs.WholeVisits.{Breaks, Visits}
 use Rattle.qs_cell.specs.declared.state.RestartFault.TheVariants as restart_faults
 use Rattle.qs_disk.specs.Disk.{DiskState}
 use Rattle.qs_world_rounds.specs.Rounds.{Cast, CarriesAll, IsSameStart, VisitAt, is_refused, is_up}
@@ -18,6 +18,7 @@ pub record NodeFails {D : Type 0} (told : Type 0) (state : D → DiskState) (own
   pub starts : StartsAgain told state own size old.alloc old.seat.node new.seat.node (Err restart_faults.DiskFailed)
   pub rose : Rose old.faults (own_faults own new)
   pub ends : new.seat.ends ≡ old.seat.ends
+  pub links : new.links ≡ old.links
   pub start : IsSameStart old new
 
 -- at the place of the node
@@ -46,7 +47,7 @@ pub record BreaksRound {D : Type 0} (told : Type 0) (state : D → DiskState) (o
 -- within the visit of a node that is up, be it within a step, which is then cut off or not made; or as one that is down was started again
 abbrev pub NodeRefusedIf : {D : Type 0} → Bool → Type 0 → (D → DiskState) → (D → ℕ) → (D → ℕ) → CellValue D → CellValue D → Type 0
 NodeRefusedIf true told state own size old new =
-    Breaks told state own size old.seat new.seat ⊎ (Visits told state own size old.seat new.seat × (is_refused (cause_of new.seat.node) ≡ true))
+    Breaks told state own size (post_of old) (post_of new) ⊎ (Visits told state own size (post_of old) (post_of new) × (is_refused (cause_of new.seat.node) ≡ true))
 NodeRefusedIf false told state own size old new =
     StartsAgain told state own size old.alloc old.seat.node new.seat.node (Err restart_faults.NoMemory)
 

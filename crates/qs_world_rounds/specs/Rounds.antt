@@ -1,9 +1,11 @@
 -- The actors of a run of one node, and its rounds: what is carried, who is visited, and when a round is quiet.
 use Rattle.std.specs.Prelude.{◌≡◌, ◌↔◌, ℕ, zero, suc, ◌+◌, ◌==◌, Bool, true, false, not, ◌&&◌, ◌||◌, List, [], ◌∷◌, length, is_none, Option, Some, None, Ok, slice_get, slice_set}
 use Rattle.std.specs.List.{count_by, list_all}
-use Rattle.qs_cell.specs.Starts.{CellValue, journal_of}
+use Rattle.qs_cell.specs.Starts.{CellValue, journal_of, post_of, trace_of}
 use Rattle.qs_cell.specs.State.{StartsAgain, cause_of, is_settled_node, rounds_of}
-use Rattle.qs_cell.specs.Visits.{Visits, has_noted}
+use Rattle.qs_cell.specs.Visits.{has_noted}
+use Rattle.qs_cell.specs.WholeVisits.{Visits, has_put}
+use Rattle.qs_cell_peers.specs.Links.{IsSameNode}
 use Rattle.qs_client.specs.Progress.{number_at, to_send}
 use Rattle.qs_client.specs.Turns.{HearsThenSends}
 use Rattle.qs_client.specs.declared.cell.ClientCell.{ClientCell}
@@ -28,10 +30,11 @@ is_up cell = is_none (cause_of cell.seat.node)
 
 -- ---- as a round begins, what stands in the lanes is carried to their ends
 
--- a cell keeps what it was started with, and what its disk had counted then
+-- a cell keeps what it was started with, what its disk had counted then, and whose links it has
 pub record IsSameStart {D : Type 0} (old new : CellValue D) : Type 0 where
   pub opened : new.opened ≡ old.opened
   pub faults : new.faults ≡ old.faults
+  pub links : IsSameNode old.links new.links
 
 -- between the node and one client
 pub record CarriesBoth {D : Type 0} (old new : CellValue D) (before after : ClientCell) : Type 0 where
@@ -41,6 +44,7 @@ pub record CarriesBoth {D : Type 0} (old new : CellValue D) (before after : Clie
   pub commands : CarriesIn before.client before.commands after.commands old.seat.ends mid.seat.ends (Ok held) (ends_of before.client old.seat.ends)
   pub answers : CarriesOut before.client before.answers after.answers mid.seat.ends new.seat.ends (Ok heard) (ends_of before.client mid.seat.ends)
   pub node : new.seat.node ≡ old.seat.node
+  pub links : new.links ≡ old.links
   pub start : IsSameStart old new
   pub client : after ≡ record before { commands = after.commands; answers = after.answers }
 
@@ -60,8 +64,8 @@ is_refused _ = false
 
 -- a node that is up makes its events
 pub record NodeActs {D : Type 0} (told : Type 0) (state : D → DiskState) (own size : D → ℕ) (old new : CellValue D) (did : Bool) : Type 0 where
-  pub visits : Visits told state own size old.seat new.seat
-  pub did_is : did ≡ has_noted (journal_of old) (journal_of new)
+  pub visits : Visits told state own size (post_of old) (post_of new)
+  pub did_is : did ≡ (has_put (trace_of old) (trace_of new) || has_noted (journal_of old) (journal_of new))
   pub granted : is_refused (cause_of new.seat.node) ≡ false
   pub start : IsSameStart old new
 
@@ -69,6 +73,7 @@ pub record NodeActs {D : Type 0} (told : Type 0) (state : D → DiskState) (own 
 pub record NodeStarts {D : Type 0} (told : Type 0) (state : D → DiskState) (own size : D → ℕ) (old new : CellValue D) (did : Bool) : Type 0 where
   pub starts : StartsAgain told state own size old.alloc old.seat.node new.seat.node (Ok did)
   pub ends : new.seat.ends ≡ old.seat.ends
+  pub links : new.links ≡ old.links
   pub start : IsSameStart old new
 
 abbrev pub NodeVisitIf : {D : Type 0} → Bool → Type 0 → (D → DiskState) → (D → ℕ) → (D → ℕ) → CellValue D → CellValue D → Bool → Type 0

@@ -8,6 +8,7 @@ use Rattle.qs_cell.specs.Starts.{IsStarted}
 use Rattle.qs_cell.specs.State.{disk_of}
 use Rattle.qs_cell.specs.declared.starting.CellOpen.{CellOpen}
 use Rattle.qs_cell.specs.declared.starting.NodePlan.{NodePlan}
+use Rattle.qs_cell_peers.specs.Links.{LinksValue}
 use Rattle.qs_client.specs.Progress.{begun}
 use Rattle.qs_client.specs.declared.cell.ClientCell.{ClientCell}
 use Rattle.qs_disk.specs.Disk.{DiskState}
@@ -29,6 +30,11 @@ node_count = 1
 
 abbrev pub first_node : NodeNo
 first_node = record { 0 = 0 }
+
+-- which has no links
+pub record IsAlone (links : LinksValue) : Type 0 where
+  pub size : links.size ≡ node_count
+  pub me : links.me ≡ first_node
 
 -- what a script has planned for a node
 abbrev pub plan_of : NodeNo → List FaultLine → NodePlan
@@ -81,7 +87,8 @@ pub record IsOneMore (script : Script) (number : ClientNo) (clients : List Clien
 
 -- the node began over the disk, as the script sets it, and so did the clients that have a seat, by number
 pub record HasBegun {D : Type 0} (told : Type 0) (state : D → DiskState) (own : D → ℕ) (alloc : Global) (script : Script) (disk : D) (cast : Cast D) : Type 0 where
-  pub started : IsStarted told state alloc disk (setting_of script node_count first_node 0) cast.node.seat.ends (plan_of first_node script.faults) cast.node
+  pub started : IsStarted told state alloc disk (setting_of script node_count first_node 0) cast.node.links cast.node.seat.ends (plan_of first_node script.faults) cast.node
+  pub alone : IsAlone cast.node.links
   pub faults : cast.node.faults ≡ own disk
   pub clients : map number_of cast.clients ≡ seated script.seats
   pub seats : AreSeated script cast.clients cast.node.seat.ends

@@ -7,12 +7,13 @@ ghost use Rattle.qs_link.specs.Lane.{IsLane, on_way};
 ghost use Rattle.qs_log.specs.Image.{IsDamaged};
 ghost use Rattle.qs_log.specs.declared.fault.OpenFault.TheVariants as open_faults;
 ghost use Rattle.qs_world_rounds.specs.Lanes.{AreJoined};
-ghost use Rattle.qs_world_rounds.specs.Seats.{HasBegun, AreSeated, IsSeated, begun_disk, first_node, has_seat, number_of, plan_of, seated, seated_as, IsOneMore};
+ghost use Rattle.qs_world_rounds.specs.Seats.{HasBegun, IsAlone, AreSeated, IsSeated, begun_disk, first_node, has_seat, number_of, plan_of, seated, seated_as, IsOneMore};
 
 use crate::actors::Actors;
-use qs_base::{ClientNo, NoMemory};
+use qs_base::{ClientNo, List, NoMemory};
 use qs_book_script::{Script, Seat};
 use qs_cell::{CellOpen, NodeCell, NodeEnds, NodePlan};
+use qs_cell_peers::Links;
 use qs_client::{ClientCell, ClientEnds};
 use qs_disk::{Disk, Fused};
 use qs_link::lane;
@@ -62,10 +63,17 @@ pub fn start<D: Disk>(
         },
     };
     let setting = setting_of(script, NODE_COUNT, NODE, NOT_RAISED);
-    match NodeCell::start(alloc, disk, setting, ends, plan) {
+    match NodeCell::start(alloc, disk, setting, no_links(alloc), ends, plan) {
         Ok(node) => Ok(Actors::new(node, clients)),
         Err(back) => Err(back),
     }
+}
+
+/// The only node of a run has no links.
+fn no_links(alloc: Global) -> Links
+    ensures { IsAlone result }
+{
+    Links::new(NODE, List::new(alloc), List::new(alloc))
 }
 
 fn made_ready(alloc: Global, script: &Script) -> Result<(Seated, NodePlan), NoMemory>

@@ -31,7 +31,7 @@ returns-clause-outcome g c = λ old same same_sessions begun none.
     (worked size c.args.occasion old c.args.host.now c.work_out.new.host c.send.new.sessions c.args.carried.now (record c.args.carried.now { chronicle = c.make_room.new.self }) c.in-Ok.out c.in-Ok-send.put same
     c.in-Ok.ensures.node c.work_out.ensures.saved c.work_out.ensures.log c.in-Ok.ensures.effects
     (begun_on c.args.occasion old.carried c.args.carried.now (record c.args.carried.now { chronicle = c.make_room.new.self }) begun c.make_room.ensures.told refl refl refl refl)
-    (unplanned_by (may_make old.host.node c.args.occasion) c.in-Ok.out _ (seen old.carried) c.as_slice.result.now c.as_slice-2.result.now c.any_stops_before.result
+    (unplanned_by c.args.occasion (may_make old.host.node c.args.occasion) c.in-Ok.out _ (seen old.carried) c.as_slice.result.now c.as_slice-2.result.now c.any_stops_before.result
     (ap (λ h. may_make h.node c.args.occasion) (sym same) ∙ (sym c.may_make.ensures ∙ c.if-not-may_make.false)) none
     is_out c.as_slice.ensures (c.as_slice-2.ensures.value ∙ begun.points) c.any_stops_before.ensures
     c.if-any_stops_before.false)

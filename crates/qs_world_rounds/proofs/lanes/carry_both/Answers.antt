@@ -1,4 +1,5 @@
 use Rattle.std.proofs.Common.{◌∙◌, refl}
+use Rattle.qs_world_rounds.proofs.Repeating.{same_by}
 use Rattle.qs_world_rounds.proofs.Joining.{carries_in_as, carries_out_as, joined_in, joined_out, stays_on}
 use Rattle.qs_world_rounds.proofs.lanes.carry_both.Goals as goal
 
@@ -45,7 +46,9 @@ returns-clause-carries g c = record {
   start = record {
     opened = c.carry_answers.ensures.opened ∙ c.carry_commands.ensures.opened;
     faults = c.carry_answers.ensures.faults ∙ c.carry_commands.ensures.faults;
+    links = same_by c.args.node.now.links c.carry_answers.new.self.links (c.carry_answers.ensures.links ∙ c.carry_commands.ensures.links);
   };
+  links = c.carry_answers.ensures.links ∙ c.carry_commands.ensures.links;
   client = refl;
 }
 

@@ -20,7 +20,7 @@ returns-in-Err-begin-clause-kept g c = λ told is. absurd (cc (sym c.in-Err-begi
 
 pub returns-clause-started : goal.returns-clause-started
 returns-clause-started g c =
-    started_of g.D.Disk.told g.D.Disk.state c.args.alloc c.args.disk.disk c.args.setting c.args.ends.items c.args.plan c.in-Ok.log c.in-Ok-begin.started.running
+    started_of g.D.Disk.told g.D.Disk.state c.args.alloc c.args.disk.disk c.args.setting c.args.links c.args.ends.items c.args.plan c.in-Ok.log c.in-Ok-begin.started.running
     c.in-Ok-begin.started.found c.own_faults-faults.result c.in-Ok-begin.ensures.begins c.in-Ok-begin.ensures.found c.in-Ok.ensures.raised c.in-Ok.ensures.armed c.in-Ok.ensures.stands
 
 pub returns-clause-moments : goal.returns-clause-moments

@@ -7,7 +7,7 @@ use Rattle.qs_cell.proofs.Turning.{turns_more, turns_broken, sources_now, within
 use Rattle.qs_cell.proofs.cell.NodeCell.turn_all.Goals as goal
 
 pub loop-place-init : goal.loop-place-init
-loop-place-init g c = record { turns = refl; opened = refl; faults = refl; rings = rings_none c.args.self.now.seat.ends }
+loop-place-init g c = record { turns = refl; links = refl; opened = refl; faults = refl; rings = rings_none c.args.self.now.seat.ends }
 
 pub source_at-source-requires : goal.source_at-source-requires
 source_at-source-requires g c =
@@ -26,6 +26,7 @@ loop-place-preserved g c = record {
       (sources_now c.args.self.now.seat.ends c.loop-place.self.seat.ends c.as_slice-in-loop-place.result.now
       (c.as_slice-in-loop-place.ensures.value ∙ ap (λ cell. cell.seat.ends) c.self-in-loop-place.view_is) c.loop-place.invariant.rings))
       c.loop-place.invariant.turns c.in_ok-turn.ensures.turns;
+  links = c.turn.ensures.links ∙ c.loop-place.invariant.links;
   opened = c.turn.ensures.opened ∙ c.loop-place.invariant.opened;
   faults = c.turn.ensures.faults ∙ c.loop-place.invariant.faults;
   rings = rings_on c.args.self.now.seat.ends c.loop-place.self.seat.ends c.turn.new.self.seat.ends c.loop-place.invariant.rings c.turn.ensures.rings;

@@ -3,14 +3,14 @@ use Rattle.qs_cell.specs.Starts.{journal_of}
 use Rattle.qs_world_rounds.specs.Breaks.{FailsAt, RefusedAt}
 use Rattle.qs_world_rounds.specs.Rounds.{VisitAll}
 use Rattle.qs_world_rounds.proofs.Counting.{late_at}
-use Rattle.qs_world_rounds.proofs.Repeating.{same_start}
+use Rattle.qs_world_rounds.proofs.Repeating.{same_by, same_start}
 use Rattle.qs_world_rounds.proofs.Turning.{visits_more, visits_until, grows_on, grows_none}
 use Rattle.qs_world_rounds.proofs.actors.Actors.visit_all.Goals as goal
 
 pub loop-place-init : goal.loop-place-init
 loop-place-init g c = record {
   visits = (refl, refl);
-  start = record { opened = refl; faults = refl };
+  start = record { opened = refl; faults = refl; links = same_by c.args.self.now.node.links c.args.self.now.node.links refl };
   grows = grows_none (journal_of c.args.self.now.node);
 }
 
