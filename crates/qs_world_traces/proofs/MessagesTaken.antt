@@ -49,7 +49,7 @@ one_more {B} f test g steps step = ap (λ (l : List Packet). map g (filter test 
 -- ---- the packet
 
 -- a packet of the world that is the one that was taken
-abbrev as_brought : Packet → end.Packet Parcel
+abbrev pub as_brought : Packet → end.Packet Parcel
 as_brought p = record { inc = p.inc; to_inc = p.to_inc; number = p.number; ack = p.ack; stamp = p.stamp; message = record { stamp = 0; message = p.message } }
 
 -- an answer with a message comes of one with a parcel of it
@@ -70,6 +70,10 @@ of_plain (end.Message parcel) x is = record { parcel = parcel; is = refl; messag
 pub up_sends : (n stamp k : ℕ) (sendings : List Sending) (net : Network Parcel) → (send_all n stamp sendings net).up k ≡ net.up k
 up_sends n stamp k [] net = refl
 up_sends n stamp k (s ∷ sendings) net = up_sends n stamp k sendings (send_next n stamp net s)
+
+pub inc_sends : (n stamp k : ℕ) (sendings : List Sending) (net : Network Parcel) → (send_all n stamp sendings net).inc k ≡ net.inc k
+inc_sends n stamp k [] net = refl
+inc_sends n stamp k (s ∷ sendings) net = inc_sends n stamp k sendings (send_next n stamp net s)
 
 module _ (o : Opening) (n : ℕ) (journal : List Entry) (steps : List trace.Step) (stamp : ℕ) (world : PacketWorld) (ends : Ends) (packet : Packet) (x : Message) (s free acts rounds : ℕ) (put : List Packet) (c : TakesMessage o n journal steps stamp world ends packet x s free put) where
   low : HasStampsUpTo o.size n stamp world

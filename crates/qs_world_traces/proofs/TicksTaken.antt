@@ -38,7 +38,7 @@ use Rattle.qs_world_traces.specs.Sessions.{AreEnds, SendsAsEnds, TicksAsEnds}
 use Rattle.qs_world_traces.specs.Ticks.{EachTakesTick, HasTakenTick, TakesTick, tick_out, tick_step}
 use Rattle.qs_world_traces.proofs.PutsOn.{each_puts_on, each_ticks_on}
 use Rattle.qs_world_traces.proofs.SessionsAre.{each_sends, each_ticks}
-use Rattle.qs_world_traces.proofs.MessagesTaken.{one_more, up_sends}
+use Rattle.qs_world_traces.proofs.MessagesTaken.{inc_sends, one_more, up_sends}
 
 -- ---- sessions tick, one after the other
 
@@ -54,6 +54,8 @@ record AfterTicks (clients_at : ℕ → ℕ) (size n s m : ℕ) (w : PacketWorld
   run : LocalRun clients_at n s w (ticks_below m n s) (ticked_to m n s w)
   up : (ticked_to m n s w).network.up n ≡ true
   low : HasStampsUpTo size n s (ticked_to m n s w)
+  inc : (ticked_to m n s w).network.inc n ≡ w.network.inc n
+  clients : (k : ℕ) → (ticked_to m n s w).clients k ≡ w.clients k
   host : (ticked_to m n s w).hosts n ≡ w.hosts n
   journal : (ticked_to m n s w).journal ≡ w.journal
   sessions : AreEnds (is_peer size n) n (ticked_to m n s w).network (all_ticked m n ends)
@@ -69,6 +71,8 @@ record AfterTick (clients_at : ℕ → ℕ) (size n s m : ℕ) (w : PacketWorld)
   run : LocalRun clients_at n s w moves new
   up : new.network.up n ≡ true
   low : HasStampsUpTo size n s new
+  inc : new.network.inc n ≡ w.network.inc n
+  clients : (k : ℕ) → new.clients k ≡ w.clients k
   host : new.hosts n ≡ w.hosts n
   journal : new.journal ≡ w.journal
   sessions : AreEnds (is_peer size n) n new.network new_ends
@@ -84,6 +88,8 @@ module _ (clients_at : ℕ → ℕ) (size n s : ℕ) (w : PacketWorld) (ends : E
     run = subst (λ (l : List TimedMove). LocalRun clients_at n s w l (ticked_to m n s w)) (sym (append-nil (ticks_below m n s))) t.run;
     up = t.up;
     low = t.low;
+    inc = t.inc;
+    clients = t.clients;
     host = t.host;
     journal = t.journal;
     sessions = t.sessions;
@@ -95,6 +101,8 @@ module _ (clients_at : ℕ → ℕ) (size n s : ℕ) (w : PacketWorld) (ends : E
         (record { of_node = refl; rises = le_refl s; made_at = refl; may = may_ticks size n s (ticked_to m n s w) s m t.low (le_refl s) t.up; event_is = refl; own = tt }, refl);
     up = t.up;
     low = record { size_is = t.low.size_is; host = t.low.host; last = t.low.last };
+    inc = t.inc;
+    clients = t.clients;
     host = t.host;
     journal = t.journal;
     sessions = ticks.ends_are;
@@ -121,6 +129,8 @@ module _ (clients_at : ℕ → ℕ) (size n s : ℕ) (w : PacketWorld) (ends : E
     run = refl;
     up = up;
     low = low;
+    inc = refl;
+    clients = λ k. refl;
     host = refl;
     journal = refl;
     sessions = are;
@@ -129,7 +139,7 @@ module _ (clients_at : ℕ → ℕ) (size n s : ℕ) (w : PacketWorld) (ends : E
   }
   after_ticks (suc m) le up low are puts =
       let t = next_if m (omega (arith, le)) (after_ticks m (omega (arith, le)) up low are puts) (m == n) refl in
-      record { run = t.run; up = t.up; low = t.low; host = t.host; journal = t.journal; sessions = t.sessions; puts = t.puts; at = t.at }
+      record { run = t.run; up = t.up; low = t.low; inc = t.inc; clients = t.clients; host = t.host; journal = t.journal; sessions = t.sessions; puts = t.puts; at = t.at }
 
 -- ---- none of them takes a packet
 
@@ -206,6 +216,8 @@ module _ (o : Opening) (n : ℕ) (journal : List Entry) (steps : List trace.Step
     sessions = t.sessions;
     host = t.host ∙ at_place world.hosts n (stepped_host s (after_step (world.hosts n).node events.Tick free) (tick_out world n free) (world.hosts n));
     up = t.up;
+    inc = t.inc ∙ inc_sends n s n (tick_out world n free).messages world.network;
+    clients = t.clients;
   }
 
 pub each_takes_tick : EachTakesTick

@@ -16,7 +16,7 @@ use Rattle.qs_node_step.specs.declared.event.Event.TheVariants as events
 use Rattle.qs_node_step.specs.declared.trace.Did.TheVariants as dids
 use Rattle.qs_node_step.specs.declared.trace.Step.{Step}
 use Rattle.qs_world.specs.Moves.{node_no, stepped_host}
-use Rattle.qs_world.specs.Posting.{entries_of}
+use Rattle.qs_world.specs.Posting.{clients_after, entries_of}
 use Rattle.qs_world.specs.World.{Opening}
 use Rattle.qs_world_traces.specs.Links.{observed_by}
 use Rattle.qs_world_traces.specs.Sessions.{AreEnds}
@@ -44,6 +44,8 @@ pub record HasTakenTick (o : Opening) (n : ℕ) (journal : List Entry) (trace : 
   pub sessions : AreEnds (is_peer o.size n) n new.network (all_ticked o.size n (all_sent (is_peer o.size n) ends (tick_out world n free).messages))
   pub host : new.hosts n ≡ stepped_host s (after_step (world.hosts n).node events.Tick free) (tick_out world n free) (world.hosts n)
   pub up : new.network.up n ≡ true
+  pub inc : new.network.inc n ≡ world.network.inc n
+  pub clients : (k : ℕ) → new.clients k ≡ clients_after (tick_out world n free).answers world.clients k
 
 abbrev pub EachTakesTick : Type 0
 EachTakesTick = (o : Opening) (n : ℕ) (journal : List Entry) (trace : List Step) (stamp : ℕ) (world : PacketWorld) (ends : Ends) (s free acts rounds : ℕ) (put : List packets.Packet)
