@@ -1,0 +1,19 @@
+-- What passes make of two ends, from whatever a run left.
+use Rattle.std.specs.Prelude.{◌≡◌, ◌≤◌, ℕ, ◌+◌, Bool, true, false, List, [], length}
+use Rattle.qs_session_channels.specs.End.{End, tick_packets}
+use Rattle.qs_session_settling.specs.Pairs.{Pair, Step, stepped}
+use Rattle.qs_session_settling.specs.Passes.{Passes, QuietPasses}
+use Rattle.qs_session_settling.specs.Left.{IsLeft, OneRoseLast}
+
+-- each end knows the other's present incarnation
+pub record KnowEachOther {M : Type 0} (pair : Pair M) : Type 0 where
+  pub left : pair.left.end.known ≡ pair.right.end.mine
+  pub right : pair.right.end.known ≡ pair.left.end.mine
+
+-- each step leaves what a run leaves
+abbrev pub EachStays : (M : Type 0) → Type 0
+EachStays M = (hello : M) (step : Step M) (pair : Pair M) → IsLeft pair → IsLeft (stepped hello step pair)
+
+-- after four passes each knows the other
+abbrev pub EachAcquaints : (M : Type 0) → Type 0
+EachAcquaints M = (hello : M) (old new : Pair M) → IsLeft old → OneRoseLast old → Passes hello 4 old new → KnowEachOther new

@@ -1,0 +1,12 @@
+//! What passes make of two ends of a session, from whatever a run left of them.
+ghost use Rattle.qs_session_settling.specs.Settled.{EachAcquaints, EachStays};
+
+/// Each step of either side, a packet taken, a message sent or a tick, leaves what a run leaves.
+pub fn stays<M>()
+    ensures { EachStays M }
+{}
+
+/// After four passes, from whatever a run left, each of two ends knows the other's present incarnation.
+pub fn acquaints<M>()
+    ensures { EachAcquaints M }
+{}
