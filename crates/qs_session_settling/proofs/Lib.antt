@@ -5,3 +5,11 @@ pub mod Stages
 pub mod Within
 pub mod Knowing
 pub mod Rows
+pub mod Known
+pub mod Answering
+pub mod Hearing
+pub mod Keeping
+pub mod Behind
+pub mod Asking
+pub mod Calming
+pub mod Meeting

@@ -17,3 +17,17 @@ EachStays M = (hello : M) (step : Step M) (pair : Pair M) → IsLeft pair → Is
 -- after four passes each knows the other
 abbrev pub EachAcquaints : (M : Type 0) → Type 0
 EachAcquaints M = (hello : M) (old new : Pair M) → IsLeft old → OneRoseLast old → Passes hello 4 old new → KnowEachOther new
+
+-- and each has met the other: it took a packet of that incarnation for its own
+pub record HaveMet {M : Type 0} (pair : Pair M) : Type 0 where
+  pub known : KnowEachOther pair
+  pub left : pair.left.end.met ≡ true
+  pub right : pair.right.end.met ≡ true
+
+-- six more make two that know each other meet
+abbrev pub EachMeets : (M : Type 0) → Type 0
+EachMeets M = (hello : M) (old new : Pair M) → IsLeft old → KnowEachOther old → Passes hello 6 old new → HaveMet new
+
+-- so ten do from whatever a run left
+abbrev pub EachHasMet : (M : Type 0) → Type 0
+EachHasMet M = (hello : M) (old new : Pair M) → IsLeft old → OneRoseLast old → Passes hello 10 old new → HaveMet new

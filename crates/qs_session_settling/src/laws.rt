@@ -1,5 +1,5 @@
 //! What passes make of two ends of a session, from whatever a run left of them.
-ghost use Rattle.qs_session_settling.specs.Settled.{EachAcquaints, EachStays};
+ghost use Rattle.qs_session_settling.specs.Settled.{EachAcquaints, EachHasMet, EachMeets, EachStays};
 
 /// Each step of either side, a packet taken, a message sent or a tick, leaves what a run leaves.
 pub fn stays<M>()
@@ -9,4 +9,10 @@ pub fn stays<M>()
 /// After four passes, from whatever a run left, each of two ends knows the other's present incarnation.
 pub fn acquaints<M>()
     ensures { EachAcquaints M }
+{}
+
+/// Six passes make two ends that know each other meet, each the other's present incarnation, so ten do from whatever a run left.
+pub fn meets<M>()
+    ensures knowing { EachMeets M }
+    ensures whole { EachHasMet M }
 {}
