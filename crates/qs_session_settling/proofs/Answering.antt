@@ -38,7 +38,7 @@ pub record Answerable {M : Type 0} (t : ℕ) (pair : Pair M) : Type 0 where
 
 -- ---- what is handed up and sent only rises
 
-abbrev HasTaken : {M : Type 0} → ℕ → Pair M → Type 0
+abbrev pub HasTaken : {M : Type 0} → ℕ → Pair M → Type 0
 HasTaken t pair = t ≤ pair.right.end.taken
 
 pub has_taken_on : {M : Type 0} → (hello : M) (quiet : Bool) (t : ℕ) → Keeps hello quiet Known (HasTaken t)
@@ -53,7 +53,7 @@ has_taken_on hello quiet t = record {
   right_takes = λ a b ps lb p k h. grind (arith, h, (advances b p (to_right a b ps lb p k)).taken);
 }
 
-abbrev HasSent : {M : Type 0} → ℕ → Pair M → Type 0
+abbrev pub HasSent : {M : Type 0} → ℕ → Pair M → Type 0
 HasSent t pair = t ≤ pair.left.end.acked + length pair.left.end.kept
 
 pub has_sent_on : {M : Type 0} → (hello : M) (quiet : Bool) (t : ℕ) → Keeps hello quiet Known (HasSent t)

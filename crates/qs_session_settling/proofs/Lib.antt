@@ -13,3 +13,6 @@ pub mod Behind
 pub mod Asking
 pub mod Calming
 pub mod Meeting
+pub mod Reaching
+pub mod HandingUp
+pub mod HandedUp

@@ -1,9 +1,9 @@
 -- What passes make of two ends, from whatever a run left.
-use Rattle.std.specs.Prelude.{◌≡◌, ◌≤◌, ℕ, ◌+◌, Bool, true, false, List, [], length}
+use Rattle.std.specs.Prelude.{◌≡◌, ◌≤◌, ℕ, ◌+◌, ◌==◌, Bool, true, false, List, [], length, if◌then◌else◌}
 use Rattle.qs_session_channels.specs.End.{End, tick_packets}
 use Rattle.qs_session_settling.specs.Pairs.{Pair, Step, stepped}
 use Rattle.qs_session_settling.specs.Passes.{Passes, QuietPasses}
-use Rattle.qs_session_settling.specs.Left.{IsLeft, OneRoseLast}
+use Rattle.qs_session_settling.specs.Left.{IsLeft, OneRoseLast, handed_up}
 
 -- each end knows the other's present incarnation
 pub record KnowEachOther {M : Type 0} (pair : Pair M) : Type 0 where
@@ -31,3 +31,23 @@ EachMeets M = (hello : M) (old new : Pair M) → IsLeft old → KnowEachOther ol
 -- so ten do from whatever a run left
 abbrev pub EachHasMet : (M : Type 0) → Type 0
 EachHasMet M = (hello : M) (old new : Pair M) → IsLeft old → OneRoseLast old → Passes hello 10 old new → HaveMet new
+
+-- ---- what is kept is handed up
+
+-- the number of the last message that an end has for the other's present incarnation
+abbrev pub sent_to : {M : Type 0} → End M → End M → ℕ
+sent_to from to = if from.known == to.mine then from.acked + length from.kept else 0
+
+-- what each had for the other has been handed up by now
+pub record AllHandedUp {M : Type 0} (old new : Pair M) : Type 0 where
+  pub left : sent_to old.left.end old.right.end ≤ handed_up new.left.end new.right.end
+  pub right : sent_to old.right.end old.left.end ≤ handed_up new.right.end new.left.end
+
+-- one pass over two that know each other, and then each hands up all that was kept as it began
+abbrev pub EachHandsUp : (M : Type 0) → Type 0
+EachHandsUp M = (hello : M) (old mid new : Pair M) → IsLeft old → KnowEachOther old → Passes hello 1 old mid → Passes hello 1 mid new → AllHandedUp mid new
+
+-- so six hand up what was kept as they began, from whatever a run left: by an end that did not know the other's present incarnation,
+-- nothing was kept for that
+abbrev pub EachHasHandedUp : (M : Type 0) → Type 0
+EachHasHandedUp M = (hello : M) (old new : Pair M) → IsLeft old → OneRoseLast old → Passes hello 6 old new → AllHandedUp old new
