@@ -20,6 +20,11 @@ behind_more Q n [] more is goes = of_each Q n more goes
 behind_more Q zero (p ∷ ps) more is goes = (is.0, behind_more Q zero ps more is.1 goes)
 behind_more Q (suc n) (p ∷ ps) more is goes = behind_more Q n ps more is goes
 
+pub behind_map : {M : Type 0} → (Q R : Packet M → Type 0) → ((p : Packet M) → Q p → R p) → (n : ℕ) (ps : List (Packet M)) → Behind Q n ps → Behind R n ps
+behind_map Q R so n [] is = tt
+behind_map Q R so zero (p ∷ ps) is = (so p is.0, behind_map Q R so zero ps is.1)
+behind_map Q R so (suc n) (p ∷ ps) is = behind_map Q R so n ps is
+
 pub behind_none : {M : Type 0} → (Q : Packet M → Type 0) (ps : List (Packet M)) → Behind Q 0 ps → Each Q ps
 behind_none Q [] is = tt
 behind_none Q (p ∷ ps) is = (is.0, behind_none Q ps is.1)

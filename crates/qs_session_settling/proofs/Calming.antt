@@ -3,10 +3,10 @@ use Rattle.std.proofs.Common.{◌≡◌, ◌≢◌, ◌⊎◌, Bool, ℕ, zero, 
 use Rattle.std.specs.Prelude.{⊤, option_to_list}
 use Rattle.qs_session_channels.specs.End.{End, Packet, received, sent, sent_packet, ticked, tick_packets, packet}
 use Rattle.qs_session_settling.specs.Pairs.{Pair, Step, swapped, stepped}
-use Rattle.qs_session_settling.proofs.Ticking.{Each, each_both, each_again, sending}
+use Rattle.qs_session_settling.proofs.Ticking.{Each, each_both, each_map, each_again, sending}
 use Rattle.qs_session_settling.proofs.Staying.{pair_of}
 use Rattle.qs_session_settling.proofs.Stages.{Bears, Keeps, Stage, Stays, keeps_each}
-use Rattle.qs_session_settling.proofs.Behind.{Behind, behind_more, behind_none}
+use Rattle.qs_session_settling.proofs.Behind.{Behind, behind_more, behind_map, behind_none}
 use Rattle.qs_session_settling.proofs.Knowing.{sends_each}
 use Rattle.qs_session_settling.proofs.Known.{Known, known_on, known_swapped, advances, to_left, to_right, some_left, some_right, KnownTicking, known_ticking, steady}
 use Rattle.qs_session_settling.proofs.Answering.{Naming, AllOwing, hears_named}
@@ -40,14 +40,14 @@ left_met_on hello quiet step of pair is = record { known = known_on hello quiet 
 abbrev pub Names : {M : Type 0} → End M → End M → Packet M → Type 0
 Names a b p = Naming a.mine b.mine 0 p
 
+names_same : {M : Type 0} → (a b c d : End M) → c.mine ≡ a.mine → d.mine ≡ b.mine → (p : Packet M) → Names a b p → Names c d p
+names_same a b c d mine other p is = (grind (arith, is.0, mine), grind (arith, is.1, other), is.2)
+
 each_same : {M : Type 0} → (a b c d : End M) (ps : List (Packet M)) → c.mine ≡ a.mine → d.mine ≡ b.mine → Each (Names a b) ps → Each (Names c d) ps
-each_same a b c d [] mine other is = tt
-each_same a b c d (p ∷ ps) mine other is = ((grind (arith, is.0.0, mine), grind (arith, is.0.1, other), is.0.2), each_same a b c d ps mine other is.1)
+each_same a b c d ps mine other is = each_map (Names a b) (Names c d) (names_same a b c d mine other) ps is
 
 behind_same : {M : Type 0} → (n : ℕ) (a b c d : End M) (ps : List (Packet M)) → c.mine ≡ a.mine → d.mine ≡ b.mine → Behind (Names a b) n ps → Behind (Names c d) n ps
-behind_same n a b c d [] mine other is = tt
-behind_same zero a b c d (p ∷ ps) mine other is = ((grind (arith, is.0.0, mine), grind (arith, is.0.1, other), is.0.2), behind_same zero a b c d ps mine other is.1)
-behind_same (suc n) a b c d (p ∷ ps) mine other is = behind_same n a b c d ps mine other is
+behind_same n a b c d ps mine other is = behind_map (Names a b) (Names c d) (names_same a b c d mine other) n ps is
 
 tick_names : {M : Type 0} → (hello : M) (a b : End M) (stamp : ℕ) → a.known ≡ b.mine → a.met ≡ true → KnownTicking hello a stamp → Each (Names a b) (tick_packets hello a stamp)
 tick_names hello a b stamp known met (inl x) = subst (λ ps. Each (Names a b) ps) (sym x.puts) (each_again (Names a b) a stamp (λ number y. (refl, known, grind arith)) a.acked a.kept)

@@ -16,3 +16,6 @@ pub mod Meeting
 pub mod Reaching
 pub mod HandingUp
 pub mod HandedUp
+pub mod Acknowledging
+pub mod Quieting
+pub mod AtRest

@@ -33,6 +33,12 @@ divided hello quiet (suc m) n (suc k) old new e (steps, is, of, rest) = let p = 
 pub parted : {M : Type 0} → (hello : M) (quiet : Bool) (m n : ℕ) (old new : Pair M) → Row hello quiet (m + n) old new → (mid : Pair M) × Row hello quiet m old mid × Row hello quiet n mid new
 parted hello quiet m n old new row = divided hello quiet m n (m + n) old new refl row
 
+-- and the other way round
+pub joined : {M : Type 0} → (hello : M) (quiet : Bool) (m n k : ℕ) (old mid new : Pair M) → k ≡ m + n → Row hello quiet m old mid → Row hello quiet n mid new → Row hello quiet k old new
+joined {M} hello quiet zero n k old mid new e row rest = subst (λ i. Row hello quiet i old new) (grind (arith, e)) (subst (λ (x : Pair M). Row hello quiet n x new) row rest)
+joined hello quiet (suc m) n zero old mid new e row rest = absurd (grind (arith, e))
+joined hello quiet (suc m) n (suc k) old mid new e (steps, is, of, row) rest = (steps, is, of, joined hello quiet m n k (after hello steps old) mid new (grind (arith, e)) row rest)
+
 -- ---- what a row keeps
 
 pub stays_row : {M : Type 0} → (hello : M) (quiet : Bool) (I : Pair M → Type 0) → Stays hello quiet I → (n : ℕ) (old new : Pair M) → Row hello quiet n old new → I old → I new

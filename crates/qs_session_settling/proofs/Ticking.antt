@@ -13,6 +13,10 @@ pub each_both : {M : Type 0} → (Q : Packet M → Type 0) (ps qs : List (Packet
 each_both Q [] qs is more = more
 each_both Q (p ∷ ps) qs is more = (is.0, each_both Q ps qs is.1 more)
 
+pub each_map : {M : Type 0} → (Q R : Packet M → Type 0) → ((p : Packet M) → Q p → R p) → (ps : List (Packet M)) → Each Q ps → Each R ps
+each_map Q R so [] is = tt
+each_map Q R so (p ∷ ps) is = (so p is.0, each_map Q R so ps is.1)
+
 pub each_again : {M : Type 0} → (Q : Packet M → Type 0) (e : End M) (stamp : ℕ) → ((number : ℕ) (x : M) → Q (packet e e.known (number + 1) stamp x)) → (k : ℕ) (xs : List M) → Each Q (again e stamp k xs)
 each_again Q e stamp is k [] = tt
 each_again Q e stamp is k (x ∷ xs) = (is k x, each_again Q e stamp is (k + 1) xs)

@@ -1,8 +1,8 @@
 -- What passes make of two ends, from whatever a run left.
-use Rattle.std.specs.Prelude.{◌≡◌, ◌≤◌, ℕ, ◌+◌, ◌==◌, Bool, true, false, List, [], length, if◌then◌else◌}
+use Rattle.std.specs.Prelude.{◌≡◌, ◌≤◌, ℕ, ◌+◌, ◌==◌, Bool, true, false, List, [], ◌∷◌, length, if◌then◌else◌}
 use Rattle.qs_session_channels.specs.End.{End, tick_packets}
 use Rattle.qs_session_settling.specs.Pairs.{Pair, Step, stepped}
-use Rattle.qs_session_settling.specs.Passes.{Passes, QuietPasses}
+use Rattle.qs_session_settling.specs.Passes.{Passes, QuietPasses, sends_none}
 use Rattle.qs_session_settling.specs.Left.{IsLeft, OneRoseLast, handed_up}
 
 -- each end knows the other's present incarnation
@@ -51,3 +51,41 @@ EachHandsUp M = (hello : M) (old mid new : Pair M) → IsLeft old → KnowEachOt
 -- nothing was kept for that
 abbrev pub EachHasHandedUp : (M : Type 0) → Type 0
 EachHasHandedUp M = (hello : M) (old new : Pair M) → IsLeft old → OneRoseLast old → Passes hello 6 old new → AllHandedUp old new
+
+-- ---- nothing goes any more
+
+-- an end with nothing to send: it keeps nothing, owes nothing and has met its peer
+pub record IsIdle {M : Type 0} (e : End M) : Type 0 where
+  pub kept : e.kept ≡ []
+  pub owed : e.owed ≡ false
+  pub met : e.met ≡ true
+
+-- both are so, know each other, and nothing stands on the links
+pub record IsAtRest {M : Type 0} (pair : Pair M) : Type 0 where
+  pub known : KnowEachOther pair
+  pub left : IsIdle pair.left.end
+  pub right : IsIdle pair.right.end
+  pub left_link : pair.left.link ≡ []
+  pub right_link : pair.right.link ≡ []
+
+-- so a tick puts nothing
+abbrev pub EachIsSilent : (M : Type 0) → Type 0
+EachIsSilent M = (hello : M) (pair : Pair M) → IsLeft pair → IsAtRest pair → (stamp : ℕ) → (tick_packets hello pair.left.end stamp ≡ []) × (tick_packets hello pair.right.end stamp ≡ [])
+
+-- and all stays as it is until a message is sent
+abbrev pub EachRests : (M : Type 0) → Type 0
+EachRests M = (hello : M) (step : Step M) (pair : Pair M) → IsLeft pair → IsAtRest pair → sends_none (step ∷ []) ≡ true → stepped hello step pair ≡ pair
+
+-- seven passes in which no message is sent bring two that have met to rest
+abbrev pub EachFallsSilent : (M : Type 0) → Type 0
+EachFallsSilent M = (hello : M) (old new : Pair M) → IsLeft old → HaveMet old → QuietPasses hello 7 old new → IsAtRest new
+
+-- ---- together: what twelve passes without a send make of whatever a run left
+
+pub record IsSettled {M : Type 0} (old new : Pair M) : Type 0 where
+  pub met : HaveMet new
+  pub handed_up : AllHandedUp old new
+  pub rests : IsAtRest new
+
+abbrev pub EachSettles : (M : Type 0) → Type 0
+EachSettles M = (hello : M) (old new : Pair M) → IsLeft old → OneRoseLast old → QuietPasses hello 12 old new → IsSettled old new

@@ -1,5 +1,5 @@
 //! What passes make of two ends of a session, from whatever a run left of them.
-ghost use Rattle.qs_session_settling.specs.Settled.{EachAcquaints, EachHandsUp, EachHasHandedUp, EachHasMet, EachMeets, EachStays};
+ghost use Rattle.qs_session_settling.specs.Settled.{EachAcquaints, EachFallsSilent, EachHandsUp, EachHasHandedUp, EachHasMet, EachIsSilent, EachMeets, EachRests, EachSettles, EachStays};
 
 /// Each step of either side, a packet taken, a message sent or a tick, leaves what a run leaves.
 pub fn stays<M>()
@@ -22,4 +22,18 @@ pub fn meets<M>()
 pub fn hands_up<M>()
     ensures knowing { EachHandsUp M }
     ensures whole { EachHasHandedUp M }
+{}
+
+/// Seven passes without a send bring two ends that have met to rest: nothing is kept, owed or on its way. At rest no tick puts a packet, and all stays as it
+/// is until a message is sent.
+pub fn rests<M>()
+    ensures falls { EachFallsSilent M }
+    ensures silent { EachIsSilent M }
+    ensures stays { EachRests M }
+{}
+
+/// Twelve passes without a send settle two ends, from whatever a run left: they have met, each the other's present incarnation, what each kept for that
+/// has been handed up, and nothing is sent any more.
+pub fn settles<M>()
+    ensures { EachSettles M }
 {}
