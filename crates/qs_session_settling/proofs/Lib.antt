@@ -19,3 +19,5 @@ pub mod HandedUp
 pub mod Acknowledging
 pub mod Quieting
 pub mod AtRest
+pub mod Rising
+pub mod Leaving

@@ -3,3 +3,4 @@ pub mod Pairs
 pub mod Passes
 pub mod Left
 pub mod Settled
+pub mod Ran

@@ -1,4 +1,5 @@
 //! What passes make of two ends of a session, from whatever a run left of them.
+ghost use Rattle.qs_session_settling.specs.Ran.{EachRunLeaves, EachRunSettles};
 ghost use Rattle.qs_session_settling.specs.Settled.{EachAcquaints, EachFallsSilent, EachHandsUp, EachHasHandedUp, EachHasMet, EachIsSilent, EachMeets, EachRests, EachSettles, EachStays};
 
 /// Each step of either side, a packet taken, a message sent or a tick, leaves what a run leaves.
@@ -36,4 +37,11 @@ pub fn rests<M>()
 /// has been handed up, and nothing is sent any more.
 pub fn settles<M>()
     ensures { EachSettles M }
+{}
+
+/// Every run of the network leaves two nodes that run so, with any packets on the links between them that it sent, whatever is lost, repeated and held in
+/// it, and whoever crashes: so twelve passes without a send settle them.
+pub fn runs_settle<M>()
+    ensures leaves { EachRunLeaves M }
+    ensures settles { EachRunSettles M }
 {}
