@@ -1,11 +1,11 @@
 -- What was handed up is acknowledged, so behind passes without a send nothing is kept.
-use Rattle.std.proofs.Common.{◌≡◌, ◌≢◌, ◌⊎◌, Bool, ℕ, zero, suc, ◌+◌, ◌<◌, ◌≤◌, true, false, refl, sym, subst, arith, List, [], ◌∷◌, ◌++◌, length, inl, inr}
-use Rattle.std.specs.Prelude.{⊤, option_to_list}
-use Rattle.qs_session_channels.specs.End.{End, Packet, received, sent, sent_packet, ticked, tick_packets}
-use Rattle.qs_session_settling.specs.Pairs.{Pair, Step, swapped, stepped}
+use Rattle.std.proofs.Common.{◌≡◌, ◌⊎◌, Bool, ℕ, ◌+◌, ◌≤◌, true, refl, arith, List, ◌++◌, length, inl, inr}
+use Rattle.std.specs.Prelude.{⊤}
+use Rattle.qs_session_channels.specs.End.{End, Packet, sent, ticked, tick_packets}
+use Rattle.qs_session_settling.specs.Pairs.{Pair, swapped, stepped}
 use Rattle.qs_session_settling.proofs.Ticking.{sending}
 use Rattle.qs_session_settling.proofs.Staying.{pair_of}
-use Rattle.qs_session_settling.proofs.Stages.{Bears, Keeps, Stage, Stays, keeps_each}
+use Rattle.qs_session_settling.proofs.Stages.{Keeps, Stage, Stays, keeps_each}
 use Rattle.qs_session_settling.proofs.Rows.{Row, parted, stays_row, keeps_row, staged_row, row_mirrored}
 use Rattle.qs_session_settling.proofs.Known.{Known, known_on, known_swapped, advances, to_left, to_right, some_right, KnownTicking, known_ticking, steady}
 use Rattle.qs_session_settling.proofs.Answering.{AllOwing, Answerable, HasTaken, has_taken_on, all_owing_keeps, HasSent, has_sent_on}

@@ -1,14 +1,13 @@
 -- Who asks is answered: behind a packet that asks, the other end owes, and what it puts then names the one that asked.
-use Rattle.std.proofs.Common.{◌≡◌, ◌≢◌, ◌⊎◌, Bool, ℕ, zero, suc, ◌+◌, ◌<◌, ◌≤◌, true, false, refl, sym, subst, arith, List, [], ◌∷◌, ◌++◌, length, inl, inr}
+use Rattle.std.proofs.Common.{◌≡◌, ◌≢◌, ◌⊎◌, Bool, ℕ, suc, ◌+◌, ◌≤◌, true, false, refl, sym, subst, arith, List, [], ◌∷◌, ◌++◌, length, inl, inr}
 use Rattle.std.specs.Prelude.{option_to_list}
-use Rattle.qs_session_channels.specs.End.{End, Packet, received, sent, sent_packet, ticked, tick_packets, again, packet}
-use Rattle.qs_session_settling.specs.Pairs.{Pair, Step, swapped, stepped}
-use Rattle.qs_session_settling.proofs.Ticking.{Sending, sending}
+use Rattle.qs_session_channels.specs.End.{End, Packet, received, sent, sent_packet, ticked, tick_packets, again}
+use Rattle.qs_session_settling.specs.Pairs.{Pair}
+use Rattle.qs_session_settling.proofs.Ticking.{sending}
 use Rattle.qs_session_settling.proofs.Staying.{pair_of}
 use Rattle.qs_session_settling.proofs.Stages.{Bears, Keeps, Stage, Stays, keeps_each}
-use Rattle.qs_session_settling.proofs.Rows.{Row, parted, stays_row, staged_row, row_mirrored}
 use Rattle.qs_session_settling.proofs.Within.{Within, within_more, within_front, within_behind}
-use Rattle.qs_session_settling.proofs.Known.{Known, known_on, known_swapped, KnownTaking, known_taking, Advances, advances, to_left, to_right, some_left, some_right, KnownTicking, known_ticking}
+use Rattle.qs_session_settling.proofs.Known.{Known, known_on, KnownTaking, known_taking, advances, to_left, to_right, some_right, KnownTicking, known_ticking}
 
 -- of incarnation i, and a greeting to another than j, or a message
 abbrev pub Asking : {M : Type 0} → ℕ → ℕ → Packet M → Type 0

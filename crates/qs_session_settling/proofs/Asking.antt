@@ -1,14 +1,13 @@
 -- An end that has not met the other asks in its next tick, or answers what it owes.
-use Rattle.std.proofs.Common.{◌≡◌, ◌≢◌, ◌⊎◌, Bool, ℕ, zero, suc, ◌+◌, ◌≤◌, true, false, refl, sym, subst, arith, List, [], ◌∷◌, ◌++◌, length, inl, inr}
-use Rattle.std.specs.Prelude.{⊤, option_to_list}
-use Rattle.qs_session_channels.specs.End.{End, Packet, received, sent, sent_packet, ticked, tick_packets, again, packet}
+use Rattle.std.proofs.Common.{◌≡◌, ◌≢◌, ◌⊎◌, Bool, ℕ, ◌≤◌, refl, sym, subst, arith, List, [], ◌∷◌, ◌++◌, length, inl, inr}
+use Rattle.std.specs.Prelude.{⊤}
+use Rattle.qs_session_channels.specs.End.{End, Packet, ticked, tick_packets, again, packet}
 use Rattle.qs_session_settling.specs.Pairs.{Pair, swapped}
-use Rattle.qs_session_settling.proofs.Ticking.{sending}
 use Rattle.qs_session_settling.proofs.Staying.{pair_of}
-use Rattle.qs_session_settling.proofs.Stages.{Bears, Keeps, Stage, Stays}
+use Rattle.qs_session_settling.proofs.Stages.{Keeps, Stage}
 use Rattle.qs_session_settling.proofs.Within.{Within, within_behind}
 use Rattle.qs_session_settling.proofs.Known.{Known, known_swapped, some_right, KnownTicking, known_ticking, steady}
-use Rattle.qs_session_settling.proofs.Answering.{Asking, LeftHeard, Answered, Owing, AllOwing, Answerable, answered_keeps, all_owing_keeps, owed_ticks}
+use Rattle.qs_session_settling.proofs.Answering.{Asking, Answered, AllOwing, Answerable, answered_keeps, all_owing_keeps, owed_ticks}
 use Rattle.qs_session_settling.proofs.Keeping.{keeps_for, keeps_swapped, keeps_either, keeps_nothing}
 
 pub answerable : {M : Type 0} → (pair : Pair M) → Known pair → Answerable 0 pair

@@ -1,13 +1,12 @@
 -- Two ends come to rest, and so settle: the laws, put together.
-use Rattle.std.proofs.Common.{◌≡◌, ◌≢◌, ◌⊎◌, Bool, ℕ, ◌+◌, ◌≤◌, true, false, refl, sym, subst, ap, arith, List, [], ◌∷◌, ◌++◌, length, inl, inr}
+use Rattle.std.proofs.Common.{◌≡◌, Bool, ℕ, ◌≤◌, true, false, refl, sym, subst, ap, arith, List, [], ◌∷◌, ◌++◌, length}
 use Rattle.std.proofs.lemmas.Bool.Decides.{nat_tests}
 use Rattle.qs_session_channels.specs.End.{End, Packet, ticked, tick_packets}
-use Rattle.qs_session_settling.specs.Pairs.{Pair, Side, Action, Take, Send, Tick, Step, Left, Right, swapped, stepped}
+use Rattle.qs_session_settling.specs.Pairs.{Pair, Action, Take, Send, Tick, Step, Left, Right, swapped, stepped}
 use Rattle.qs_session_settling.specs.Passes.{QuietPasses, sends_none}
 use Rattle.qs_session_settling.specs.Left.{IsLeft, OneRoseLast, handed_up}
-use Rattle.qs_session_settling.specs.Settled.{KnowEachOther, HaveMet, IsIdle, IsAtRest, AllHandedUp, IsSettled, sent_to}
+use Rattle.qs_session_settling.specs.Settled.{KnowEachOther, HaveMet, IsAtRest, AllHandedUp, IsSettled, sent_to}
 use Rattle.qs_session_settling.proofs.Staying.{pair_of, other_way}
-use Rattle.qs_session_settling.proofs.Stages.{Keeps}
 use Rattle.qs_session_settling.proofs.Rows.{Row, quiet_row, parted, joined, stays_row, keeps_row, staged_row, row_mirrored}
 use Rattle.qs_session_settling.proofs.Behind.{behind_all}
 use Rattle.qs_session_settling.proofs.Known.{Known, known_on, known_swapped}
@@ -116,7 +115,7 @@ falls_silent hello old new is m passes =
     let p = parted hello true 5 2 old new (quiet_row hello 7 old new passes) in
     come_to_rest hello p.0 new (still_by hello 0 old p.0 p.0 k p.1 refl (stay_met hello true 5 old p.0 k m p.1)) p.2
 
--- ---- and twelve settle whatever a run left
+-- ---- and eleven settle whatever a run left
 
 stay_handed_up : {M : Type 0} → (a b : End M) (mid new : Pair M) → Known mid → Known new → mid.right.end.taken ≤ new.right.end.taken → sent_to a b ≤ handed_up mid.left.end mid.right.end → sent_to a b ≤ handed_up new.left.end new.right.end
 stay_handed_up a b mid new k last more is = grind (arith, nat_tests, is, k.right, last.right, more)
@@ -131,28 +130,28 @@ up_on hello n old mid new k up row =
       right = stay_handed_up old.right.end old.left.end (swapped mid) (swapped new) (known_swapped mid k) (known_swapped new last) back up.right;
     }
 
--- what was kept is handed up in the first six
-up_whole : {M : Type 0} → (hello : M) (old new : Pair M) → IsLeft old → OneRoseLast old → Row hello true 12 old new → AllHandedUp old new
+-- what was kept is handed up in the first five
+up_whole : {M : Type 0} → (hello : M) (old new : Pair M) → IsLeft old → OneRoseLast old → Row hello true 11 old new → AllHandedUp old new
 up_whole hello old new is r row =
-    let p = parted hello true 6 6 old new row in
-    let q = parted hello true 4 2 old p.0 p.1 in
+    let p = parted hello true 5 6 old new row in
+    let q = parted hello true 3 2 old p.0 p.1 in
     let k = stays_row hello true Known (known_on hello true) 2 q.0 p.0 q.2 (known_first hello true old q.0 is r q.1) in
     up_on hello 6 old p.0 new k (handed_up_whole hello true old p.0 is r p.1) p.2
 
--- after four they know each other, after five more nothing is kept, after one more they have met, and two bring them to rest
-rest_whole : {M : Type 0} → (hello : M) (old new : Pair M) → IsLeft old → OneRoseLast old → Row hello true 12 old new → IsAtRest new
+-- after three they know each other, after five more nothing is kept, after one more they have met, and two bring them to rest
+rest_whole : {M : Type 0} → (hello : M) (old new : Pair M) → IsLeft old → OneRoseLast old → Row hello true 11 old new → IsAtRest new
 rest_whole hello old new is r row =
-    let p = parted hello true 4 8 old new row in
+    let p = parted hello true 3 8 old new row in
     let k = known_first hello true old p.0 is r p.1 in
     let q = parted hello true 5 3 p.0 new p.2 in
     let t = parted hello true 1 2 q.0 new q.2 in
     let m = met hello true p.0 t.0 k (joined hello true 5 1 6 p.0 q.0 t.0 refl q.1 t.1) in
     come_to_rest hello t.0 new (still_by hello 1 p.0 q.0 t.0 k q.1 t.1 m) t.2
 
-pub settled : {M : Type 0} → (hello : M) (old new : Pair M) → IsLeft old → OneRoseLast old → Row hello true 12 old new → IsSettled old new
+pub settled : {M : Type 0} → (hello : M) (old new : Pair M) → IsLeft old → OneRoseLast old → Row hello true 11 old new → IsSettled old new
 settled hello old new is r row =
     let rest = rest_whole hello old new is r row in
     record { met = record { known = rest.known; left = rest.left.met; right = rest.right.met }; handed_up = up_whole hello old new is r row; rests = rest }
 
-pub settles : {M : Type 0} → (hello : M) (old new : Pair M) → IsLeft old → OneRoseLast old → QuietPasses hello 12 old new → IsSettled old new
-settles hello old new is r passes = settled hello old new is r (quiet_row hello 12 old new passes)
+pub settles : {M : Type 0} → (hello : M) (old new : Pair M) → IsLeft old → OneRoseLast old → QuietPasses hello 11 old new → IsSettled old new
+settles hello old new is r passes = settled hello old new is r (quiet_row hello 11 old new passes)

@@ -1,14 +1,14 @@
 -- An end that was met greets no more, so the other one does not owe for ever: it asks, or is met.
-use Rattle.std.proofs.Common.{◌≡◌, ◌≢◌, ◌⊎◌, Bool, ℕ, zero, suc, ◌+◌, ◌≤◌, true, false, refl, sym, subst, arith, List, [], ◌∷◌, ◌++◌, length, inl, inr}
-use Rattle.std.specs.Prelude.{⊤, option_to_list}
-use Rattle.qs_session_channels.specs.End.{End, Packet, received, sent, sent_packet, ticked, tick_packets, packet}
-use Rattle.qs_session_settling.specs.Pairs.{Pair, Step, swapped, stepped}
+use Rattle.std.proofs.Common.{◌≡◌, ◌⊎◌, Bool, ℕ, true, false, refl, sym, subst, arith, List, [], ◌∷◌, ◌++◌, inl, inr}
+use Rattle.std.specs.Prelude.{option_to_list}
+use Rattle.qs_session_channels.specs.End.{End, Packet, received, sent, sent_packet, ticked, tick_packets}
+use Rattle.qs_session_settling.specs.Pairs.{Pair, swapped}
 use Rattle.qs_session_settling.proofs.Ticking.{Each, each_both, each_map, each_again, sending}
 use Rattle.qs_session_settling.proofs.Staying.{pair_of}
-use Rattle.qs_session_settling.proofs.Stages.{Bears, Keeps, Stage, Stays, keeps_each}
+use Rattle.qs_session_settling.proofs.Stages.{Keeps, Stage, Stays, keeps_each}
 use Rattle.qs_session_settling.proofs.Behind.{Behind, behind_more, behind_map, behind_none}
-use Rattle.qs_session_settling.proofs.Knowing.{sends_each}
-use Rattle.qs_session_settling.proofs.Known.{Known, known_on, known_swapped, advances, to_left, to_right, some_left, some_right, KnownTicking, known_ticking, steady}
+use Rattle.qs_session_settling.proofs.Learning.{sends_each}
+use Rattle.qs_session_settling.proofs.Known.{Known, known_on, advances, to_left, to_right, some_left, some_right, KnownTicking, known_ticking, steady}
 use Rattle.qs_session_settling.proofs.Answering.{Naming, AllOwing, hears_named}
 use Rattle.qs_session_settling.proofs.Asking.{asks, repeats_ask, greeting_asks, all_owing_swapped}
 use Rattle.qs_session_settling.proofs.Keeping.{keeps_for}

@@ -1,18 +1,17 @@
 -- What is kept is handed up: pass by pass, and from whatever a run left.
-use Rattle.std.proofs.Common.{◌≡◌, ◌≢◌, ◌⊎◌, Bool, ℕ, ◌+◌, ◌==◌, ◌≤◌, true, false, refl, arith, List, ◌∷◌, ◌++◌, length, inl, inr}
-use Rattle.std.specs.Prelude.{option_to_list}
+use Rattle.std.proofs.Common.{◌≡◌, ◌≢◌, ◌⊎◌, Bool, ℕ, ◌+◌, ◌≤◌, false, arith, length, inl, inr}
 use Rattle.std.proofs.lemmas.Bool.{cases_eq}
 use Rattle.std.proofs.lemmas.Bool.Decides.{nat_tests}
-use Rattle.qs_session_channels.specs.End.{End, Packet, received, sent, sent_packet, ticked, tick_packets}
+use Rattle.qs_session_channels.specs.End.{End, sent}
 use Rattle.qs_session_settling.specs.Pairs.{Pair, swapped}
 use Rattle.qs_session_settling.specs.Passes.{Passes}
 use Rattle.qs_session_settling.specs.Left.{IsLeft, OneRoseLast, handed_up}
 use Rattle.qs_session_settling.specs.Settled.{KnowEachOther, AllHandedUp, sent_to}
 use Rattle.qs_session_settling.proofs.Ticking.{sending}
-use Rattle.qs_session_settling.proofs.Staying.{pair_of, other_way}
+use Rattle.qs_session_settling.proofs.Staying.{other_way}
 use Rattle.qs_session_settling.proofs.Stages.{Keeps}
 use Rattle.qs_session_settling.proofs.Rows.{Row, row_of, parted, left_on, stays_row, keeps_row, row_mirrored}
-use Rattle.qs_session_settling.proofs.Knowing.{heard}
+use Rattle.qs_session_settling.proofs.Learning.{heard}
 use Rattle.qs_session_settling.proofs.Known.{Known, known_on, known_swapped, advances}
 use Rattle.qs_session_settling.proofs.Meeting.{known_first}
 use Rattle.qs_session_settling.proofs.HandingUp.{hands_up_left}
@@ -53,23 +52,23 @@ has_on hello quiet t = record {
   right_takes = λ a b ps lb p is h. (grind (arith, h.0, (heard b p).mine), h.1);
 }
 
-left_arrives : {M : Type 0} → (hello : M) (quiet : Bool) (old one two new : Pair M) → IsLeft old → Row hello quiet 5 old two → Known one → Row hello quiet 1 one two → Row hello quiet 1 two new → Known new → sent_to old.left.end old.right.end ≤ handed_up new.left.end new.right.end
+left_arrives : {M : Type 0} → (hello : M) (quiet : Bool) (old one two new : Pair M) → IsLeft old → Row hello quiet 4 old two → Known one → Row hello quiet 1 one two → Row hello quiet 1 two new → Known new → sent_to old.left.end old.right.end ≤ handed_up new.left.end new.right.end
 left_arrives hello quiet old one two new is row k first second last =
     let t = two.left.end.acked + length two.left.end.kept in
     up_to old.left.end old.right.end new.left.end new.right.end t last.right
-    (λ same. (keeps_row hello quiet IsLeft (Has (old.left.end.acked + length old.left.end.kept)) (left_on hello quiet) (has_on hello quiet (old.left.end.acked + length old.left.end.kept)) 5 old two row is (same, grind arith)).1)
+    (λ same. (keeps_row hello quiet IsLeft (Has (old.left.end.acked + length old.left.end.kept)) (left_on hello quiet) (has_on hello quiet (old.left.end.acked + length old.left.end.kept)) 4 old two row is (same, grind arith)).1)
     (hands_up_left hello quiet one two new k first second)
 
-pub handed_up_whole : {M : Type 0} → (hello : M) (quiet : Bool) (old new : Pair M) → IsLeft old → OneRoseLast old → Row hello quiet 6 old new → AllHandedUp old new
+pub handed_up_whole : {M : Type 0} → (hello : M) (quiet : Bool) (old new : Pair M) → IsLeft old → OneRoseLast old → Row hello quiet 5 old new → AllHandedUp old new
 handed_up_whole hello quiet old new is r row =
-    let p = parted hello quiet 5 1 old new row in
-    let q = parted hello quiet 4 1 old p.0 p.1 in
+    let p = parted hello quiet 4 1 old new row in
+    let q = parted hello quiet 3 1 old p.0 p.1 in
     let k = known_first hello quiet old q.0 is r q.1 in
     let last = stays_row hello quiet Known (known_on hello quiet) 1 p.0 new p.2 (stays_row hello quiet Known (known_on hello quiet) 1 q.0 p.0 q.2 k) in
     record {
       left = left_arrives hello quiet old q.0 p.0 new is p.1 k q.2 p.2 last;
-      right = left_arrives hello quiet (swapped old) (swapped q.0) (swapped p.0) (swapped new) (other_way old is) (row_mirrored hello quiet 5 old p.0 p.1) (known_swapped q.0 k) (row_mirrored hello quiet 1 q.0 p.0 q.2) (row_mirrored hello quiet 1 p.0 new p.2) (known_swapped new last);
+      right = left_arrives hello quiet (swapped old) (swapped q.0) (swapped p.0) (swapped new) (other_way old is) (row_mirrored hello quiet 4 old p.0 p.1) (known_swapped q.0 k) (row_mirrored hello quiet 1 q.0 p.0 q.2) (row_mirrored hello quiet 1 p.0 new p.2) (known_swapped new last);
     }
 
-pub has_handed_up : {M : Type 0} → (hello : M) (old new : Pair M) → IsLeft old → OneRoseLast old → Passes hello 6 old new → AllHandedUp old new
-has_handed_up hello old new is r passes = handed_up_whole hello false old new is r (row_of hello 6 old new passes)
+pub has_handed_up : {M : Type 0} → (hello : M) (old new : Pair M) → IsLeft old → OneRoseLast old → Passes hello 5 old new → AllHandedUp old new
+has_handed_up hello old new is r passes = handed_up_whole hello false old new is r (row_of hello 5 old new passes)

@@ -1,13 +1,12 @@
 -- Over two ends that know each other, a tick puts all that is kept in order, and the next pass hands it up.
-use Rattle.std.proofs.Common.{◌≡◌, ◌≢◌, ◌⊎◌, Bool, ℕ, zero, suc, ◌+◌, ◌==◌, ◌<◌, ◌≤◌, true, false, refl, sym, subst, arith, List, [], ◌∷◌, ◌++◌, length, inl, inr, if◌then◌else◌}
+use Rattle.std.proofs.Common.{◌≡◌, Bool, ℕ, suc, ◌+◌, ◌≤◌, refl, sym, subst, arith, List, [], ◌∷◌, ◌++◌, length, inl, inr}
 use Rattle.std.specs.Prelude.{⊤, option_to_list}
 use Rattle.std.proofs.lemmas.Bool.Decides.{nat_tests}
-use Rattle.qs_session_channels.specs.End.{End, Packet, received, sent, sent_packet, ticked, tick_packets, again, packet}
-use Rattle.qs_session_settling.specs.Pairs.{Pair, Step, swapped, stepped}
-use Rattle.qs_session_settling.specs.Left.{IsLeft, handed_up}
+use Rattle.qs_session_channels.specs.End.{End, Packet, received, sent, sent_packet, ticked, tick_packets}
+use Rattle.qs_session_settling.specs.Pairs.{Pair, swapped}
 use Rattle.qs_session_settling.proofs.Ticking.{sending}
 use Rattle.qs_session_settling.proofs.Staying.{pair_of}
-use Rattle.qs_session_settling.proofs.Stages.{Bears, Keeps, Stage, Stays}
+use Rattle.qs_session_settling.proofs.Stages.{Bears, Keeps, Stage}
 use Rattle.qs_session_settling.proofs.Rows.{Row, stays_row, staged_row, row_mirrored}
 use Rattle.qs_session_settling.proofs.Known.{Known, known_on, known_swapped, advances, to_left, to_right, some_right, KnownTicking, known_ticking, steady}
 use Rattle.qs_session_settling.proofs.Answering.{HasTaken, has_taken_on}

@@ -1,10 +1,9 @@
 -- Facts that steps keep, put together.
-use Rattle.std.proofs.Common.{◌≡◌, ◌⊎◌, Bool, ℕ, false, List, ◌∷◌, ◌++◌, inl, inr}
-use Rattle.std.specs.Prelude.{⊤, option_to_list}
-use Rattle.qs_session_channels.specs.End.{End, Packet, received, sent, sent_packet, ticked, tick_packets}
+use Rattle.std.proofs.Common.{◌⊎◌, Bool, ◌∷◌, inl, inr}
+use Rattle.std.specs.Prelude.{⊤}
 use Rattle.qs_session_settling.specs.Pairs.{Pair, swapped}
 use Rattle.qs_session_settling.proofs.Staying.{pair_of}
-use Rattle.qs_session_settling.proofs.Stages.{Bears, Keeps}
+use Rattle.qs_session_settling.proofs.Stages.{Keeps}
 
 -- where more holds
 pub keeps_for : {M : Type 0} → (hello : M) (quiet : Bool) (I J P : Pair M → Type 0) → ((pair : Pair M) → J pair → I pair) → Keeps hello quiet I P → Keeps hello quiet J P

@@ -1,15 +1,13 @@
 -- Two ends that know each other: they go on to, and take packets and tick in fewer ways.
-use Rattle.std.proofs.Common.{◌≡◌, ◌≢◌, ◌⊎◌, Bool, ℕ, zero, suc, ◌+◌, ◌<◌, ◌≤◌, true, false, refl, sym, arith, List, [], ◌∷◌, ◌++◌, length, inl, inr}
-use Rattle.std.specs.Prelude.{option_to_list}
-use Rattle.qs_session_channels.specs.End.{End, Packet, received, sent, sent_packet, ticked, tick_packets}
-use Rattle.qs_session_settling.specs.Pairs.{Pair, Action, Step, Left, Right, swapped, stepped, after}
+use Rattle.std.proofs.Common.{◌≡◌, ◌≢◌, ◌⊎◌, Bool, ℕ, ◌+◌, ◌≤◌, true, arith, List, [], ◌∷◌, ◌++◌, length, inl, inr}
+use Rattle.qs_session_channels.specs.End.{End, Packet, received, ticked, tick_packets}
+use Rattle.qs_session_settling.specs.Pairs.{Pair, Step, Left, Right, swapped, stepped}
 use Rattle.qs_session_settling.specs.Left.{IsLeft}
-use Rattle.qs_session_settling.specs.Settled.{KnowEachOther}
 use Rattle.qs_session_settling.proofs.Receiving.{Taking, Ignores, IsAsked, TakesIn, taking}
-use Rattle.qs_session_settling.proofs.Ticking.{Repeats, Acknowledges, Greets, Rests, Ticking, ticking, sending}
+use Rattle.qs_session_settling.proofs.Ticking.{Repeats, Acknowledges, Greets, Rests, Ticking, ticking}
 use Rattle.qs_session_settling.proofs.Staying.{pair_of, stays, other_way}
-use Rattle.qs_session_settling.proofs.Stages.{IsOf, Bears, Keeps, Stage, Stays, keeps_each, of_mirrored}
-use Rattle.qs_session_settling.proofs.Knowing.{KnowsLeft, knows_on}
+use Rattle.qs_session_settling.proofs.Stages.{IsOf, Keeps, Stage, Stays, keeps_each, of_mirrored}
+use Rattle.qs_session_settling.proofs.Learning.{KnowsLeft, knows_on}
 
 pub record Known {M : Type 0} (pair : Pair M) : Type 0 where
   pub is : IsLeft pair

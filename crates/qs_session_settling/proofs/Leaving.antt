@@ -1,8 +1,8 @@
 -- What a run of the network leaves of two nodes that run.
-use Rattle.std.proofs.Common.{◌≡◌, ◌≢◌, ◌⊎◌, Bool, ℕ, ◌==◌, ◌<◌, ◌≤◌, true, false, refl, sym, subst, arith, List, [], ◌∷◌, length, inl, inr, if◌then◌else◌}
+use Rattle.std.proofs.Common.{◌≡◌, ◌≢◌, ◌⊎◌, ℕ, ◌≤◌, true, subst, arith, List, [], ◌∷◌, length, inl, inr}
 use Rattle.std.proofs.lemmas.Bool.{cases_eq}
 use Rattle.std.proofs.lemmas.Bool.Decides.{nat_tests}
-use Rattle.qs_session_channels.specs.End.{End, Packet}
+use Rattle.qs_session_channels.specs.End.{Packet}
 use Rattle.qs_session_channels.specs.Network.{Network, Event, Among, Run, start}
 use Rattle.qs_session_channels.specs.Channels.{Channels, opening}
 use Rattle.qs_session_channels.specs.Shown.{Shows}
@@ -92,7 +92,7 @@ run_leaves hello inc es w run n m there back up =
     shown_leaves w d.0 d.2 (ranged hello inc es w (opening inc) (start_shown inc) run) (has_met hello inc es w (opening inc) (start_shown inc) run) n m there back up
 
 pub run_settles : {M : Type 0} → (hello : M) (inc : ℕ → ℕ) (es : List (Event M)) (w : Network M) → Run hello (start inc) es w → (n m : ℕ) (there back : List (Packet M)) → AreUp w n m there back
-    → (new : Pair M) → QuietPasses hello 12 (between w n m there back) new → IsSettled (between w n m there back) new
+    → (new : Pair M) → QuietPasses hello 11 (between w n m there back) new → IsSettled (between w n m there back) new
 run_settles hello inc es w run n m there back up new passes =
     let l = run_leaves hello inc es w run n m there back up in
     settles hello (between w n m there back) new l.0 l.1 passes

@@ -3,6 +3,7 @@ pub mod Ticking
 pub mod Staying
 pub mod Stages
 pub mod Within
+pub mod Learning
 pub mod Knowing
 pub mod Rows
 pub mod Known
@@ -21,3 +22,4 @@ pub mod Quieting
 pub mod AtRest
 pub mod Rising
 pub mod Leaving
+pub mod Plainly

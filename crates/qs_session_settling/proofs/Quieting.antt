@@ -1,13 +1,12 @@
 -- Two ends that have met and keep nothing put acknowledgements alone: these make nobody owe one, so soon none is put.
-use Rattle.std.proofs.Common.{◌≡◌, ◌≢◌, ◌⊎◌, Bool, ℕ, zero, suc, ◌+◌, ◌<◌, ◌≤◌, true, false, refl, sym, subst, arith, List, [], ◌∷◌, ◌++◌, length, length-append, inl, inr}
-use Rattle.std.specs.Prelude.{⊤, option_to_list}
-use Rattle.qs_session_channels.specs.End.{End, Packet, received, sent, sent_packet, ticked, tick_packets, packet}
+use Rattle.std.proofs.Common.{◌≡◌, ℕ, ◌≤◌, true, false, refl, sym, subst, arith, List, [], ◌∷◌, ◌++◌, length, length-append, inl, inr}
+use Rattle.qs_session_channels.specs.End.{End, Packet, received, tick_packets}
 use Rattle.qs_session_settling.specs.Pairs.{Pair, Step, swapped, stepped}
 use Rattle.qs_session_settling.proofs.Ticking.{Each, each_both, each_map}
 use Rattle.qs_session_settling.proofs.Staying.{pair_of}
 use Rattle.qs_session_settling.proofs.Stages.{IsOf, Bears, Keeps, Stage, Stays, keeps_each}
 use Rattle.qs_session_settling.proofs.Behind.{Behind, behind_more, behind_map, behind_none}
-use Rattle.qs_session_settling.proofs.Known.{Known, known_on, known_swapped, KnownTaking, known_taking, advances, to_left, to_right, some_left, some_right, KnownTicking, known_ticking}
+use Rattle.qs_session_settling.proofs.Known.{Known, known_on, known_swapped, KnownTaking, known_taking, advances, to_left, to_right, some_left, KnownTicking, known_ticking}
 use Rattle.qs_session_settling.proofs.Calming.{IsMet, is_met_on}
 use Rattle.qs_session_settling.proofs.Keeping.{keeps_swapped}
 

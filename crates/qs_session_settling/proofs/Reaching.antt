@@ -1,8 +1,7 @@
 -- How far an end will have handed up what the other sent, once it has taken the first packets of a link.
-use Rattle.std.proofs.Common.{◌≡◌, ◌≢◌, ◌⊎◌, Bool, ℕ, zero, suc, ◌+◌, ◌==◌, ◌<◌, ◌≤◌, true, false, refl, sym, subst, arith, List, [], ◌∷◌, ◌++◌, length, inl, inr, if◌then◌else◌}
+use Rattle.std.proofs.Common.{◌≡◌, ℕ, zero, suc, ◌+◌, ◌==◌, ◌≤◌, arith, List, [], ◌∷◌, ◌++◌, length, inl, inr, if◌then◌else◌}
 use Rattle.std.proofs.lemmas.Bool.Decides.{nat_tests}
 use Rattle.qs_session_channels.specs.End.{End, Packet, received, again, packet}
-use Rattle.qs_session_settling.proofs.Receiving.{Ignores, IsAsked, TakesIn}
 use Rattle.qs_session_settling.proofs.Known.{KnownTaking, known_taking}
 
 -- one more where the packet is the next of incarnation i for j

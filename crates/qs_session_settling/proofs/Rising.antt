@@ -1,5 +1,5 @@
 -- Over every run of the network: packets name no incarnation to come, and of two nodes that run one rose last.
-use Rattle.std.proofs.Common.{◌≡◌, ◌≢◌, ◌⊎◌, Bool, ℕ, ◌+◌, ◌==◌, ◌<◌, ◌≤◌, true, false, refl, sym, subst, ap, arith, List, [], ◌∷◌, ◌++◌, inl, inr, if◌then◌else◌}
+use Rattle.std.proofs.Common.{◌≡◌, ◌≢◌, ◌⊎◌, ℕ, ◌<◌, ◌≤◌, true, refl, sym, subst, arith, List, [], ◌∷◌, ◌++◌, inl, inr}
 use Rattle.std.specs.Prelude.{option_to_list}
 use Rattle.std.proofs.lemmas.Bool.{cases_eq}
 use Rattle.std.proofs.lemmas.Bool.Decides.{nat_tests}
@@ -10,7 +10,7 @@ use Rattle.qs_session_channels.specs.Shown.{Shows}
 use Rattle.qs_session_channels.proofs.Grown.{among_at}
 use Rattle.qs_session_channels.proofs.TickShown.{all_ticked}
 use Rattle.qs_session_channels.proofs.RunShown.{goes}
-use Rattle.qs_session_settling.proofs.Knowing.{Heard, heard}
+use Rattle.qs_session_settling.proofs.Learning.{Heard, heard}
 use Rattle.qs_session_settling.proofs.Ticking.{sending}
 
 -- n began after whoever m was before, so no dead incarnation of m has named it, and it has met none

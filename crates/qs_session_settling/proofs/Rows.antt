@@ -1,11 +1,10 @@
 -- Rows of passes: what they keep, what one of them makes, and rows of the swapped pair.
 use Rattle.std.proofs.Common.{◌≡◌, Bool, ℕ, zero, suc, ◌+◌, ◌&&◌, true, false, refl, subst, sym, ap, ◌∙◌, arith, List, [], ◌∷◌, length}
-use Rattle.std.specs.Prelude.{⊤}
-use Rattle.qs_session_settling.specs.Pairs.{Pair, Action, Take, Send, Tick, Step, Left, Right, swapped, stepped, after}
-use Rattle.qs_session_settling.specs.Passes.{of_left, of_right, takes_and_ticks, is_pass, sends_none, Passes, QuietPasses}
+use Rattle.qs_session_settling.specs.Pairs.{Pair, Take, Send, Tick, Step, Left, Right, swapped, after}
+use Rattle.qs_session_settling.specs.Passes.{of_left, of_right, takes_and_ticks, is_pass, Passes, QuietPasses}
 use Rattle.qs_session_settling.specs.Left.{IsLeft}
 use Rattle.qs_session_settling.proofs.Staying
-use Rattle.qs_session_settling.proofs.Stages.{IsOf, Keeps, Stage, Stays, staged, staged_left, stays_after, keeps_after, mirrored, after_mirrored, right_mirrored, of_mirrored, by_left, by_right}
+use Rattle.qs_session_settling.proofs.Stages.{IsOf, Keeps, Stage, Stays, staged, stays_after, keeps_after, mirrored, after_mirrored, right_mirrored, of_mirrored, by_left, by_right}
 
 abbrev pub Row : {M : Type 0} → M → Bool → ℕ → Pair M → Pair M → Type 0
 Row hello quiet zero old new = new ≡ old

@@ -1,10 +1,10 @@
 -- Facts that steps keep, and stages: what a pass makes of a pair, by what each step does to the packets that are still to be taken.
 --
 -- The right side takes what stood on the left side's link, and ticks; for the other way round pairs are swapped.
-use Rattle.std.proofs.Common.{◌≡◌, Bool, ℕ, zero, suc, ◌&&◌, true, false, refl, subst, sym, ◌∙◌, arith, List, [], ◌∷◌, ◌++◌, length, if◌then◌else◌}
-use Rattle.std.specs.Prelude.{⊤, option_to_list, Some, None}
+use Rattle.std.proofs.Common.{◌≡◌, Bool, ℕ, zero, suc, ◌&&◌, true, false, refl, subst, ◌∙◌, arith, List, [], ◌∷◌, ◌++◌, length, if◌then◌else◌}
+use Rattle.std.specs.Prelude.{⊤, option_to_list}
 use Rattle.qs_session_channels.specs.End.{End, Packet, received, sent, sent_packet, ticked, tick_packets}
-use Rattle.qs_session_settling.specs.Pairs.{Pair, Side, Action, Take, Send, Tick, Step, Left, Right, swapped, stepped, after}
+use Rattle.qs_session_settling.specs.Pairs.{Pair, Action, Take, Send, Tick, Step, Left, Right, swapped, stepped, after}
 use Rattle.qs_session_settling.specs.Passes.{of_left, of_right, takes_and_ticks, is_pass, sends_none}
 use Rattle.qs_session_settling.proofs.Staying.{pair_of}
 

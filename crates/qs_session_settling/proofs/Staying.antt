@@ -1,12 +1,12 @@
 -- Each step leaves what a run leaves.
-use Rattle.std.proofs.Common.{◌≡◌, ◌≢◌, ◌⊎◌, Bool, ℕ, ◌+◌, ◌==◌, ◌<◌, ◌≤◌, true, false, refl, sym, subst, arith, List, [], ◌∷◌, ◌++◌, length, inl, inr, if◌then◌else◌}
+use Rattle.std.proofs.Common.{◌≡◌, Bool, ℕ, ◌+◌, ◌==◌, ◌≤◌, true, false, refl, sym, subst, arith, List, [], ◌∷◌, ◌++◌, length, inl, inr}
 use Rattle.std.specs.Prelude.{option_to_list}
 use Rattle.std.proofs.lemmas.Bool.Decides.{nat_tests}
 use Rattle.qs_session_channels.specs.End.{End, Packet, received, sent, sent_packet, ticked, tick_packets, again, packet}
 use Rattle.qs_session_settling.specs.Pairs.{Pair, Action, Take, Send, Tick, Step, Left, Right, left_acted, swapped, stepped}
 use Rattle.qs_session_settling.specs.Left.{IsOld, AreOld, handed_up, IsLeftSide, IsLeft}
-use Rattle.qs_session_settling.proofs.Receiving.{Taking, Ignores, Learns, IsAsked, TakesIn, taking}
-use Rattle.qs_session_settling.proofs.Ticking.{Each, each_again, Strange, Repeats, Acknowledges, Greets, Rests, Ticking, ticking, Sending, sending}
+use Rattle.qs_session_settling.proofs.Receiving.{Taking, taking}
+use Rattle.qs_session_settling.proofs.Ticking.{Each, each_again, Ticking, ticking, sending}
 
 abbrev pub pair_of : {M : Type 0} → (a b : End M) (la lb : List (Packet M)) → Pair M
 pair_of a b la lb = record { left = record { end = a; link = la }; right = record { end = b; link = lb } }

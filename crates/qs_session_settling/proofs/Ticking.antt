@@ -1,8 +1,8 @@
 -- What an end puts as it ticks, and as it sends, by what it keeps, owes and has met.
 use Rattle.std.proofs.Common.{◌≡◌, ◌≢◌, ◌⊎◌, Bool, ℕ, ◌+◌, ◌==◌, true, false, refl, arith, List, [], ◌∷◌, ◌++◌, length, length-append, inl, inr, if◌then◌else◌}
-use Rattle.std.specs.Prelude.{⊤, Some, None, option_to_list}
+use Rattle.std.specs.Prelude.{⊤, option_to_list}
 use Rattle.std.proofs.lemmas.Bool.Decides.{nat_tests}
-use Rattle.qs_session_channels.specs.End.{End, Packet, sent, sent_packet, tick_packets, idle_packets, again, packet}
+use Rattle.qs_session_channels.specs.End.{End, Packet, sent, sent_packet, tick_packets, again, packet}
 
 -- each of these packets is so
 abbrev pub Each : {M : Type 0} → (Packet M → Type 0) → List (Packet M) → Type 0

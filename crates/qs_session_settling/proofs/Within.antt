@@ -1,5 +1,5 @@
 -- Packets among the first ones of a link.
-use Rattle.std.proofs.Common.{◌≡◌, ◌⊎◌, ℕ, zero, suc, List, [], ◌∷◌, ◌++◌, length, inl, inr}
+use Rattle.std.proofs.Common.{◌⊎◌, ℕ, zero, suc, List, [], ◌∷◌, ◌++◌, length, inl, inr}
 use Rattle.qs_session_channels.specs.End.{Packet}
 
 -- one of the first n is so

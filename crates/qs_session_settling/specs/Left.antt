@@ -1,5 +1,5 @@
 -- What a run leaves of two ends that run, and which of their incarnations began last.
-use Rattle.std.specs.Prelude.{◌≡◌, ◌≤◌, ◌<◌, ◌⊎◌, ℕ, ◌==◌, Bool, true, List, [], ◌∷◌, ⊤, if◌then◌else◌}
+use Rattle.std.specs.Prelude.{◌≡◌, ◌≤◌, ◌<◌, ◌⊎◌, ℕ, ◌==◌, true, List, [], ◌∷◌, ⊤, if◌then◌else◌}
 use Rattle.qs_session_channels.specs.End.{End, Packet}
 use Rattle.qs_session_settling.specs.Pairs.{Pair, swapped}
 

@@ -4,3 +4,4 @@ pub mod Passes
 pub mod Left
 pub mod Settled
 pub mod Ran
+pub mod Plain

@@ -1,5 +1,5 @@
 -- Two nodes of a run of the network, with any packets on the links between them that the run sent.
-use Rattle.std.specs.Prelude.{◌≡◌, ℕ, Bool, true, List, [], ◌∷◌, ⊤}
+use Rattle.std.specs.Prelude.{◌≡◌, ℕ, true, List, [], ◌∷◌, ⊤}
 use Rattle.qs_session_channels.specs.End.{Packet}
 use Rattle.qs_session_channels.specs.Network.{Network, Event, Among, Run, start}
 use Rattle.qs_session_settling.specs.Pairs.{Pair}
@@ -31,4 +31,4 @@ EachRunLeaves M = (hello : M) (inc : ℕ → ℕ) (es : List (Event M)) (w : Net
 -- so passes settle them, whatever the run has lost, repeated and held before, and whoever crashed in it
 abbrev pub EachRunSettles : (M : Type 0) → Type 0
 EachRunSettles M = (hello : M) (inc : ℕ → ℕ) (es : List (Event M)) (w : Network M) → Run hello (start inc) es w → (n m : ℕ) (there back : List (Packet M)) → AreUp w n m there back
-    → (new : Pair M) → QuietPasses hello 12 (between w n m there back) new → IsSettled (between w n m there back) new
+    → (new : Pair M) → QuietPasses hello 11 (between w n m there back) new → IsSettled (between w n m there back) new

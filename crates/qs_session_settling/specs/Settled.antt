@@ -1,5 +1,5 @@
 -- What passes make of two ends, from whatever a run left.
-use Rattle.std.specs.Prelude.{◌≡◌, ◌≤◌, ℕ, ◌+◌, ◌==◌, Bool, true, false, List, [], ◌∷◌, length, if◌then◌else◌}
+use Rattle.std.specs.Prelude.{◌≡◌, ◌≤◌, ℕ, ◌+◌, ◌==◌, true, false, [], ◌∷◌, length, if◌then◌else◌}
 use Rattle.qs_session_channels.specs.End.{End, tick_packets}
 use Rattle.qs_session_settling.specs.Pairs.{Pair, Step, stepped}
 use Rattle.qs_session_settling.specs.Passes.{Passes, QuietPasses, sends_none}
@@ -14,9 +14,9 @@ pub record KnowEachOther {M : Type 0} (pair : Pair M) : Type 0 where
 abbrev pub EachStays : (M : Type 0) → Type 0
 EachStays M = (hello : M) (step : Step M) (pair : Pair M) → IsLeft pair → IsLeft (stepped hello step pair)
 
--- after four passes each knows the other
+-- after three passes each knows the other
 abbrev pub EachAcquaints : (M : Type 0) → Type 0
-EachAcquaints M = (hello : M) (old new : Pair M) → IsLeft old → OneRoseLast old → Passes hello 4 old new → KnowEachOther new
+EachAcquaints M = (hello : M) (old new : Pair M) → IsLeft old → OneRoseLast old → Passes hello 3 old new → KnowEachOther new
 
 -- and each has met the other: it took a packet of that incarnation for its own
 pub record HaveMet {M : Type 0} (pair : Pair M) : Type 0 where
@@ -28,9 +28,9 @@ pub record HaveMet {M : Type 0} (pair : Pair M) : Type 0 where
 abbrev pub EachMeets : (M : Type 0) → Type 0
 EachMeets M = (hello : M) (old new : Pair M) → IsLeft old → KnowEachOther old → Passes hello 6 old new → HaveMet new
 
--- so ten do from whatever a run left
+-- so nine do from whatever a run left
 abbrev pub EachHasMet : (M : Type 0) → Type 0
-EachHasMet M = (hello : M) (old new : Pair M) → IsLeft old → OneRoseLast old → Passes hello 10 old new → HaveMet new
+EachHasMet M = (hello : M) (old new : Pair M) → IsLeft old → OneRoseLast old → Passes hello 9 old new → HaveMet new
 
 -- ---- what is kept is handed up
 
@@ -47,10 +47,10 @@ pub record AllHandedUp {M : Type 0} (old new : Pair M) : Type 0 where
 abbrev pub EachHandsUp : (M : Type 0) → Type 0
 EachHandsUp M = (hello : M) (old mid new : Pair M) → IsLeft old → KnowEachOther old → Passes hello 1 old mid → Passes hello 1 mid new → AllHandedUp mid new
 
--- so six hand up what was kept as they began, from whatever a run left: by an end that did not know the other's present incarnation,
+-- so five hand up what was kept as they began, from whatever a run left: by an end that did not know the other's present incarnation,
 -- nothing was kept for that
 abbrev pub EachHasHandedUp : (M : Type 0) → Type 0
-EachHasHandedUp M = (hello : M) (old new : Pair M) → IsLeft old → OneRoseLast old → Passes hello 6 old new → AllHandedUp old new
+EachHasHandedUp M = (hello : M) (old new : Pair M) → IsLeft old → OneRoseLast old → Passes hello 5 old new → AllHandedUp old new
 
 -- ---- nothing goes any more
 
@@ -80,7 +80,7 @@ EachRests M = (hello : M) (step : Step M) (pair : Pair M) → IsLeft pair → Is
 abbrev pub EachFallsSilent : (M : Type 0) → Type 0
 EachFallsSilent M = (hello : M) (old new : Pair M) → IsLeft old → HaveMet old → QuietPasses hello 7 old new → IsAtRest new
 
--- ---- together: what twelve passes without a send make of whatever a run left
+-- ---- together: what eleven passes without a send make of whatever a run left
 
 pub record IsSettled {M : Type 0} (old new : Pair M) : Type 0 where
   pub met : HaveMet new
@@ -88,4 +88,4 @@ pub record IsSettled {M : Type 0} (old new : Pair M) : Type 0 where
   pub rests : IsAtRest new
 
 abbrev pub EachSettles : (M : Type 0) → Type 0
-EachSettles M = (hello : M) (old new : Pair M) → IsLeft old → OneRoseLast old → QuietPasses hello 12 old new → IsSettled old new
+EachSettles M = (hello : M) (old new : Pair M) → IsLeft old → OneRoseLast old → QuietPasses hello 11 old new → IsSettled old new

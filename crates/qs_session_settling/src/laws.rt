@@ -1,4 +1,6 @@
 //! What passes make of two ends of a session, from whatever a run left of them.
+ghost use Rattle.std.specs.Prelude.{◌≡◌, ℕ};
+ghost use Rattle.qs_session_settling.specs.Plain.{EachHasPasses, parted_by, plainly, reunited, slow, slow_at_rest};
 ghost use Rattle.qs_session_settling.specs.Ran.{EachRunLeaves, EachRunSettles};
 ghost use Rattle.qs_session_settling.specs.Settled.{EachAcquaints, EachFallsSilent, EachHandsUp, EachHasHandedUp, EachHasMet, EachIsSilent, EachMeets, EachRests, EachSettles, EachStays};
 
@@ -7,18 +9,18 @@ pub fn stays<M>()
     ensures { EachStays M }
 {}
 
-/// After four passes, from whatever a run left, each of two ends knows the other's present incarnation.
+/// After three passes, from whatever a run left, each of two ends knows the other's present incarnation.
 pub fn acquaints<M>()
     ensures { EachAcquaints M }
 {}
 
-/// Six passes make two ends that know each other meet, each the other's present incarnation, so ten do from whatever a run left.
+/// Six passes make two ends that know each other meet, each the other's present incarnation, so nine do from whatever a run left.
 pub fn meets<M>()
     ensures knowing { EachMeets M }
     ensures whole { EachHasMet M }
 {}
 
-/// Behind one pass over two ends that know each other, each pass hands up whatever was kept as it began. So six passes hand up, from whatever a run left,
+/// Behind one pass over two ends that know each other, each pass hands up whatever was kept as it began. So five passes hand up, from whatever a run left,
 /// what each end kept for the other's present incarnation.
 pub fn hands_up<M>()
     ensures knowing { EachHandsUp M }
@@ -33,15 +35,28 @@ pub fn rests<M>()
     ensures stays { EachRests M }
 {}
 
-/// Twelve passes without a send settle two ends, from whatever a run left: they have met, each the other's present incarnation, what each kept for that
+/// Eleven passes without a send settle two ends, from whatever a run left: they have met, each the other's present incarnation, what each kept for that
 /// has been handed up, and nothing is sent any more.
 pub fn settles<M>()
     ensures { EachSettles M }
 {}
 
 /// Every run of the network leaves two nodes that run so, with any packets on the links between them that it sent, whatever is lost, repeated and held in
-/// it, and whoever crashes: so twelve passes without a send settle them.
+/// it, and whoever crashes: so eleven passes without a send settle them.
 pub fn runs_settle<M>()
     ensures leaves { EachRunLeaves M }
     ensures settles { EachRunSettles M }
+{}
+
+/// Whatever stands on the links, there are passes without a send: those in which each side takes just that, and ticks.
+pub fn passes_are_there<M>()
+    ensures { EachHasPasses M }
+{}
+
+/// Whole stretches by evaluation. A node that rose again has its messages handed up and acknowledged; where a packet of a dead incarnation of the other
+/// node comes first, what waited is put for that, and given up. And a stretch that takes seven passes.
+pub fn rows()
+    ensures reunited { plainly 0 5 (parted_by 2) ≡ reunited 2 }
+    ensures given_up { plainly 0 3 (parted_by 1) ≡ reunited 0 }
+    ensures slow { plainly 0 7 slow ≡ slow_at_rest }
 {}
