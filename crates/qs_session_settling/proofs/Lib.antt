@@ -23,3 +23,5 @@ pub mod AtRest
 pub mod Rising
 pub mod Leaving
 pub mod Plainly
+pub mod GoingOn
+pub mod Delivering

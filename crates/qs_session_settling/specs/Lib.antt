@@ -4,4 +4,5 @@ pub mod Passes
 pub mod Left
 pub mod Settled
 pub mod Ran
+pub mod Delivered
 pub mod Plain

@@ -1,5 +1,6 @@
 //! What passes make of two ends of a session, from whatever a run left of them.
 ghost use Rattle.std.specs.Prelude.{◌≡◌, ℕ};
+ghost use Rattle.qs_session_settling.specs.Delivered.{EachDelivers, EachGoesOn, EachRunDelivers};
 ghost use Rattle.qs_session_settling.specs.Plain.{EachHasPasses, parted_by, plainly, reunited, slow, slow_at_rest};
 ghost use Rattle.qs_session_settling.specs.Ran.{EachRunLeaves, EachRunSettles};
 ghost use Rattle.qs_session_settling.specs.Settled.{EachAcquaints, EachFallsSilent, EachHandsUp, EachHasHandedUp, EachHasMet, EachIsSilent, EachMeets, EachRests, EachSettles, EachStays};
@@ -46,6 +47,14 @@ pub fn settles<M>()
 pub fn runs_settle<M>()
     ensures leaves { EachRunLeaves M }
     ensures settles { EachRunSettles M }
+{}
+
+/// Steps over two nodes of a network are events of it. At rest all that was posted between the two incarnations has been handed up, in order, each once: so
+/// eleven passes without a send, from whatever a run left, are a run on to a network in which it has.
+pub fn runs_deliver<M>()
+    ensures goes { EachGoesOn M }
+    ensures delivers { EachDelivers M }
+    ensures whole { EachRunDelivers M }
 {}
 
 /// Whatever stands on the links, there are passes without a send: those in which each side takes just that, and ticks.
