@@ -4,7 +4,7 @@ use Rattle.std.proofs.lemmas.Bool.Decides.{nat_tests}
 use Rattle.qs_session_channels.specs.End.{End, Packet, ticked, tick_packets}
 use Rattle.qs_session_settling.specs.Pairs.{Pair, Action, Take, Send, Tick, Step, Left, Right, swapped, stepped}
 use Rattle.qs_session_settling.specs.Passes.{QuietPasses, sends_none}
-use Rattle.qs_session_settling.specs.Left.{IsLeft, OneRoseLast, handed_up}
+use Rattle.qs_session_settling.specs.Consistent.{IsConsistent, OneRoseLast, handed_up}
 use Rattle.qs_session_settling.specs.Settled.{KnowEachOther, HaveMet, IsAtRest, AllHandedUp, IsSettled, sent_to}
 use Rattle.qs_session_settling.proofs.Staying.{pair_of, other_way}
 use Rattle.qs_session_settling.proofs.Rows.{Row, quiet_row, parted, joined, stays_row, keeps_row, staged_row, row_mirrored}
@@ -23,16 +23,16 @@ none_of (x ∷ xs) is = absurd (grind (arith, is))
 
 -- ---- at rest
 
-known_of : {M : Type 0} → (pair : Pair M) → IsLeft pair → KnowEachOther pair → Known pair
+known_of : {M : Type 0} → (pair : Pair M) → IsConsistent pair → KnowEachOther pair → Known pair
 known_of pair is k = record { is = is; left = k.left; right = k.right }
 
 rest_swapped : {M : Type 0} → (pair : Pair M) → IsAtRest pair → IsAtRest (swapped pair)
 rest_swapped pair r = record { known = record { left = r.known.right; right = r.known.left }; left = r.right; right = r.left; left_link = r.right_link; right_link = r.left_link }
 
-left_silent : {M : Type 0} → (hello : M) (pair : Pair M) → IsLeft pair → IsAtRest pair → (stamp : ℕ) → tick_packets hello pair.left.end stamp ≡ []
+left_silent : {M : Type 0} → (hello : M) (pair : Pair M) → IsConsistent pair → IsAtRest pair → (stamp : ℕ) → tick_packets hello pair.left.end stamp ≡ []
 left_silent hello pair is r stamp = puts_none hello pair stamp (known_of pair is r.known) r.left.met r.left.owed (ap length r.left.kept)
 
-pub is_silent : {M : Type 0} → (hello : M) (pair : Pair M) → IsLeft pair → IsAtRest pair → (stamp : ℕ) → (tick_packets hello pair.left.end stamp ≡ []) × (tick_packets hello pair.right.end stamp ≡ [])
+pub is_silent : {M : Type 0} → (hello : M) (pair : Pair M) → IsConsistent pair → IsAtRest pair → (stamp : ℕ) → (tick_packets hello pair.left.end stamp ≡ []) × (tick_packets hello pair.right.end stamp ≡ [])
 is_silent hello pair is r stamp = (left_silent hello pair is r stamp, left_silent hello (swapped pair) (other_way pair is) (rest_swapped pair r) stamp)
 
 ticked_same : {M : Type 0} → (e : End M) → e.owed ≡ false → ticked e ≡ e
@@ -41,7 +41,7 @@ ticked_same e off = ap (λ owed. record e { owed = owed }) (sym off)
 put_none : {M : Type 0} → (xs ys : List (Packet M)) → xs ≡ [] → ys ≡ [] → xs ++ ys ≡ xs
 put_none xs ys none more = grind (arith, none, more)
 
-left_rests : {M : Type 0} → (hello : M) (action : Action M) (a b : End M) (la lb : List (Packet M)) → IsLeft (pair_of a b la lb) → IsAtRest (pair_of a b la lb) → sends_none (Left action ∷ []) ≡ true → stepped hello (Left action) (pair_of a b la lb) ≡ pair_of a b la lb
+left_rests : {M : Type 0} → (hello : M) (action : Action M) (a b : End M) (la lb : List (Packet M)) → IsConsistent (pair_of a b la lb) → IsAtRest (pair_of a b la lb) → sends_none (Left action ∷ []) ≡ true → stepped hello (Left action) (pair_of a b la lb) ≡ pair_of a b la lb
 left_rests hello Take a b la [] is r none = refl
 left_rests hello Take a b la (p ∷ ps) is r none = absurd (grind (arith, ap length r.right_link))
 left_rests hello (Send x stamp) a b la lb is r none = absurd (grind (arith, none))
@@ -54,7 +54,7 @@ right_none Take none = refl
 right_none (Send x stamp) none = absurd (grind (arith, none))
 right_none (Tick stamp) none = refl
 
-pub rests : {M : Type 0} → (hello : M) (step : Step M) (pair : Pair M) → IsLeft pair → IsAtRest pair → sends_none (step ∷ []) ≡ true → stepped hello step pair ≡ pair
+pub rests : {M : Type 0} → (hello : M) (step : Step M) (pair : Pair M) → IsConsistent pair → IsAtRest pair → sends_none (step ∷ []) ≡ true → stepped hello step pair ≡ pair
 rests hello (Left action) pair is r none = left_rests hello action pair.left.end pair.right.end pair.left.link pair.right.link is r none
 rests hello (Right action) pair is r none =
     ap swapped (left_rests hello action pair.right.end pair.left.end pair.right.link pair.left.link (other_way pair is) (rest_swapped pair r) (right_none action none))
@@ -109,7 +109,7 @@ stay_met hello quiet n old new k m row =
       right = keeps_row hello quiet Known IsMet (known_on hello quiet) (is_met_on hello quiet) n (swapped old) (swapped new) (row_mirrored hello quiet n old new row) (known_swapped old k) m.right;
     }
 
-pub falls_silent : {M : Type 0} → (hello : M) (old new : Pair M) → IsLeft old → HaveMet old → QuietPasses hello 7 old new → IsAtRest new
+pub falls_silent : {M : Type 0} → (hello : M) (old new : Pair M) → IsConsistent old → HaveMet old → QuietPasses hello 7 old new → IsAtRest new
 falls_silent hello old new is m passes =
     let k = known_of old is m.known in
     let p = parted hello true 5 2 old new (quiet_row hello 7 old new passes) in
@@ -131,7 +131,7 @@ up_on hello n old mid new k up row =
     }
 
 -- what was kept is handed up in the first five
-up_whole : {M : Type 0} → (hello : M) (old new : Pair M) → IsLeft old → OneRoseLast old → Row hello true 11 old new → AllHandedUp old new
+up_whole : {M : Type 0} → (hello : M) (old new : Pair M) → IsConsistent old → OneRoseLast old → Row hello true 11 old new → AllHandedUp old new
 up_whole hello old new is r row =
     let p = parted hello true 5 6 old new row in
     let q = parted hello true 3 2 old p.0 p.1 in
@@ -139,7 +139,7 @@ up_whole hello old new is r row =
     up_on hello 6 old p.0 new k (handed_up_whole hello true old p.0 is r p.1) p.2
 
 -- after three they know each other, after five more nothing is kept, after one more they have met, and two bring them to rest
-rest_whole : {M : Type 0} → (hello : M) (old new : Pair M) → IsLeft old → OneRoseLast old → Row hello true 11 old new → IsAtRest new
+rest_whole : {M : Type 0} → (hello : M) (old new : Pair M) → IsConsistent old → OneRoseLast old → Row hello true 11 old new → IsAtRest new
 rest_whole hello old new is r row =
     let p = parted hello true 3 8 old new row in
     let k = known_first hello true old p.0 is r p.1 in
@@ -148,10 +148,10 @@ rest_whole hello old new is r row =
     let m = met hello true p.0 t.0 k (joined hello true 5 1 6 p.0 q.0 t.0 refl q.1 t.1) in
     come_to_rest hello t.0 new (still_by hello 1 p.0 q.0 t.0 k q.1 t.1 m) t.2
 
-pub settled : {M : Type 0} → (hello : M) (old new : Pair M) → IsLeft old → OneRoseLast old → Row hello true 11 old new → IsSettled old new
+pub settled : {M : Type 0} → (hello : M) (old new : Pair M) → IsConsistent old → OneRoseLast old → Row hello true 11 old new → IsSettled old new
 settled hello old new is r row =
     let rest = rest_whole hello old new is r row in
     record { met = record { known = rest.known; left = rest.left.met; right = rest.right.met }; handed_up = up_whole hello old new is r row; rests = rest }
 
-pub settles : {M : Type 0} → (hello : M) (old new : Pair M) → IsLeft old → OneRoseLast old → QuietPasses hello 11 old new → IsSettled old new
+pub settles : {M : Type 0} → (hello : M) (old new : Pair M) → IsConsistent old → OneRoseLast old → QuietPasses hello 11 old new → IsSettled old new
 settles hello old new is r passes = settled hello old new is r (quiet_row hello 11 old new passes)

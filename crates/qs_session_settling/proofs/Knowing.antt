@@ -4,12 +4,12 @@ use Rattle.std.specs.Prelude.{⊤, option_to_list}
 use Rattle.qs_session_channels.specs.End.{End, Packet, received, sent, sent_packet, ticked, tick_packets, again}
 use Rattle.qs_session_settling.specs.Pairs.{Pair, Step, swapped, stepped}
 use Rattle.qs_session_settling.specs.Passes.{Passes}
-use Rattle.qs_session_settling.specs.Left.{IsLeft, OneRoseLast}
+use Rattle.qs_session_settling.specs.Consistent.{IsConsistent, OneRoseLast}
 use Rattle.qs_session_settling.specs.Settled.{KnowEachOther}
 use Rattle.qs_session_settling.proofs.Ticking.{Ticking, ticking, sending}
 use Rattle.qs_session_settling.proofs.Staying.{pair_of, stays, other_way}
 use Rattle.qs_session_settling.proofs.Stages.{Bears, Keeps, Stage, Stays, keeps_each}
-use Rattle.qs_session_settling.proofs.Rows.{Row, row_of, parted, stays_row, keeps_row, left_on, staged_row, row_mirrored}
+use Rattle.qs_session_settling.proofs.Rows.{Row, row_of, parted, stays_row, keeps_row, consistent_on, staged_row, row_mirrored}
 use Rattle.qs_session_settling.proofs.Within.{Within, within_more, within_front, within_behind}
 use Rattle.qs_session_settling.proofs.Learning.{heard, KnowsLeft, knows_on, RightRose, rose_on}
 
@@ -19,11 +19,11 @@ abbrev IsSure : {M : Type 0} → Pair M → Type 0
 IsSure pair = RightRose pair ⊎ KnowsLeft pair
 
 abbrev Sure : {M : Type 0} → Pair M → Type 0
-Sure pair = IsLeft pair × IsSure pair
+Sure pair = IsConsistent pair × IsSure pair
 
-sure_by : {M : Type 0} → (hello : M) (step : Step M) (pair : Pair M) → IsLeft pair → IsSure pair → IsSure (stepped hello step pair)
-sure_by hello step pair is (inl r) = inl (keeps_each hello false IsLeft RightRose (rose_on hello) step tt pair is r)
-sure_by hello step pair is (inr k) = inr (keeps_each hello false IsLeft KnowsLeft (knows_on hello false) step tt pair is k)
+sure_by : {M : Type 0} → (hello : M) (step : Step M) (pair : Pair M) → IsConsistent pair → IsSure pair → IsSure (stepped hello step pair)
+sure_by hello step pair is (inl r) = inl (keeps_each hello false IsConsistent RightRose (rose_on hello) step tt pair is r)
+sure_by hello step pair is (inr k) = inr (keeps_each hello false IsConsistent KnowsLeft (knows_on hello false) step tt pair is k)
 
 sure_on : {M : Type 0} → (hello : M) → Stays hello false Sure
 sure_on hello step of pair is = (stays hello step pair is.0, sure_by hello step pair is.0 is.1)
@@ -108,7 +108,7 @@ hears_took : {M : Type 0} → (n : ℕ) (a b c : End M) (la lb lc : List (Packet
 hears_took n a b c la lb lc mine (inl h) = inl (subst (λ i. Within (By i) n la) (sym mine) h)
 hears_took n a b c la lb lc mine (inr k) = inr (grind (arith, k, mine))
 
-hears_on : {M : Type 0} → (hello : M) (n : ℕ) → Bears hello false IsLeft (Hears n)
+hears_on : {M : Type 0} → (hello : M) (n : ℕ) → Bears hello false IsConsistent (Hears n)
 hears_on hello n = record {
   left_takes = λ a b la ps p is h. hears_took n a b (received a p) la (p ∷ ps) ps (heard a p).mine h;
   left_sends = λ on a b la lb x stamp is h. hears_same n a b (sent a x) b la (option_to_list (sent_packet a x stamp)) lb lb (sending a x stamp).mine refl h;
@@ -121,7 +121,7 @@ hears_on hello n = record {
     hears_kept n a b d la lb lc known (inl h) = inl h
     hears_kept n a b d la lb lc known (inr k) = inr (grind (arith, k, known))
 
-hears_next : {M : Type 0} → (n : ℕ) (a b : End M) (ps lb : List (Packet M)) (p : Packet M) → IsLeft (pair_of a b (p ∷ ps) lb) → Hears (suc n) (pair_of a b (p ∷ ps) lb) → Hears n (pair_of a (received b p) ps lb)
+hears_next : {M : Type 0} → (n : ℕ) (a b : End M) (ps lb : List (Packet M)) (p : Packet M) → IsConsistent (pair_of a b (p ∷ ps) lb) → Hears (suc n) (pair_of a b (p ∷ ps) lb) → Hears n (pair_of a (received b p) ps lb)
 hears_next n a b ps lb p is (inl (inl here)) = inr (grind (arith, here, (heard b p).known, (heard b p).heard, is.left.old.0.by, is.right.knows))
 hears_next n a b ps lb p is (inl (inr later)) = inl later
 hears_next n a b ps lb p is (inr k) = inr (grind (arith, k, (heard b p).known, is.left.old.0.by))
@@ -134,10 +134,10 @@ hears_end : {M : Type 0} → (pair : Pair M) → Hears 0 pair → KnowsLeft pair
 hears_end pair (inl h) = absurd h
 hears_end pair (inr k) = k
 
-hears_more : {M : Type 0} → (a b : End M) (ps lb : List (Packet M)) (p : Packet M) → IsLeft (pair_of a b (p ∷ ps) lb) → Hears 0 (pair_of a b (p ∷ ps) lb) → Hears 0 (pair_of a (received b p) ps lb)
+hears_more : {M : Type 0} → (a b : End M) (ps lb : List (Packet M)) (p : Packet M) → IsConsistent (pair_of a b (p ∷ ps) lb) → Hears 0 (pair_of a b (p ∷ ps) lb) → Hears 0 (pair_of a (received b p) ps lb)
 hears_more a b ps lb p is h = inr (grind (arith, hears_end (pair_of a b (p ∷ ps) lb) h, (heard b p).known, is.left.old.0.by))
 
-hearing : {M : Type 0} → (hello : M) → Stage hello false IsLeft Hears KnowsLeft
+hearing : {M : Type 0} → (hello : M) → Stage hello false IsConsistent Hears KnowsLeft
 hearing hello = record {
   bears = hears_on hello;
   takes = hears_next;
@@ -152,7 +152,7 @@ hearing hello = record {
 abbrev Learned : {M : Type 0} → Pair M → Type 0
 Learned pair = KnowsLeft pair × Says pair
 
-learned_on : {M : Type 0} → (hello : M) → Keeps hello false IsLeft Learned
+learned_on : {M : Type 0} → (hello : M) → Keeps hello false IsConsistent Learned
 learned_on hello = let k = knows_on hello false in let s = says_on hello in record {
   bears = record {
     left_takes = λ a b la ps p is h. (k.bears.left_takes a b la ps p is h.0, s.bears.left_takes a b la ps p (is, inr h.0) h.1);
@@ -164,7 +164,7 @@ learned_on hello = let k = knows_on hello false in let s = says_on hello in reco
   right_takes = λ a b ps lb p is h. (k.right_takes a b ps lb p is h.0, s.right_takes a b ps lb p (is, inr h.0) h.1);
 }
 
-learning : {M : Type 0} → (hello : M) → Stage hello false IsLeft Hears Learned
+learning : {M : Type 0} → (hello : M) → Stage hello false IsConsistent Hears Learned
 learning hello = record {
   bears = hears_on hello;
   takes = hears_next;
@@ -177,24 +177,24 @@ learning hello = record {
 -- ---- pass by pass
 
 -- the right end, which rose last, says something; the left one learns of it, and says something; and the right one learns of that
-by_right_rose : {M : Type 0} → (hello : M) (old new : Pair M) → IsLeft old → RightRose old → Row hello false 3 old new → KnowEachOther new
+by_right_rose : {M : Type 0} → (hello : M) (old new : Pair M) → IsConsistent old → RightRose old → Row hello false 3 old new → KnowEachOther new
 by_right_rose hello old new is r row =
     let p = parted hello false 1 2 old new row in
     let q = parted hello false 1 1 p.0 new p.2 in
     let said = staged_row hello false Sure (λ n x. ⊤) Says (sure_on hello) (saying hello) old p.0 p.1 (is, inl r) tt in
-    let one = other_way p.0 (stays_row hello false IsLeft (left_on hello false) 1 old p.0 p.1 is) in
+    let one = other_way p.0 (stays_row hello false IsConsistent (consistent_on hello false) 1 old p.0 p.1 is) in
     let back = row_mirrored hello false 1 p.0 q.0 q.1 in
-    let learned = staged_row hello false IsLeft Hears Learned (left_on hello false) (learning hello) (swapped p.0) (swapped q.0) back one said in
-    let two = stays_row hello false IsLeft (left_on hello false) 1 (swapped p.0) (swapped q.0) back one in
-    let right = staged_row hello false IsLeft Hears KnowsLeft (left_on hello false) (hearing hello) q.0 new q.2 (other_way (swapped q.0) two) learned.1 in
-    record { left = keeps_row hello false IsLeft KnowsLeft (left_on hello false) (knows_on hello false) 1 (swapped q.0) (swapped new) (row_mirrored hello false 1 q.0 new q.2) two learned.0; right = right }
+    let learned = staged_row hello false IsConsistent Hears Learned (consistent_on hello false) (learning hello) (swapped p.0) (swapped q.0) back one said in
+    let two = stays_row hello false IsConsistent (consistent_on hello false) 1 (swapped p.0) (swapped q.0) back one in
+    let right = staged_row hello false IsConsistent Hears KnowsLeft (consistent_on hello false) (hearing hello) q.0 new q.2 (other_way (swapped q.0) two) learned.1 in
+    record { left = keeps_row hello false IsConsistent KnowsLeft (consistent_on hello false) (knows_on hello false) 1 (swapped q.0) (swapped new) (row_mirrored hello false 1 q.0 new q.2) two learned.0; right = right }
 
 -- three, and each knows the other
-pub acquainted : {M : Type 0} → (hello : M) (old new : Pair M) → IsLeft old → OneRoseLast old → Row hello false 3 old new → KnowEachOther new
+pub acquainted : {M : Type 0} → (hello : M) (old new : Pair M) → IsConsistent old → OneRoseLast old → Row hello false 3 old new → KnowEachOther new
 acquainted hello old new is (inl r) row =
     let k = by_right_rose hello (swapped old) (swapped new) (other_way old is) r (row_mirrored hello false 3 old new row) in
     record { left = k.right; right = k.left }
 acquainted hello old new is (inr r) row = by_right_rose hello old new is r row
 
-pub acquaints : {M : Type 0} → (hello : M) (old new : Pair M) → IsLeft old → OneRoseLast old → Passes hello 3 old new → KnowEachOther new
+pub acquaints : {M : Type 0} → (hello : M) (old new : Pair M) → IsConsistent old → OneRoseLast old → Passes hello 3 old new → KnowEachOther new
 acquaints hello old new is r passes = acquainted hello old new is r (row_of hello 3 old new passes)

@@ -2,7 +2,7 @@
 use Rattle.std.proofs.Common.{◌≡◌, ◌≢◌, ◌⊎◌, Bool, ℕ, ◌+◌, ◌≤◌, true, arith, List, [], ◌∷◌, ◌++◌, length, inl, inr}
 use Rattle.qs_session_channels.specs.End.{End, Packet, received, ticked, tick_packets}
 use Rattle.qs_session_settling.specs.Pairs.{Pair, Step, Left, Right, swapped, stepped}
-use Rattle.qs_session_settling.specs.Left.{IsLeft}
+use Rattle.qs_session_settling.specs.Consistent.{IsConsistent}
 use Rattle.qs_session_settling.proofs.Receiving.{Taking, Ignores, IsAsked, TakesIn, taking}
 use Rattle.qs_session_settling.proofs.Ticking.{Repeats, Acknowledges, Greets, Rests, Ticking, ticking}
 use Rattle.qs_session_settling.proofs.Staying.{pair_of, stays, other_way}
@@ -10,17 +10,17 @@ use Rattle.qs_session_settling.proofs.Stages.{IsOf, Keeps, Stage, Stays, keeps_e
 use Rattle.qs_session_settling.proofs.Learning.{KnowsLeft, knows_on}
 
 pub record Known {M : Type 0} (pair : Pair M) : Type 0 where
-  pub is : IsLeft pair
+  pub is : IsConsistent pair
   pub left : pair.left.end.known ≡ pair.right.end.mine
   pub right : pair.right.end.known ≡ pair.left.end.mine
 
 pub known_swapped : {M : Type 0} → (pair : Pair M) → Known pair → Known (swapped pair)
 known_swapped pair k = record { is = other_way pair k.is; left = k.right; right = k.left }
 
-right_knows : {M : Type 0} → (hello : M) (quiet : Bool) (step : Step M) → IsOf quiet (step ∷ []) → (pair : Pair M) → IsLeft pair → KnowsLeft pair → KnowsLeft (stepped hello step pair)
-right_knows hello quiet step of pair is k = keeps_each hello quiet IsLeft KnowsLeft (knows_on hello quiet) step of pair is k
+right_knows : {M : Type 0} → (hello : M) (quiet : Bool) (step : Step M) → IsOf quiet (step ∷ []) → (pair : Pair M) → IsConsistent pair → KnowsLeft pair → KnowsLeft (stepped hello step pair)
+right_knows hello quiet step of pair is k = keeps_each hello quiet IsConsistent KnowsLeft (knows_on hello quiet) step of pair is k
 
-left_knows : {M : Type 0} → (hello : M) (quiet : Bool) (step : Step M) → IsOf quiet (step ∷ []) → (pair : Pair M) → IsLeft pair → KnowsLeft (swapped pair) → KnowsLeft (swapped (stepped hello step pair))
+left_knows : {M : Type 0} → (hello : M) (quiet : Bool) (step : Step M) → IsOf quiet (step ∷ []) → (pair : Pair M) → IsConsistent pair → KnowsLeft (swapped pair) → KnowsLeft (swapped (stepped hello step pair))
 left_knows hello quiet (Left action) of pair is k = right_knows hello quiet (Right action) (of_mirrored quiet (Left action ∷ []) of) (swapped pair) (other_way pair is) k
 left_knows hello quiet (Right action) of pair is k = right_knows hello quiet (Left action) (of_mirrored quiet (Right action ∷ []) of) (swapped pair) (other_way pair is) k
 

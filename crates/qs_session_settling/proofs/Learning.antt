@@ -4,7 +4,7 @@ use Rattle.std.specs.Prelude.{option_to_list}
 use Rattle.std.proofs.lemmas.Bool.{cases_eq}
 use Rattle.qs_session_channels.specs.End.{End, Packet, received, sent, sent_packet, ticked, tick_packets, packet}
 use Rattle.qs_session_settling.specs.Pairs.{Pair, swapped}
-use Rattle.qs_session_settling.specs.Left.{AreBefore, IsLeft, RoseLast}
+use Rattle.qs_session_settling.specs.Consistent.{AreBefore, IsConsistent, RoseLast}
 use Rattle.qs_session_settling.proofs.Receiving.{Taking, taking}
 use Rattle.qs_session_settling.proofs.Ticking.{Each, each_again, Ticking, ticking, sending}
 use Rattle.qs_session_settling.proofs.Stages.{Keeps}
@@ -30,7 +30,7 @@ heard e p = by_taking e (received e p) p (taking e p)
 abbrev pub KnowsLeft : {M : Type 0} → Pair M → Type 0
 KnowsLeft pair = pair.right.end.known ≡ pair.left.end.mine
 
-pub knows_on : {M : Type 0} → (hello : M) (quiet : Bool) → Keeps hello quiet IsLeft KnowsLeft
+pub knows_on : {M : Type 0} → (hello : M) (quiet : Bool) → Keeps hello quiet IsConsistent KnowsLeft
 knows_on hello quiet = record {
   bears = record {
     left_takes = λ a b la ps p is k. grind (arith, k, (heard a p).mine);
@@ -73,7 +73,7 @@ sends_each {M} Q e x stamp is = by_known (cases_eq e.known 0)
 abbrev pub RightRose : {M : Type 0} → Pair M → Type 0
 RightRose pair = RoseLast (swapped pair)
 
-pub rose_on : {M : Type 0} → (hello : M) → Keeps hello false IsLeft RightRose
+pub rose_on : {M : Type 0} → (hello : M) → Keeps hello false IsConsistent RightRose
 rose_on hello = record {
   bears = record {
     left_takes = λ a b la ps p is r. record {

@@ -11,7 +11,7 @@ use Rattle.qs_session_channels.proofs.RunShown.{runs, start_shown}
 use Rattle.qs_session_channels.proofs.Meeting.{has_met}
 use Rattle.qs_session_settling.specs.Pairs.{Pair}
 use Rattle.qs_session_settling.specs.Passes.{QuietPasses}
-use Rattle.qs_session_settling.specs.Left.{IsOld, AreOld, handed_up, IsLeftSide, IsLeft, AreBefore, RoseLast, OneRoseLast}
+use Rattle.qs_session_settling.specs.Consistent.{IsOld, AreOld, handed_up, IsConsistentSide, IsConsistent, AreBefore, RoseLast, OneRoseLast}
 use Rattle.qs_session_settling.specs.Settled.{IsSettled}
 use Rattle.qs_session_settling.specs.Ran.{AreAmong, between, AreUp}
 use Rattle.qs_session_settling.proofs.Rising.{Rose, Ranged, ranged}
@@ -58,7 +58,7 @@ module _ {M : Type 0} (w : Network M) (c : Channels M) (r : Shows w c) (k : Rang
           let zero : (w.end n m).acked ≤ 0 = subst (λ xs. (w.end n m).acked ≤ length xs) none acked in
           grind (arith, zero)
 
-  side : (n m : ℕ) (ps : List (Packet M)) → w.up n ≡ true → w.up m ≡ true → AreAmong (w.packets n m) ps → IsLeftSide (w.end n m) (w.end m n) ps
+  side : (n m : ℕ) (ps : List (Packet M)) → w.up n ≡ true → w.up m ≡ true → AreAmong (w.packets n m) ps → IsConsistentSide (w.end n m) (w.end m n) ps
   side n m ps one two sent =
       let own = r.own n m one in
       let other = r.own m n two in
@@ -81,12 +81,12 @@ module _ {M : Type 0} (w : Network M) (c : Channels M) (r : Shows w c) (k : Rang
   one_last n m there back up (inl rose) = inl (last n m there back up.left up.right up.sent_back rose)
   one_last n m there back up (inr rose) = inr (last m n back there up.right up.left up.sent_there rose)
 
-  pub shown_leaves : (n m : ℕ) (there back : List (Packet M)) → AreUp w n m there back → IsLeft (between w n m there back) × OneRoseLast (between w n m there back)
+  pub shown_leaves : (n m : ℕ) (there back : List (Packet M)) → AreUp w n m there back → IsConsistent (between w n m there back) × OneRoseLast (between w n m there back)
   shown_leaves n m there back up =
       (record { left = side n m there up.left up.right up.sent_there; right = side m n back up.right up.left up.sent_back }, one_last n m there back up (k.rose n m up.left up.right))
 
 pub run_leaves : {M : Type 0} → (hello : M) (inc : ℕ → ℕ) (es : List (Event M)) (w : Network M) → Run hello (start inc) es w → (n m : ℕ) (there back : List (Packet M)) → AreUp w n m there back
-    → IsLeft (between w n m there back) × OneRoseLast (between w n m there back)
+    → IsConsistent (between w n m there back) × OneRoseLast (between w n m there back)
 run_leaves hello inc es w run n m there back up =
     let d = runs hello es (start inc) w (opening inc) (start_shown inc) run in
     shown_leaves w d.0 d.2 (ranged hello inc es w (opening inc) (start_shown inc) run) (has_met hello inc es w (opening inc) (start_shown inc) run) n m there back up

@@ -3,10 +3,10 @@ use Rattle.std.proofs.Common.{◌≡◌, Bool, ℕ, true, false, arith, inl, inr
 use Rattle.std.specs.Prelude.{⊤}
 use Rattle.qs_session_settling.specs.Pairs.{Pair, swapped}
 use Rattle.qs_session_settling.specs.Passes.{Passes}
-use Rattle.qs_session_settling.specs.Left.{IsLeft, OneRoseLast}
+use Rattle.qs_session_settling.specs.Consistent.{IsConsistent, OneRoseLast}
 use Rattle.qs_session_settling.specs.Settled.{KnowEachOther, HaveMet}
 use Rattle.qs_session_settling.proofs.Knowing.{acquainted}
-use Rattle.qs_session_settling.proofs.Rows.{Row, row_of, louder, left_on, parted, stays_row, keeps_row, staged_row, row_mirrored}
+use Rattle.qs_session_settling.proofs.Rows.{Row, row_of, louder, consistent_on, parted, stays_row, keeps_row, staged_row, row_mirrored}
 use Rattle.qs_session_settling.proofs.Behind.{behind_all}
 use Rattle.qs_session_settling.proofs.Known.{Known, known_on, known_swapped}
 use Rattle.qs_session_settling.proofs.Answering.{Answered, AllOwing}
@@ -55,17 +55,17 @@ met hello quiet old new k row =
     let last = stays_row hello quiet Known (known_on hello quiet) 6 old new row k in
     record { known = record { left = last.left; right = last.right }; left = left_meets hello quiet old new k row; right = left_meets hello quiet (swapped old) (swapped new) (known_swapped old k) (row_mirrored hello quiet 6 old new row) }
 
-pub meets : {M : Type 0} → (hello : M) (old new : Pair M) → IsLeft old → KnowEachOther old → Passes hello 6 old new → HaveMet new
+pub meets : {M : Type 0} → (hello : M) (old new : Pair M) → IsConsistent old → KnowEachOther old → Passes hello 6 old new → HaveMet new
 meets hello old new is k passes = met hello false old new (record { is = is; left = k.left; right = k.right }) (row_of hello 6 old new passes)
 
 -- the first three of a row make the two known to each other
-pub known_first : {M : Type 0} → (hello : M) (quiet : Bool) (old mid : Pair M) → IsLeft old → OneRoseLast old → Row hello quiet 3 old mid → Known mid
+pub known_first : {M : Type 0} → (hello : M) (quiet : Bool) (old mid : Pair M) → IsConsistent old → OneRoseLast old → Row hello quiet 3 old mid → Known mid
 known_first hello quiet old mid is r row =
     let k = acquainted hello old mid is r (louder hello quiet 3 old mid row) in
-    record { is = stays_row hello quiet IsLeft (left_on hello quiet) 3 old mid row is; left = k.left; right = k.right }
+    record { is = stays_row hello quiet IsConsistent (consistent_on hello quiet) 3 old mid row is; left = k.left; right = k.right }
 
-pub met_whole : {M : Type 0} → (hello : M) (quiet : Bool) (old new : Pair M) → IsLeft old → OneRoseLast old → Row hello quiet 9 old new → HaveMet new
+pub met_whole : {M : Type 0} → (hello : M) (quiet : Bool) (old new : Pair M) → IsConsistent old → OneRoseLast old → Row hello quiet 9 old new → HaveMet new
 met_whole hello quiet old new is r row = let p = parted hello quiet 3 6 old new row in met hello quiet p.0 new (known_first hello quiet old p.0 is r p.1) p.2
 
-pub has_met : {M : Type 0} → (hello : M) (old new : Pair M) → IsLeft old → OneRoseLast old → Passes hello 9 old new → HaveMet new
+pub has_met : {M : Type 0} → (hello : M) (old new : Pair M) → IsConsistent old → OneRoseLast old → Passes hello 9 old new → HaveMet new
 has_met hello old new is r passes = met_whole hello false old new is r (row_of hello 9 old new passes)

@@ -2,7 +2,7 @@
 use Rattle.std.proofs.Common.{◌≡◌, Bool, ℕ, zero, suc, ◌+◌, ◌&&◌, true, false, refl, subst, sym, ap, ◌∙◌, arith, List, [], ◌∷◌, length}
 use Rattle.qs_session_settling.specs.Pairs.{Pair, Take, Send, Tick, Step, Left, Right, swapped, after}
 use Rattle.qs_session_settling.specs.Passes.{of_left, of_right, takes_and_ticks, is_pass, Passes, QuietPasses}
-use Rattle.qs_session_settling.specs.Left.{IsLeft}
+use Rattle.qs_session_settling.specs.Consistent.{IsConsistent}
 use Rattle.qs_session_settling.proofs.Staying
 use Rattle.qs_session_settling.proofs.Stages.{IsOf, Keeps, Stage, Stays, staged, stays_after, keeps_after, mirrored, after_mirrored, right_mirrored, of_mirrored, by_left, by_right}
 
@@ -49,8 +49,8 @@ keeps_row hello quiet I P stays k zero old new row is h = subst P (sym row) h
 keeps_row hello quiet I P stays k (suc n) old new (steps, pass, of, rest) is h =
     keeps_row hello quiet I P stays k n (after hello steps old) new rest (stays_after hello quiet I stays steps of old is) (keeps_after hello quiet I P stays k steps of old is h)
 
-pub left_on : {M : Type 0} → (hello : M) (quiet : Bool) → Stays hello quiet IsLeft
-left_on hello quiet step of pair is = Staying.stays hello step pair is
+pub consistent_on : {M : Type 0} → (hello : M) (quiet : Bool) → Stays hello quiet IsConsistent
+consistent_on hello quiet step of pair is = Staying.stays hello step pair is
 
 -- ---- a pass goes through a stage
 

@@ -4,7 +4,7 @@ use Rattle.std.specs.Prelude.{option_to_list}
 use Rattle.std.proofs.lemmas.Bool.Decides.{nat_tests}
 use Rattle.qs_session_channels.specs.End.{End, Packet, received, sent, sent_packet, ticked, tick_packets, again, packet}
 use Rattle.qs_session_settling.specs.Pairs.{Pair, Action, Take, Send, Tick, Step, Left, Right, left_acted, swapped, stepped}
-use Rattle.qs_session_settling.specs.Left.{IsOld, AreOld, handed_up, IsLeftSide, IsLeft}
+use Rattle.qs_session_settling.specs.Consistent.{IsOld, AreOld, handed_up, IsConsistentSide, IsConsistent}
 use Rattle.qs_session_settling.proofs.Receiving.{Taking, taking}
 use Rattle.qs_session_settling.proofs.Ticking.{Each, each_again, Ticking, ticking, sending}
 
@@ -50,7 +50,7 @@ record Took {M : Type 0} (a b c : End M) (p : Packet M) : Type 0 where
   is_met : b.met ≡ true → b.known ≡ a.mine → c.known ≡ b.mine
   is_acked : b.known ≡ a.mine → b.acked ≤ handed_up b c
 
-took : {M : Type 0} → (a b c : End M) (la lb : List (Packet M)) (p : Packet M) → Taking a p c → IsOld b a p → IsLeftSide a b la → IsLeftSide b a lb → Took a b c p
+took : {M : Type 0} → (a b c : End M) (la lb : List (Packet M)) (p : Packet M) → Taking a p c → IsOld b a p → IsConsistentSide a b la → IsConsistentSide b a lb → Took a b c p
 took a b c la lb p (inl t) old is more = record {
   grows = record { mine = grind (arith, t.same); other = refl; known = grind (arith, t.same); taken = λ same. grind (arith, t.same) };
   knows = grind (arith, t.same, is.knows);
@@ -84,7 +84,7 @@ took a b c la lb p (inr (inr (inr t))) old is more = record {
   is_acked = λ same. grind (arith, nat_tests, more.acked, same, t.known, t.taken);
 }
 
-takes : {M : Type 0} → (a b : End M) (la ps : List (Packet M)) (p : Packet M) → IsLeft (pair_of a b la (p ∷ ps)) → IsLeft (pair_of (received a p) b la ps)
+takes : {M : Type 0} → (a b : End M) (la ps : List (Packet M)) (p : Packet M) → IsConsistent (pair_of a b la (p ∷ ps)) → IsConsistent (pair_of (received a p) b la ps)
 takes a b la ps p is =
     let t = took a b (received a p) la (p ∷ ps) p (taking a p) is.right.old.0 is.left is.right in
     record {
@@ -113,7 +113,7 @@ pub record Same {M : Type 0} (a c : End M) : Type 0 where
   pub taken : c.taken ≡ a.taken
   pub acked : c.acked ≡ a.acked
 
-puts : {M : Type 0} → (a c b : End M) (la lb more : List (Packet M)) → Same a c → AreOld a b more → IsLeft (pair_of a b la lb) → IsLeft (pair_of c b (la ++ more) lb)
+puts : {M : Type 0} → (a c b : End M) (la lb more : List (Packet M)) → Same a c → AreOld a b more → IsConsistent (pair_of a b la lb) → IsConsistent (pair_of c b (la ++ more) lb)
 puts a c b la lb more s goes is = record {
   left = record {
     some = grind (arith, is.left.some, s.mine);
@@ -152,7 +152,7 @@ send_old {M} a b x stamp is = by_test (a.known == 0) refl
 pub same_sent : {M : Type 0} → (a : End M) (x : M) (stamp : ℕ) → Same a (sent a x)
 same_sent a x stamp = let s = sending a x stamp in record { mine = s.mine; known = s.known; met = s.met; taken = s.taken; acked = s.acked }
 
-left_stays : {M : Type 0} → (hello : M) (action : Action M) (a b : End M) (la lb : List (Packet M)) → IsLeft (pair_of a b la lb) → IsLeft (left_acted hello action (pair_of a b la lb))
+left_stays : {M : Type 0} → (hello : M) (action : Action M) (a b : End M) (la lb : List (Packet M)) → IsConsistent (pair_of a b la lb) → IsConsistent (left_acted hello action (pair_of a b la lb))
 left_stays hello Take a b la [] is = is
 left_stays hello Take a b la (p ∷ ps) is = takes a b la ps p is
 left_stays hello (Send x stamp) a b la lb is = puts a (sent a x) b la lb (option_to_list (sent_packet a x stamp)) (same_sent a x stamp) (send_old a b x stamp is.left.knows) is
@@ -161,10 +161,10 @@ left_stays hello (Tick stamp) a b la lb is =
 
 -- ---- either side
 
-pub other_way : {M : Type 0} → (pair : Pair M) → IsLeft pair → IsLeft (swapped pair)
+pub other_way : {M : Type 0} → (pair : Pair M) → IsConsistent pair → IsConsistent (swapped pair)
 other_way pair is = record { left = is.right; right = is.left }
 
-pub stays : {M : Type 0} → (hello : M) (step : Step M) (pair : Pair M) → IsLeft pair → IsLeft (stepped hello step pair)
+pub stays : {M : Type 0} → (hello : M) (step : Step M) (pair : Pair M) → IsConsistent pair → IsConsistent (stepped hello step pair)
 stays hello (Left action) pair is = left_stays hello action pair.left.end pair.right.end pair.left.link pair.right.link is
 stays hello (Right action) pair is =
     other_way (left_acted hello action (swapped pair)) (left_stays hello action pair.right.end pair.left.end pair.right.link pair.left.link (other_way pair is))

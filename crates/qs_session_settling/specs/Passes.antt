@@ -27,7 +27,7 @@ takes_and_ticks of n (step ∷ steps) = elim (of step) [
 abbrev pub is_pass : {M : Type 0} → Pair M → List (Step M) → Bool
 is_pass old steps = takes_and_ticks of_left (length old.right.link) steps && takes_and_ticks of_right (length old.left.link) steps
 
--- no message is sent in the step
+-- no message is sent in these steps
 abbrev pub sends_none : {M : Type 0} → List (Step M) → Bool
 sends_none [] = true
 sends_none (Left Take ∷ steps) = sends_none steps

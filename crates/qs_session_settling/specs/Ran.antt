@@ -4,7 +4,7 @@ use Rattle.qs_session_channels.specs.End.{Packet}
 use Rattle.qs_session_channels.specs.Network.{Network, Event, Among, Run, start}
 use Rattle.qs_session_settling.specs.Pairs.{Pair}
 use Rattle.qs_session_settling.specs.Passes.{QuietPasses}
-use Rattle.qs_session_settling.specs.Left.{IsLeft, OneRoseLast}
+use Rattle.qs_session_settling.specs.Consistent.{IsConsistent, OneRoseLast}
 use Rattle.qs_session_settling.specs.Settled.{IsSettled}
 
 -- each of a list was sent
@@ -26,7 +26,7 @@ pub record AreUp {M : Type 0} (w : Network M) (n m : ℕ) (there back : List (Pa
 -- a run leaves them so
 abbrev pub EachRunLeaves : (M : Type 0) → Type 0
 EachRunLeaves M = (hello : M) (inc : ℕ → ℕ) (es : List (Event M)) (w : Network M) → Run hello (start inc) es w → (n m : ℕ) (there back : List (Packet M)) → AreUp w n m there back
-    → IsLeft (between w n m there back) × OneRoseLast (between w n m there back)
+    → IsConsistent (between w n m there back) × OneRoseLast (between w n m there back)
 
 -- so passes settle them, whatever the run has lost, repeated and held before, and whoever crashed in it
 abbrev pub EachRunSettles : (M : Type 0) → Type 0

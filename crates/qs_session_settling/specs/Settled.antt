@@ -3,7 +3,7 @@ use Rattle.std.specs.Prelude.{◌≡◌, ◌≤◌, ℕ, ◌+◌, ◌==◌, true
 use Rattle.qs_session_channels.specs.End.{End, tick_packets}
 use Rattle.qs_session_settling.specs.Pairs.{Pair, Step, stepped}
 use Rattle.qs_session_settling.specs.Passes.{Passes, QuietPasses, sends_none}
-use Rattle.qs_session_settling.specs.Left.{IsLeft, OneRoseLast, handed_up}
+use Rattle.qs_session_settling.specs.Consistent.{IsConsistent, OneRoseLast, handed_up}
 
 -- each end knows the other's present incarnation
 pub record KnowEachOther {M : Type 0} (pair : Pair M) : Type 0 where
@@ -12,11 +12,11 @@ pub record KnowEachOther {M : Type 0} (pair : Pair M) : Type 0 where
 
 -- each step leaves what a run leaves
 abbrev pub EachStays : (M : Type 0) → Type 0
-EachStays M = (hello : M) (step : Step M) (pair : Pair M) → IsLeft pair → IsLeft (stepped hello step pair)
+EachStays M = (hello : M) (step : Step M) (pair : Pair M) → IsConsistent pair → IsConsistent (stepped hello step pair)
 
 -- after three passes each knows the other
 abbrev pub EachAcquaints : (M : Type 0) → Type 0
-EachAcquaints M = (hello : M) (old new : Pair M) → IsLeft old → OneRoseLast old → Passes hello 3 old new → KnowEachOther new
+EachAcquaints M = (hello : M) (old new : Pair M) → IsConsistent old → OneRoseLast old → Passes hello 3 old new → KnowEachOther new
 
 -- and each has met the other: it took a packet of that incarnation for its own
 pub record HaveMet {M : Type 0} (pair : Pair M) : Type 0 where
@@ -26,11 +26,11 @@ pub record HaveMet {M : Type 0} (pair : Pair M) : Type 0 where
 
 -- six more make two that know each other meet
 abbrev pub EachMeets : (M : Type 0) → Type 0
-EachMeets M = (hello : M) (old new : Pair M) → IsLeft old → KnowEachOther old → Passes hello 6 old new → HaveMet new
+EachMeets M = (hello : M) (old new : Pair M) → IsConsistent old → KnowEachOther old → Passes hello 6 old new → HaveMet new
 
 -- so nine do from whatever a run left
 abbrev pub EachHasMet : (M : Type 0) → Type 0
-EachHasMet M = (hello : M) (old new : Pair M) → IsLeft old → OneRoseLast old → Passes hello 9 old new → HaveMet new
+EachHasMet M = (hello : M) (old new : Pair M) → IsConsistent old → OneRoseLast old → Passes hello 9 old new → HaveMet new
 
 -- ---- what is kept is handed up
 
@@ -45,12 +45,12 @@ pub record AllHandedUp {M : Type 0} (old new : Pair M) : Type 0 where
 
 -- one pass over two that know each other, and then each hands up all that was kept as it began
 abbrev pub EachHandsUp : (M : Type 0) → Type 0
-EachHandsUp M = (hello : M) (old mid new : Pair M) → IsLeft old → KnowEachOther old → Passes hello 1 old mid → Passes hello 1 mid new → AllHandedUp mid new
+EachHandsUp M = (hello : M) (old mid new : Pair M) → IsConsistent old → KnowEachOther old → Passes hello 1 old mid → Passes hello 1 mid new → AllHandedUp mid new
 
 -- so five hand up what was kept as they began, from whatever a run left: by an end that did not know the other's present incarnation,
 -- nothing was kept for that
 abbrev pub EachHasHandedUp : (M : Type 0) → Type 0
-EachHasHandedUp M = (hello : M) (old new : Pair M) → IsLeft old → OneRoseLast old → Passes hello 5 old new → AllHandedUp old new
+EachHasHandedUp M = (hello : M) (old new : Pair M) → IsConsistent old → OneRoseLast old → Passes hello 5 old new → AllHandedUp old new
 
 -- ---- nothing goes any more
 
@@ -70,15 +70,15 @@ pub record IsAtRest {M : Type 0} (pair : Pair M) : Type 0 where
 
 -- so a tick puts nothing
 abbrev pub EachIsSilent : (M : Type 0) → Type 0
-EachIsSilent M = (hello : M) (pair : Pair M) → IsLeft pair → IsAtRest pair → (stamp : ℕ) → (tick_packets hello pair.left.end stamp ≡ []) × (tick_packets hello pair.right.end stamp ≡ [])
+EachIsSilent M = (hello : M) (pair : Pair M) → IsConsistent pair → IsAtRest pair → (stamp : ℕ) → (tick_packets hello pair.left.end stamp ≡ []) × (tick_packets hello pair.right.end stamp ≡ [])
 
 -- and all stays as it is until a message is sent
 abbrev pub EachRests : (M : Type 0) → Type 0
-EachRests M = (hello : M) (step : Step M) (pair : Pair M) → IsLeft pair → IsAtRest pair → sends_none (step ∷ []) ≡ true → stepped hello step pair ≡ pair
+EachRests M = (hello : M) (step : Step M) (pair : Pair M) → IsConsistent pair → IsAtRest pair → sends_none (step ∷ []) ≡ true → stepped hello step pair ≡ pair
 
 -- seven passes in which no message is sent bring two that have met to rest
 abbrev pub EachFallsSilent : (M : Type 0) → Type 0
-EachFallsSilent M = (hello : M) (old new : Pair M) → IsLeft old → HaveMet old → QuietPasses hello 7 old new → IsAtRest new
+EachFallsSilent M = (hello : M) (old new : Pair M) → IsConsistent old → HaveMet old → QuietPasses hello 7 old new → IsAtRest new
 
 -- ---- together: what eleven passes without a send make of whatever a run left
 
@@ -88,4 +88,4 @@ pub record IsSettled {M : Type 0} (old new : Pair M) : Type 0 where
   pub rests : IsAtRest new
 
 abbrev pub EachSettles : (M : Type 0) → Type 0
-EachSettles M = (hello : M) (old new : Pair M) → IsLeft old → OneRoseLast old → QuietPasses hello 11 old new → IsSettled old new
+EachSettles M = (hello : M) (old new : Pair M) → IsConsistent old → OneRoseLast old → QuietPasses hello 11 old new → IsSettled old new

@@ -19,16 +19,16 @@ abbrev pub handed_up : {M : Type 0} → End M → End M → ℕ
 handed_up from to = if to.known == from.mine then to.taken else 0
 
 -- an end, the other end, and the link from the one to the other
-pub record IsLeftSide {M : Type 0} (one other : End M) (link : List (Packet M)) : Type 0 where
+pub record IsConsistentSide {M : Type 0} (one other : End M) (link : List (Packet M)) : Type 0 where
   pub some : 1 ≤ one.mine
   pub knows : one.known ≤ other.mine  -- it knows no later incarnation than there is
   pub old : AreOld one other link
   pub met : one.met ≡ true → one.known ≡ other.mine → other.known ≡ one.mine  -- whoever was met knows who met it
   pub acked : one.known ≡ other.mine → one.acked ≤ handed_up one other  -- what is acknowledged was handed up
 
-pub record IsLeft {M : Type 0} (pair : Pair M) : Type 0 where
-  pub left : IsLeftSide pair.left.end pair.right.end pair.left.link
-  pub right : IsLeftSide pair.right.end pair.left.end pair.right.link
+pub record IsConsistent {M : Type 0} (pair : Pair M) : Type 0 where
+  pub left : IsConsistentSide pair.left.end pair.right.end pair.left.link
+  pub right : IsConsistentSide pair.right.end pair.left.end pair.right.link
 
 -- ---- the left end's incarnation began last: no dead incarnation of the right one can have named it
 
