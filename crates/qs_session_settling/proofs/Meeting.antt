@@ -1,11 +1,13 @@
 -- Six passes over two ends that know each other, and each has met the other.
 use Rattle.std.proofs.Common.{◌≡◌, Bool, ℕ, true, false, arith, inl, inr}
 use Rattle.std.specs.Prelude.{⊤}
-use Rattle.qs_session_settling.specs.Pairs.{Pair, swapped}
+use Rattle.qs_session_settling.specs.Pairs.{Pair, Step, swapped, stepped}
 use Rattle.qs_session_settling.specs.Passes.{Passes}
 use Rattle.qs_session_settling.specs.Consistent.{IsConsistent, OneRoseLast}
 use Rattle.qs_session_settling.specs.Settled.{KnowEachOther, HaveMet}
 use Rattle.qs_session_settling.proofs.Knowing.{acquainted}
+use Rattle.qs_session_settling.proofs.Stages.{keeps_each}
+use Rattle.qs_session_settling.proofs.Keeping.{keeps_swapped}
 use Rattle.qs_session_settling.proofs.Rows.{Row, row_of, louder, consistent_on, parted, stays_row, keeps_row, staged_row, row_mirrored}
 use Rattle.qs_session_settling.proofs.Behind.{behind_all}
 use Rattle.qs_session_settling.proofs.Known.{Known, known_on, known_swapped}
@@ -69,3 +71,21 @@ met_whole hello quiet old new is r row = let p = parted hello quiet 3 6 old new 
 
 pub has_met : {M : Type 0} → (hello : M) (old new : Pair M) → IsConsistent old → OneRoseLast old → Passes hello 9 old new → HaveMet new
 has_met hello old new is r passes = met_whole hello false old new is r (row_of hello 9 old new passes)
+
+-- ---- and each step keeps it
+
+know_on : {M : Type 0} → (hello : M) (step : Step M) (pair : Pair M) → IsConsistent pair → KnowEachOther pair → Known (stepped hello step pair)
+know_on hello step pair is k = known_on hello false step tt pair (record { is = is; left = k.left; right = k.right })
+
+pub stays_known : {M : Type 0} → (hello : M) (step : Step M) (pair : Pair M) → IsConsistent pair → KnowEachOther pair → KnowEachOther (stepped hello step pair)
+stays_known hello step pair is k = let on = know_on hello step pair is k in record { left = on.left; right = on.right }
+
+pub stays_met : {M : Type 0} → (hello : M) (step : Step M) (pair : Pair M) → IsConsistent pair → HaveMet pair → HaveMet (stepped hello step pair)
+stays_met hello step pair is m =
+    let k : Known pair = record { is = is; left = m.known.left; right = m.known.right } in
+    let met = is_met_on hello false in
+    record {
+      known = stays_known hello step pair is m.known;
+      left = keeps_each hello false Known IsMet met step tt pair k m.left;
+      right = keeps_each hello false (λ x. Known (swapped x)) (λ x. IsMet (swapped x)) (keeps_swapped hello false Known IsMet met) step tt pair (known_swapped pair k) m.right;
+    }

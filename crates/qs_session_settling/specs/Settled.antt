@@ -24,6 +24,13 @@ pub record HaveMet {M : Type 0} (pair : Pair M) : Type 0 where
   pub left : pair.left.end.met ≡ true
   pub right : pair.right.end.met ≡ true
 
+-- each step keeps both
+abbrev pub EachStaysKnown : (M : Type 0) → Type 0
+EachStaysKnown M = (hello : M) (step : Step M) (pair : Pair M) → IsConsistent pair → KnowEachOther pair → KnowEachOther (stepped hello step pair)
+
+abbrev pub EachStaysMet : (M : Type 0) → Type 0
+EachStaysMet M = (hello : M) (step : Step M) (pair : Pair M) → IsConsistent pair → HaveMet pair → HaveMet (stepped hello step pair)
+
 -- six more make two that know each other meet
 abbrev pub EachMeets : (M : Type 0) → Type 0
 EachMeets M = (hello : M) (old new : Pair M) → IsConsistent old → KnowEachOther old → Passes hello 6 old new → HaveMet new

@@ -3,11 +3,13 @@ ghost use Rattle.std.specs.Prelude.{◌≡◌, ℕ};
 ghost use Rattle.qs_session_settling.specs.Delivered.{EachDelivers, EachGoesOn, EachRunDelivers};
 ghost use Rattle.qs_session_settling.specs.Plain.{EachHasPasses, parted_by, plainly, reunited, slow, slow_at_rest};
 ghost use Rattle.qs_session_settling.specs.Ran.{EachRunLeaves, EachRunSettles};
-ghost use Rattle.qs_session_settling.specs.Settled.{EachAcquaints, EachFallsSilent, EachHandsUp, EachHasHandedUp, EachHasMet, EachIsSilent, EachMeets, EachRests, EachSettles, EachStays};
+ghost use Rattle.qs_session_settling.specs.Settled.{EachAcquaints, EachFallsSilent, EachHandsUp, EachHasHandedUp, EachHasMet, EachIsSilent, EachMeets, EachRests, EachSettles, EachStays, EachStaysKnown, EachStaysMet};
 
-/// Each step of either side, a packet taken, a message sent or a tick, leaves what a run leaves.
+/// Each step of either side, a packet taken, a message sent or a tick, leaves what a run leaves, and keeps that the two know each other, and have met.
 pub fn stays<M>()
-    ensures { EachStays M }
+    ensures consistent { EachStays M }
+    ensures known { EachStaysKnown M }
+    ensures met { EachStaysMet M }
 {}
 
 /// After three passes, from whatever a run left, each of two ends knows the other's present incarnation.
