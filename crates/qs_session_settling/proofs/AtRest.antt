@@ -1,5 +1,6 @@
 -- Two ends come to rest, and so settle: the laws, put together.
 use Rattle.std.proofs.Common.{◌≡◌, Bool, ℕ, ◌≤◌, true, false, refl, sym, subst, ap, arith, List, [], ◌∷◌, ◌++◌, length}
+use Rattle.std.proofs.lemmas.List.{nil_from_length}
 use Rattle.std.proofs.lemmas.Bool.Decides.{nat_tests}
 use Rattle.qs_session_channels.specs.End.{End, Packet, ticked, tick_packets}
 use Rattle.qs_session_settling.specs.Pairs.{Pair, Action, Take, Send, Tick, Step, Left, Right, swapped, stepped}
@@ -16,10 +17,6 @@ use Rattle.qs_session_settling.proofs.Meeting.{known_first, met}
 use Rattle.qs_session_settling.proofs.HandedUp.{handed_up_whole}
 use Rattle.qs_session_settling.proofs.Acknowledging.{none_kept}
 use Rattle.qs_session_settling.proofs.Quieting.{Still, still_swapped, still_on, KeepsNone, keeps_none_on, Bare, Quieted, BareBehind, quieting, Silent, silent_on, puts_none, AtMost, emptying}
-
-none_of : {A : Type 0} → (xs : List A) → length xs ≤ 0 → xs ≡ []
-none_of [] is = refl
-none_of (x ∷ xs) is = absurd (grind (arith, is))
 
 -- ---- at rest
 
@@ -79,10 +76,10 @@ come_to_rest hello old new is row =
     let last = stays_row hello true Silent (silent_on hello) 1 p.0 new p.2 s in
     record {
       known = record { left = last.still.known.left; right = last.still.known.right };
-      left = record { kept = none_of new.left.end.kept (grind (arith, last.still.left_none)); owed = last.left.0; met = last.still.left_met };
-      right = record { kept = none_of new.right.end.kept (grind (arith, last.still.right_none)); owed = last.right.0; met = last.still.right_met };
-      left_link = none_of new.left.link (empties hello p.0 new s p.2);
-      right_link = none_of new.right.link (empties hello (swapped p.0) (swapped new) back (row_mirrored hello true 1 p.0 new p.2));
+      left = record { kept = nil_from_length new.left.end.kept (grind (arith, last.still.left_none)); owed = last.left.0; met = last.still.left_met };
+      right = record { kept = nil_from_length new.right.end.kept (grind (arith, last.still.right_none)); owed = last.right.0; met = last.still.right_met };
+      left_link = nil_from_length new.left.link (grind (arith, empties hello p.0 new s p.2));
+      right_link = nil_from_length new.right.link (grind (arith, empties hello (swapped p.0) (swapped new) back (row_mirrored hello true 1 p.0 new p.2)));
     }
 
 -- ---- five passes leave nothing kept, and so seven bring two that have met to rest

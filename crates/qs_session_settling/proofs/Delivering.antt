@@ -1,5 +1,7 @@
 -- At rest all that was posted between two incarnations has been handed up.
-use Rattle.std.proofs.Common.{◌≡◌, ◌≢◌, ℕ, ◌≤◌, true, refl, sym, subst, ap, ◌∙◌, arith, List, [], ◌∷◌, ◌++◌, length, length-drop, drop}
+use Rattle.std.proofs.Common.{◌≡◌, ◌≢◌, ℕ, ◌≤◌, true, sym, subst, ap, ◌∙◌, arith, List, [], ◌++◌, length, length-drop, drop}
+use Rattle.std.proofs.Common.{append-nil}
+use Rattle.std.proofs.lemmas.List.{nil_from_length}
 use Rattle.qs_session_channels.specs.End.{Packet}
 use Rattle.qs_session_channels.specs.Network.{Network, Event, Run, start}
 use Rattle.qs_session_channels.specs.Channels.{Channels}
@@ -16,16 +18,8 @@ use Rattle.qs_session_settling.proofs.Leaving.{run_settles}
 whole : {A : Type 0} → (hs xs : List A) (acked : ℕ) → xs ≡ hs ++ drop (length hs) xs → drop acked xs ≡ [] → acked ≤ length hs → hs ≡ xs
 whole {A} hs xs acked front none more =
     let short : length xs ≤ acked = grind (arith, ap length none, length-drop) in
-    let rest : drop (length hs) xs ≡ [] = nil (drop (length hs) xs) (grind (arith, short, more, length-drop)) in
-    sym (front ∙ ap (λ ys. hs ++ ys) rest ∙ append_none hs)
-  where
-    nil : (ys : List A) → length ys ≤ 0 → ys ≡ []
-    nil [] is = refl
-    nil (y ∷ ys) is = absurd (grind (arith, is))
-
-    append_none : (ys : List A) → ys ++ [] ≡ ys
-    append_none [] = refl
-    append_none (y ∷ ys) = ap (λ zs. y ∷ zs) (append_none ys)
+    let rest : drop (length hs) xs ≡ [] = nil_from_length (drop (length hs) xs) (grind (arith, short, more, length-drop)) in
+    sym (front ∙ ap (λ ys. hs ++ ys) rest ∙ append-nil hs)
 
 delivered : {M : Type 0} → (w : Network M) (c : Channels M) → Shows w c → (n m : ℕ) → w.up n ≡ true → w.up m ≡ true → (w.end n m).known ≡ (w.end m n).mine → (w.end n m).kept ≡ [] → IsDelivered w c n m
 delivered {M} w c r n m one two knows none =

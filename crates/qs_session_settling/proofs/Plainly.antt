@@ -1,5 +1,6 @@
 -- Plain passes are passes.
-use Rattle.std.proofs.Common.{◌≡◌, ℕ, zero, suc, Bool, true, refl, ◌&&◌, ◌∙◌, arith, List, [], ◌∷◌, length}
+use Rattle.std.proofs.Common.{◌≡◌, ℕ, zero, suc, true, refl, ◌∙◌, List, [], ◌∷◌, length}
+use Rattle.std.proofs.lemmas.Bool.{and_from}
 use Rattle.qs_session_settling.specs.Pairs.{Pair, Tick, Step, Left, Right, after}
 use Rattle.qs_session_settling.specs.Passes.{of_left, of_right, takes_and_ticks, is_pass, sends_none, QuietPasses}
 use Rattle.qs_session_settling.specs.Plain.{left_takes, right_takes, plain_pass, plainly}
@@ -28,11 +29,8 @@ none_right : {M : Type 0} → (n : ℕ) (steps : List (Step M)) → sends_none (
 none_right zero steps = refl
 none_right (suc n) steps = none_right n steps
 
-both_true : (a b : Bool) → a ≡ true → b ≡ true → (a && b) ≡ true
-both_true a b x y = grind (arith, x, y)
-
 pub plain_is : {M : Type 0} → (pair : Pair M) → is_pass pair (plain_pass pair) ≡ true
-plain_is {M} pair = both_true (takes_and_ticks of_left n (plain_pass pair)) (takes_and_ticks of_right m (plain_pass pair)) (left_own n (right_takes m ends) ∙ left_other 0 m ends) (right_other m n (right_takes m ends) ∙ right_own m ends)
+plain_is {M} pair = and_from (takes_and_ticks of_left n (plain_pass pair)) (takes_and_ticks of_right m (plain_pass pair)) (left_own n (right_takes m ends) ∙ left_other 0 m ends) (right_other m n (right_takes m ends) ∙ right_own m ends)
   where
     n : ℕ
     n = length pair.right.link

@@ -1,5 +1,6 @@
 -- Rows of passes: what they keep, what one of them makes, and rows of the swapped pair.
-use Rattle.std.proofs.Common.{◌≡◌, Bool, ℕ, zero, suc, ◌+◌, ◌&&◌, true, false, refl, subst, sym, ap, ◌∙◌, arith, List, [], ◌∷◌, length}
+use Rattle.std.proofs.Common.{◌≡◌, Bool, ℕ, zero, suc, ◌+◌, true, false, refl, subst, sym, ap, ◌∙◌, arith, List, [], ◌∷◌, length}
+use Rattle.std.proofs.lemmas.Bool.{and_from}
 use Rattle.qs_session_settling.specs.Pairs.{Pair, Take, Send, Tick, Step, Left, Right, swapped, after}
 use Rattle.qs_session_settling.specs.Passes.{of_left, of_right, takes_and_ticks, is_pass, Passes, QuietPasses}
 use Rattle.qs_session_settling.specs.Consistent.{IsConsistent}
@@ -70,12 +71,9 @@ left_mirrored n (Right (Send x stamp) ∷ steps) = left_mirrored n steps
 left_mirrored zero (Right (Tick stamp) ∷ steps) = refl
 left_mirrored (suc n) (Right (Tick stamp) ∷ steps) = left_mirrored (suc n) steps
 
-both_true : (a b : Bool) → a ≡ true → b ≡ true → (a && b) ≡ true
-both_true a b x y = grind (arith, x, y)
-
 pass_mirrored : {M : Type 0} → (old : Pair M) (steps : List (Step M)) → is_pass old steps ≡ true → is_pass (swapped old) (mirrored steps) ≡ true
 pass_mirrored old steps is =
-    both_true (takes_and_ticks of_left (length old.left.link) (mirrored steps)) (takes_and_ticks of_right (length old.right.link) (mirrored steps))
+    and_from (takes_and_ticks of_left (length old.left.link) (mirrored steps)) (takes_and_ticks of_right (length old.right.link) (mirrored steps))
     (left_mirrored (length old.left.link) steps ∙ by_right old steps is) (right_mirrored (length old.right.link) steps ∙ by_left old steps is)
 
 pub row_mirrored : {M : Type 0} → (hello : M) (quiet : Bool) (n : ℕ) (old new : Pair M) → Row hello quiet n old new → Row hello quiet n (swapped old) (swapped new)

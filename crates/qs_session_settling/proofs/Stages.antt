@@ -1,8 +1,9 @@
 -- Facts that steps keep, and stages: what a pass makes of a pair, by what each step does to the packets that are still to be taken.
 --
 -- The right side takes what stood on the left side's link, and ticks; for the other way round pairs are swapped.
-use Rattle.std.proofs.Common.{◌≡◌, Bool, ℕ, zero, suc, ◌&&◌, true, false, refl, subst, ◌∙◌, arith, List, [], ◌∷◌, ◌++◌, length, if◌then◌else◌}
+use Rattle.std.proofs.Common.{◌≡◌, Bool, ℕ, zero, suc, true, false, refl, subst, ◌∙◌, arith, List, [], ◌∷◌, ◌++◌, length, if◌then◌else◌}
 use Rattle.std.specs.Prelude.{⊤, option_to_list}
+use Rattle.qs_base_lemmas.proofs.Tests.{and_first, and_last}
 use Rattle.qs_session_channels.specs.End.{End, Packet, received, sent, sent_packet, ticked, tick_packets}
 use Rattle.qs_session_settling.specs.Pairs.{Pair, Action, Take, Send, Tick, Step, Left, Right, swapped, stepped, after}
 use Rattle.qs_session_settling.specs.Passes.{of_left, of_right, takes_and_ticks, is_pass, sends_none}
@@ -162,16 +163,11 @@ pub of_mirrored : {M : Type 0} → (quiet : Bool) (steps : List (Step M)) → Is
 of_mirrored true steps is = quiet_mirrored steps ∙ is
 of_mirrored false steps is = tt
 
-both_parts : (a b : Bool) → (a && b) ≡ true → (a ≡ true) × (b ≡ true)
-both_parts true true is = (refl, refl)
-both_parts true false is = absurd (grind (arith, is))
-both_parts false b is = absurd (grind (arith, is))
-
 pub by_right : {M : Type 0} → (pair : Pair M) (steps : List (Step M)) → is_pass pair steps ≡ true → takes_and_ticks of_right (length pair.left.link) steps ≡ true
-by_right pair steps is = (both_parts (takes_and_ticks of_left (length pair.right.link) steps) (takes_and_ticks of_right (length pair.left.link) steps) is).1
+by_right pair steps is = and_last (takes_and_ticks of_left (length pair.right.link) steps) (takes_and_ticks of_right (length pair.left.link) steps) is
 
 pub by_left : {M : Type 0} → (pair : Pair M) (steps : List (Step M)) → is_pass pair steps ≡ true → takes_and_ticks of_left (length pair.right.link) steps ≡ true
-by_left pair steps is = (both_parts (takes_and_ticks of_left (length pair.right.link) steps) (takes_and_ticks of_right (length pair.left.link) steps) is).0
+by_left pair steps is = and_first (takes_and_ticks of_left (length pair.right.link) steps) (takes_and_ticks of_right (length pair.left.link) steps) is
 
 -- the left side goes through a stage of the swapped pair
 pub staged_left : {M : Type 0} → (hello : M) (quiet : Bool) (I : Pair M → Type 0) (F : ℕ → Pair M → Type 0) (D : Pair M → Type 0) → Stays hello quiet I → Stage hello quiet I F D
