@@ -95,14 +95,14 @@ calm_keeps hello quiet = record {
 }
 
 -- with n packets to be taken, those behind them name it
-abbrev pub Naming_behind : {M : Type 0} → ℕ → Pair M → Type 0
-Naming_behind n pair = Behind (Names pair.left.end pair.right.end) n pair.left.link
+abbrev pub NamingBehind : {M : Type 0} → ℕ → Pair M → Type 0
+NamingBehind n pair = Behind (Names pair.left.end pair.right.end) n pair.left.link
 
 behind_empty : {M : Type 0} → (Q : Packet M → Type 0) (n : ℕ) → Behind Q n []
 behind_empty Q n = tt
 
 -- the right end takes all that may not name it, and ticks
-pub calming : {M : Type 0} → (hello : M) (quiet : Bool) → Stage hello quiet LeftMet Naming_behind Calm
+pub calming : {M : Type 0} → (hello : M) (quiet : Bool) → Stage hello quiet LeftMet NamingBehind Calm
 calming hello quiet = record {
   bears = λ n. record {
     left_takes = λ a b la ps p is h. behind_same n a b (received a p) b la (advances a p (to_left a b la ps p is.known)).mine refl h;

@@ -14,7 +14,7 @@ use Rattle.qs_session_settling.proofs.Known.{Known, known_on, known_swapped}
 use Rattle.qs_session_settling.proofs.Answering.{Answered, AllOwing}
 use Rattle.qs_session_settling.proofs.Hearing.{RightSent, right_sent_on, RightHeard, RightAnswered, hearing, hears}
 use Rattle.qs_session_settling.proofs.Asking.{Says, saying, answerable}
-use Rattle.qs_session_settling.proofs.Calming.{LeftMet, IsMet, is_met_on, left_met_on, Calm, Naming_behind, calming, asking, Names}
+use Rattle.qs_session_settling.proofs.Calming.{LeftMet, IsMet, is_met_on, left_met_on, Calm, NamingBehind, calming, asking, Names}
 
 -- the left end has asked: two passes answer it, and it stays met
 asked : {M : Type 0} → (hello : M) (quiet : Bool) (n : ℕ) (old mid new : Pair M) → Known old → AllOwing 0 old → Row hello quiet 2 old mid → Row hello quiet n mid new → new.left.end.met ≡ true
@@ -28,7 +28,7 @@ met_by hello quiet old new k on row =
     let p = parted hello quiet 1 3 old new row in
     let q = parted hello quiet 1 2 p.0 new p.2 in
     let is : LeftMet (swapped old) = record { known = known_swapped old k; met = on } in
-    let calm = staged_row hello quiet LeftMet Naming_behind Calm (left_met_on hello quiet) (calming hello quiet) (swapped old) (swapped p.0) (row_mirrored hello quiet 1 old p.0 p.1) is
+    let calm = staged_row hello quiet LeftMet NamingBehind Calm (left_met_on hello quiet) (calming hello quiet) (swapped old) (swapped p.0) (row_mirrored hello quiet 1 old p.0 p.1) is
     (behind_all (Names old.right.end old.left.end) old.right.link) in
     let is_one = stays_row hello quiet LeftMet (left_met_on hello quiet) 1 (swapped old) (swapped p.0) (row_mirrored hello quiet 1 old p.0 p.1) is in
     let asks = staged_row hello quiet LeftMet (λ n. Calm) (λ pair. AllOwing 0 (swapped pair)) (left_met_on hello quiet) (asking hello quiet) (swapped p.0) (swapped q.0) (row_mirrored hello quiet 1 p.0 q.0 q.1) is_one calm in
