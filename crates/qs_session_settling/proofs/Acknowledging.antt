@@ -1,29 +1,19 @@
 -- What was handed up is acknowledged, so behind passes without a send nothing is kept.
-use Rattle.std.proofs.Common.{◌≡◌, ◌⊎◌, Bool, ℕ, ◌+◌, ◌≤◌, true, refl, arith, List, ◌++◌, length, inl, inr}
-use Rattle.std.specs.Prelude.{⊤}
-use Rattle.qs_session_channels.specs.End.{End, Packet, sent, ticked, tick_packets}
-use Rattle.qs_session_settling.specs.Pairs.{Pair, swapped, stepped}
+use Rattle.std.proofs.Common.{◌≡◌, ◌⊎◌, Bool, ℕ, ◌+◌, ◌<◌, ◌≤◌, true, refl, arith, List, ◌++◌, length, inl, inr}
+use Rattle.std.specs.Prelude.{⊤, option_to_list}
+use Rattle.qs_session_channels.specs.End.{End, Packet, sent, sent_packet, ticked, tick_packets}
+use Rattle.qs_session_settling.specs.Pairs.{Pair, swapped}
 use Rattle.qs_session_settling.proofs.Ticking.{sending}
 use Rattle.qs_session_settling.proofs.Staying.{pair_of}
-use Rattle.qs_session_settling.proofs.Stages.{Keeps, Stage, Stays, keeps_each}
+use Rattle.qs_session_settling.proofs.Stages.{Keeps, Stage}
 use Rattle.qs_session_settling.proofs.Rows.{Row, parted, stays_row, keeps_row, staged_row, row_mirrored}
 use Rattle.qs_session_settling.proofs.Known.{Known, known_on, known_swapped, advances, to_left, to_right, some_right, KnownTicking, known_ticking, steady}
-use Rattle.qs_session_settling.proofs.Answering.{AllOwing, Answerable, HasTaken, has_taken_on, all_owing_keeps, HasSent, has_sent_on}
-use Rattle.qs_session_settling.proofs.Hearing.{hears}
+use Rattle.qs_session_settling.proofs.Answering.{AllOwing, all_owing_keeps}
 use Rattle.qs_session_settling.proofs.Asking.{asks, repeats_ask}
-use Rattle.qs_session_settling.proofs.HandingUp.{hands_up_left}
 use Rattle.qs_session_settling.proofs.Keeping.{keeps_for, keeps_swapped, keeps_either, keeps_nothing}
-
--- the left end has handed up t messages, of as many that the right one sent
-abbrev pub RightAnswerable : {M : Type 0} → ℕ → Pair M → Type 0
-RightAnswerable t pair = Answerable t (swapped pair)
-
-right_answerable_on : {M : Type 0} → (hello : M) (quiet : Bool) (t : ℕ) → Stays hello quiet (RightAnswerable t)
-right_answerable_on hello quiet t step of pair is = record {
-  known = known_swapped (stepped hello step pair) (known_on hello quiet step of pair (known_swapped (swapped pair) is.known));
-  taken = keeps_each hello quiet (λ x. Known (swapped x)) (λ x. HasTaken t (swapped x)) (keeps_swapped hello quiet Known (HasTaken t) (has_taken_on hello quiet t)) step of pair is.known is.taken;
-  sent = keeps_each hello quiet (λ x. Known (swapped x)) (λ x. HasSent t (swapped x)) (keeps_swapped hello quiet Known (HasSent t) (has_sent_on hello quiet t)) step of pair is.known is.sent;
-}
+use Rattle.qs_session_settling.proofs.HandingUp.{reaches_same, reach_front, puts_all}
+use Rattle.qs_session_settling.proofs.Hearing.{RightSent, right_sent_on, RightAnswered, RightHeard, hearing}
+use Rattle.qs_session_settling.proofs.Telling.{LeftSent, left_sent_on, Coming, coming_on, coming_bears, coming_next, Told, telling}
 
 -- t messages of the right end are acknowledged
 abbrev RightAcked : {M : Type 0} → ℕ → Pair M → Type 0
@@ -44,6 +34,32 @@ right_acked_on hello quiet t = record {
 abbrev RightAsks : {M : Type 0} → ℕ → Pair M → Type 0
 RightAsks t pair = AllOwing t (swapped pair) ⊎ RightAcked t pair
 
+-- ---- before that, the left end puts them all
+
+abbrev AllComing : {M : Type 0} → ℕ → Pair M → Type 0
+AllComing t pair = Coming t (length pair.left.link) pair
+
+all_coming_keeps : {M : Type 0} → (hello : M) (quiet : Bool) (t : ℕ) → Keeps hello quiet (LeftSent t) (AllComing t)
+all_coming_keeps hello quiet t = let k = all_owing_keeps hello quiet t in record {
+  bears = record {
+    left_takes = λ a b la ps p is h. (coming_bears hello quiet t (length la)).left_takes a b la ps p is h;
+    left_sends = λ on a b la lb x stamp is h. let s = sending a x stamp in
+        coming_on t (length la) (length (la ++ option_to_list (sent_packet a x stamp))) a b (sent a x) b la (la ++ option_to_list (sent_packet a x stamp)) lb lb is refl
+        (reaches_same t (length la) (length (la ++ option_to_list (sent_packet a x stamp))) a b (sent a x) b la (la ++ option_to_list (sent_packet a x stamp)) lb lb s.mine refl (reach_front a.mine b.mine b.taken la (option_to_list (sent_packet a x stamp))))
+        (k.bears.left_sends on a b la lb x stamp) h;
+    left_ticks = λ a b la lb stamp is h.
+        coming_on t (length la) (length (la ++ tick_packets hello a stamp)) a b (ticked a) b la (la ++ tick_packets hello a stamp) lb lb is refl
+        (reaches_same t (length la) (length (la ++ tick_packets hello a stamp)) a b (ticked a) b la (la ++ tick_packets hello a stamp) lb lb refl refl (reach_front a.mine b.mine b.taken la (tick_packets hello a stamp)))
+        (k.bears.left_ticks a b la lb stamp) h;
+    right_sends = λ on a b la lb x stamp is h. (coming_bears hello quiet t (length la)).right_sends on a b la lb x stamp is h;
+    right_ticks = λ a b la lb stamp is h. (coming_bears hello quiet t (length la)).right_ticks a b la lb stamp is h;
+  };
+  right_takes = λ a b ps lb p is h. coming_next t (length ps) a b ps lb p is h;
+}
+
+abbrev RightPuts : {M : Type 0} → ℕ → Pair M → Type 0
+RightPuts t pair = AllComing t (swapped pair) ⊎ RightAcked t pair
+
 -- what is kept asks for its acknowledgement
 tick_asks : {M : Type 0} → (hello : M) (t : ℕ) (a b : End M) (la lb : List (Packet M)) (stamp : ℕ) → t ≤ b.acked + length b.kept → KnownTicking hello b stamp → RightAsks t (pair_of a (ticked b) la (lb ++ tick_packets hello b stamp))
 tick_asks hello t a b la lb stamp sent (inl x) = inl (asks hello t a b la lb stamp (repeats_ask hello b.mine a.mine b stamp refl x.some x.puts))
@@ -51,26 +67,45 @@ tick_asks hello t a b la lb stamp sent (inr (inl x)) = inr (grind (arith, sent, 
 tick_asks hello t a b la lb stamp sent (inr (inr (inl x))) = inr (grind (arith, sent, x.none))
 tick_asks hello t a b la lb stamp sent (inr (inr (inr x))) = inr (grind (arith, sent, x.none))
 
-asking : {M : Type 0} → (hello : M) (quiet : Bool) (t : ℕ) → Stage hello quiet (RightAnswerable t) (λ n pair. ⊤) (RightAsks t)
-asking hello quiet t =
-    steady hello quiet (RightAnswerable t) (λ pair. ⊤) (RightAsks t) (keeps_nothing hello quiet (RightAnswerable t))
-    (λ a b la lb stamp is h. tick_asks hello t a b la lb stamp is.sent (known_ticking hello b stamp (some_right (pair_of a b la lb) (known_swapped (pair_of b a lb la) is.known))))
-    (keeps_either hello quiet (RightAnswerable t) (λ pair. AllOwing t (swapped pair)) (RightAcked t) (keeps_swapped hello quiet (Answerable t) (AllOwing t) (all_owing_keeps hello quiet t))
-    (keeps_for hello quiet Known (RightAnswerable t) (RightAcked t) (λ pair is. known_swapped (swapped pair) is.known) (right_acked_on hello quiet t)))
+tick_puts : {M : Type 0} → (hello : M) (t : ℕ) (a b : End M) (la lb : List (Packet M)) (stamp : ℕ) → RightSent t (pair_of a b la lb) → KnownTicking hello b stamp → RightPuts t (pair_of a (ticked b) la (lb ++ tick_packets hello b stamp))
+tick_puts {M} hello t a b la lb stamp is x = by_taken (grind arith)
+  where
+    by_asks : t ≤ a.taken → RightAsks t (pair_of a (ticked b) la (lb ++ tick_packets hello b stamp)) → RightPuts t (pair_of a (ticked b) la (lb ++ tick_packets hello b stamp))
+    by_asks up (inl h) = inl (inr (up, h))
+    by_asks up (inr h) = inr h
 
--- ---- three passes acknowledge what was handed up
+    by_taken : (a.taken < t) ⊎ (t ≤ a.taken) → RightPuts t (pair_of a (ticked b) la (lb ++ tick_packets hello b stamp))
+    by_taken (inl before) = inl (inl (before, grind (arith, puts_all hello a b la lb stamp is.known x, is.sent)))
+    by_taken (inr up) = by_asks up (tick_asks hello t a b la lb stamp is.sent x)
 
-by_asks : {M : Type 0} → (hello : M) (quiet : Bool) (t : ℕ) (old new : Pair M) → Answerable t old → RightAsks t (swapped old) → Row hello quiet 2 old new → t ≤ new.left.end.acked
-by_asks hello quiet t old new is (inl h) row = (hears hello quiet t old new is h row).1
-by_asks hello quiet t old new is (inr h) row =
+putting : {M : Type 0} → (hello : M) (quiet : Bool) (t : ℕ) → Stage hello quiet (RightSent t) (λ n pair. ⊤) (RightPuts t)
+putting hello quiet t =
+    steady hello quiet (RightSent t) (λ pair. ⊤) (RightPuts t) (keeps_nothing hello quiet (RightSent t))
+    (λ a b la lb stamp is h. tick_puts hello t a b la lb stamp is (known_ticking hello b stamp (some_right (pair_of a b la lb) is.known)))
+    (keeps_either hello quiet (RightSent t) (λ pair. AllComing t (swapped pair)) (RightAcked t)
+    (keeps_for hello quiet (λ pair. LeftSent t (swapped pair)) (RightSent t) (λ pair. AllComing t (swapped pair)) (λ pair is. record { known = known_swapped pair is.known; sent = is.sent })
+    (keeps_swapped hello quiet (LeftSent t) (AllComing t) (all_coming_keeps hello quiet t)))
+    (keeps_for hello quiet Known (RightSent t) (RightAcked t) (λ pair is. is.known) (right_acked_on hello quiet t)))
+
+-- ---- three passes acknowledge all that was sent as they began
+
+by_puts : {M : Type 0} → (hello : M) (quiet : Bool) (t : ℕ) (old new : Pair M) → LeftSent t old → RightPuts t (swapped old) → Row hello quiet 2 old new → t ≤ new.left.end.acked
+by_puts hello quiet t old new is (inl h) row =
+    let p = parted hello quiet 1 1 old new row in
+    let told = staged_row hello quiet (LeftSent t) (Coming t) (Told t) (left_sent_on hello quiet t) (telling hello quiet t) old p.0 p.1 is h in
+    let mid = stays_row hello quiet (LeftSent t) (left_sent_on hello quiet t) 1 old p.0 p.1 is in
+    (staged_row hello quiet (RightSent t) (RightAnswered t) (RightHeard t) (right_sent_on hello quiet t) (hearing hello quiet t) (swapped p.0) (swapped new) (row_mirrored hello quiet 1 p.0 new p.2)
+    (record { known = known_swapped p.0 mid.known; sent = mid.sent }) told.1).1
+by_puts hello quiet t old new is (inr h) row =
     keeps_row hello quiet Known (RightAcked t) (known_on hello quiet) (right_acked_on hello quiet t) 2 (swapped old) (swapped new) (row_mirrored hello quiet 2 old new row) (known_swapped old is.known) h
 
-pub acknowledged : {M : Type 0} → (hello : M) (quiet : Bool) (t : ℕ) (old new : Pair M) → Answerable t old → Row hello quiet 3 old new → t ≤ new.left.end.acked
-acknowledged hello quiet t old new is row =
+pub acknowledged : {M : Type 0} → (hello : M) (quiet : Bool) (old new : Pair M) → Known old → Row hello quiet 3 old new → old.left.end.acked + length old.left.end.kept ≤ new.left.end.acked
+acknowledged hello quiet old new k row =
+    let t = old.left.end.acked + length old.left.end.kept in
     let p = parted hello quiet 1 2 old new row in
-    let back = row_mirrored hello quiet 1 old p.0 p.1 in
-    let asked = staged_row hello quiet (RightAnswerable t) (λ n pair. ⊤) (RightAsks t) (right_answerable_on hello quiet t) (asking hello quiet t) (swapped old) (swapped p.0) back is tt in
-    by_asks hello quiet t p.0 new (stays_row hello quiet (RightAnswerable t) (right_answerable_on hello quiet t) 1 (swapped old) (swapped p.0) back is) asked p.2
+    let put = staged_row hello quiet (RightSent t) (λ n pair. ⊤) (RightPuts t) (right_sent_on hello quiet t) (putting hello quiet t) (swapped old) (swapped p.0) (row_mirrored hello quiet 1 old p.0 p.1)
+    (record { known = known_swapped old k; sent = grind arith }) tt in
+    by_puts hello quiet t p.0 new (stays_row hello quiet (LeftSent t) (left_sent_on hello quiet t) 1 old p.0 p.1 (record { known = k; sent = grind arith })) put p.2
 
 -- ---- where nothing is sent, then nothing is kept
 
@@ -89,15 +124,7 @@ total_on hello t = record {
   right_takes = λ a b ps lb p k h. h;
 }
 
-pub none_kept : {M : Type 0} → (hello : M) (old new : Pair M) → Known old → Row hello true 5 old new → length new.left.end.kept ≡ 0
+pub none_kept : {M : Type 0} → (hello : M) (old new : Pair M) → Known old → Row hello true 3 old new → length new.left.end.kept ≡ 0
 none_kept hello old new k row =
-    let p = parted hello true 1 4 old new row in
-    let q = parted hello true 1 3 p.0 new p.2 in
-    let t = p.0.left.end.acked + length p.0.left.end.kept in
-    let k_one = stays_row hello true Known (known_on hello true) 1 old p.0 p.1 k in
-    let k_two = stays_row hello true Known (known_on hello true) 1 p.0 q.0 q.1 k_one in
-    let taken = hands_up_left hello true old p.0 q.0 k p.1 q.1 in
-    let total_two = keeps_row hello true Known (Total t) (known_on hello true) (total_on hello t) 1 p.0 q.0 q.1 k_one refl in
-    let total = keeps_row hello true Known (Total t) (known_on hello true) (total_on hello t) 3 q.0 new q.2 k_two total_two in
-    let acked = acknowledged hello true t q.0 new (record { known = k_two; taken = taken; sent = grind (arith, total_two) }) q.2 in
-    grind (arith, acked, total)
+    let t = old.left.end.acked + length old.left.end.kept in
+    grind (arith, acknowledged hello true old new k row, keeps_row hello true Known (Total t) (known_on hello true) (total_on hello t) 3 old new row k refl)

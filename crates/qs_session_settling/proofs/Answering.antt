@@ -148,7 +148,7 @@ owing_next t n a b ps lb p k (inl (inr later)) = let v = advances b p (to_right 
 owing_next t n a b ps lb p k (inr (inl on)) = inr (inl ((advances b p (to_right a b ps lb p k)).owed on))
 owing_next t n a b ps lb p k (inr (inr h)) = inr (inr (answered_on t a b a (received b p) (p ∷ ps) ps lb lb refl (λ met. met) (grind arith) (advances b p (to_right a b ps lb p k)).mine (λ Q w. w) h))
 
-owing_none : {M : Type 0} → (t n : ℕ) (a b : End M) (lb : List (Packet M)) → Owing t (suc n) (pair_of a b [] lb) → Owing t n (pair_of a b [] lb)
+pub owing_none : {M : Type 0} → (t n : ℕ) (a b : End M) (lb : List (Packet M)) → Owing t (suc n) (pair_of a b [] lb) → Owing t n (pair_of a b [] lb)
 owing_none t n a b lb (inl h) = absurd h
 owing_none t n a b lb (inr h) = inr h
 
@@ -174,7 +174,7 @@ owing_ticks hello t n a b la lb stamp is (inr (inl on)) = inr (inr (owed_ticks h
 owing_ticks hello t n a b la lb stamp is (inr (inr h)) = inr (inr (answered_on t a b a (ticked b) la la lb (lb ++ tick_packets hello b stamp) refl (λ met. met) (grind arith) refl (λ Q w. within_front Q lb (tick_packets hello b stamp) w) h))
 
 -- while n are still to be taken, and of all that stand there
-owing_bears : {M : Type 0} → (hello : M) (quiet : Bool) (t n : ℕ) → Bears hello quiet (Answerable t) (Owing t n)
+pub owing_bears : {M : Type 0} → (hello : M) (quiet : Bool) (t n : ℕ) → Bears hello quiet (Answerable t) (Owing t n)
 owing_bears hello quiet t n = record {
   left_takes = λ a b la ps p is h. owing_left t n a b la ps p is h;
   left_sends = λ on a b la lb x stamp is h. owing_on t n n a b (sent a x) la (la ++ option_to_list (sent_packet a x stamp)) lb (sending a x stamp).mine (λ Q w. within_more Q n la (option_to_list (sent_packet a x stamp)) w) ((answered_keeps hello quiet t).bears.left_sends on a b la lb x stamp is) h;
@@ -198,12 +198,12 @@ all_owing_keeps hello quiet t = record {
   right_takes = λ a b ps lb p is h. owing_next t (length ps) a b ps lb p is.known h;
 }
 
-owing_end : {M : Type 0} → (hello : M) (t : ℕ) (a b : End M) (la lb : List (Packet M)) (stamp : ℕ) → Answerable t (pair_of a b la lb) → Owing t 0 (pair_of a b la lb) → Answered t (pair_of a (ticked b) la (lb ++ tick_packets hello b stamp))
+pub owing_end : {M : Type 0} → (hello : M) (t : ℕ) (a b : End M) (la lb : List (Packet M)) (stamp : ℕ) → Answerable t (pair_of a b la lb) → Owing t 0 (pair_of a b la lb) → Answered t (pair_of a (ticked b) la (lb ++ tick_packets hello b stamp))
 owing_end hello t a b la lb stamp is (inl h) = absurd h
 owing_end hello t a b la lb stamp is (inr (inl on)) = owed_ticks hello t a b la lb stamp is.known is.taken on
 owing_end hello t a b la lb stamp is (inr (inr h)) = (answered_keeps hello false t).bears.right_ticks a b la lb stamp is h
 
-owing_more : {M : Type 0} → (t : ℕ) (a b : End M) (ps lb : List (Packet M)) (p : Packet M) → Known (pair_of a b (p ∷ ps) lb) → Owing t 0 (pair_of a b (p ∷ ps) lb) → Owing t 0 (pair_of a (received b p) ps lb)
+pub owing_more : {M : Type 0} → (t : ℕ) (a b : End M) (ps lb : List (Packet M)) (p : Packet M) → Known (pair_of a b (p ∷ ps) lb) → Owing t 0 (pair_of a b (p ∷ ps) lb) → Owing t 0 (pair_of a (received b p) ps lb)
 owing_more t a b ps lb p k (inl h) = absurd h
 owing_more t a b ps lb p k (inr h) = owing_next t 0 a b ps lb p k (inr h)
 

@@ -82,19 +82,19 @@ come_to_rest hello old new is row =
       right_link = nil_from_length new.right.link (grind (arith, empties hello (swapped p.0) (swapped new) back (row_mirrored hello true 1 p.0 new p.2)));
     }
 
--- ---- five passes leave nothing kept, and so seven bring two that have met to rest
+-- ---- three passes leave nothing kept, and so five bring two that have met to rest
 
-left_none : {M : Type 0} → (hello : M) (n : ℕ) (old mid new : Pair M) → Known old → Row hello true 5 old mid → Row hello true n mid new → length new.left.end.kept ≡ 0
+left_none : {M : Type 0} → (hello : M) (n : ℕ) (old mid new : Pair M) → Known old → Row hello true 3 old mid → Row hello true n mid new → length new.left.end.kept ≡ 0
 left_none hello n old mid new k first rest =
-    keeps_row hello true Known KeepsNone (known_on hello true) (keeps_none_on hello) n mid new rest (stays_row hello true Known (known_on hello true) 5 old mid first k) (none_kept hello old mid k first)
+    keeps_row hello true Known KeepsNone (known_on hello true) (keeps_none_on hello) n mid new rest (stays_row hello true Known (known_on hello true) 3 old mid first k) (none_kept hello old mid k first)
 
-still_by : {M : Type 0} → (hello : M) (n : ℕ) (old mid new : Pair M) → Known old → Row hello true 5 old mid → Row hello true n mid new → HaveMet new → Still new
+still_by : {M : Type 0} → (hello : M) (n : ℕ) (old mid new : Pair M) → Known old → Row hello true 3 old mid → Row hello true n mid new → HaveMet new → Still new
 still_by hello n old mid new k first rest m = record {
-  known = stays_row hello true Known (known_on hello true) n mid new rest (stays_row hello true Known (known_on hello true) 5 old mid first k);
+  known = stays_row hello true Known (known_on hello true) n mid new rest (stays_row hello true Known (known_on hello true) 3 old mid first k);
   left_met = m.left;
   right_met = m.right;
   left_none = left_none hello n old mid new k first rest;
-  right_none = left_none hello n (swapped old) (swapped mid) (swapped new) (known_swapped old k) (row_mirrored hello true 5 old mid first) (row_mirrored hello true n mid new rest);
+  right_none = left_none hello n (swapped old) (swapped mid) (swapped new) (known_swapped old k) (row_mirrored hello true 3 old mid first) (row_mirrored hello true n mid new rest);
 }
 
 stay_met : {M : Type 0} → (hello : M) (quiet : Bool) (n : ℕ) (old new : Pair M) → Known old → HaveMet old → Row hello quiet n old new → HaveMet new
@@ -106,11 +106,11 @@ stay_met hello quiet n old new k m row =
       right = keeps_row hello quiet Known IsMet (known_on hello quiet) (is_met_on hello quiet) n (swapped old) (swapped new) (row_mirrored hello quiet n old new row) (known_swapped old k) m.right;
     }
 
-pub falls_silent : {M : Type 0} → (hello : M) (old new : Pair M) → IsConsistent old → HaveMet old → QuietPasses hello 7 old new → IsAtRest new
+pub falls_silent : {M : Type 0} → (hello : M) (old new : Pair M) → IsConsistent old → HaveMet old → QuietPasses hello 5 old new → IsAtRest new
 falls_silent hello old new is m passes =
     let k = known_of old is m.known in
-    let p = parted hello true 5 2 old new (quiet_row hello 7 old new passes) in
-    come_to_rest hello p.0 new (still_by hello 0 old p.0 p.0 k p.1 refl (stay_met hello true 5 old p.0 k m p.1)) p.2
+    let p = parted hello true 3 2 old new (quiet_row hello 5 old new passes) in
+    come_to_rest hello p.0 new (still_by hello 0 old p.0 p.0 k p.1 refl (stay_met hello true 3 old p.0 k m p.1)) p.2
 
 -- ---- and eleven settle whatever a run left
 
@@ -135,15 +135,15 @@ up_whole hello old new is r row =
     let k = stays_row hello true Known (known_on hello true) 2 q.0 p.0 q.2 (known_first hello true old q.0 is r q.1) in
     up_on hello 6 old p.0 new k (handed_up_whole hello true old p.0 is r p.1) p.2
 
--- after three they know each other, after five more nothing is kept, after one more they have met, and two bring them to rest
+-- after three they know each other, after three more nothing is kept, after three more they have met, and two bring them to rest
 rest_whole : {M : Type 0} → (hello : M) (old new : Pair M) → IsConsistent old → OneRoseLast old → Row hello true 11 old new → IsAtRest new
 rest_whole hello old new is r row =
     let p = parted hello true 3 8 old new row in
     let k = known_first hello true old p.0 is r p.1 in
-    let q = parted hello true 5 3 p.0 new p.2 in
-    let t = parted hello true 1 2 q.0 new q.2 in
-    let m = met hello true p.0 t.0 k (joined hello true 5 1 6 p.0 q.0 t.0 refl q.1 t.1) in
-    come_to_rest hello t.0 new (still_by hello 1 p.0 q.0 t.0 k q.1 t.1 m) t.2
+    let q = parted hello true 3 5 p.0 new p.2 in
+    let t = parted hello true 3 2 q.0 new q.2 in
+    let m = met hello true p.0 t.0 k (joined hello true 3 3 6 p.0 q.0 t.0 refl q.1 t.1) in
+    come_to_rest hello t.0 new (still_by hello 3 p.0 q.0 t.0 k q.1 t.1 m) t.2
 
 pub settled : {M : Type 0} → (hello : M) (old new : Pair M) → IsConsistent old → OneRoseLast old → Row hello true 11 old new → IsSettled old new
 settled hello old new is r row =

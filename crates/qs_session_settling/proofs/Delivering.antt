@@ -1,6 +1,5 @@
 -- At rest all that was posted between two incarnations has been handed up.
-use Rattle.std.proofs.Common.{◌≡◌, ◌≢◌, ℕ, ◌≤◌, true, sym, subst, ap, ◌∙◌, arith, List, [], ◌++◌, length, length-drop, drop}
-use Rattle.std.proofs.Common.{append-nil}
+use Rattle.std.proofs.Common.{◌≡◌, ◌≢◌, ℕ, ◌≤◌, true, sym, subst, ap, ◌∙◌, arith, List, [], ◌++◌, length, length-drop, drop, append-nil}
 use Rattle.std.proofs.lemmas.List.{nil_from_length}
 use Rattle.qs_session_channels.specs.End.{Packet}
 use Rattle.qs_session_channels.specs.Network.{Network, Event, Run, start}

@@ -22,7 +22,7 @@ acked_taken pair k = grind (arith, nat_tests, k.is.right.acked, k.left, k.right)
 
 -- ---- a tick puts it all
 
-puts_all : {M : Type 0} → (hello : M) (a b : End M) (la lb : List (Packet M)) (stamp : ℕ) → Known (pair_of a b la lb) → KnownTicking hello b stamp → AllPut (pair_of a (ticked b) la (lb ++ tick_packets hello b stamp))
+pub puts_all : {M : Type 0} → (hello : M) (a b : End M) (la lb : List (Packet M)) (stamp : ℕ) → Known (pair_of a b la lb) → KnownTicking hello b stamp → AllPut (pair_of a (ticked b) la (lb ++ tick_packets hello b stamp))
 puts_all hello a b la lb stamp k x = grind (arith, reach_both b.mine a.mine a.taken lb (tick_packets hello b stamp), by_kind x)
   where
     before : b.acked ≤ reach b.mine a.mine (length lb) a.taken lb
@@ -51,7 +51,7 @@ put_takes a b la ps p k h =
     let up = next_taken b.mine a.mine a p k.left refl (to_left a b la ps p k) in
     put_same a b (received a p) b la la (p ∷ ps) ps (advances a p (to_left a b la ps p k)).mine refl (grind arith) (reach_rises b.mine a.mine (length ps) (next b.mine a.mine a.taken p) (received a p).taken ps up) h
 
-reach_front : {M : Type 0} → (i j taken : ℕ) (ps more : List (Packet M)) → reach i j (length ps) taken ps ≤ reach i j (length (ps ++ more)) taken (ps ++ more)
+pub reach_front : {M : Type 0} → (i j taken : ℕ) (ps more : List (Packet M)) → reach i j (length ps) taken ps ≤ reach i j (length (ps ++ more)) taken (ps ++ more)
 reach_front i j taken ps more = grind (arith, reach_both i j taken ps more, reach_least i j (length more) (reach i j (length ps) taken ps) more)
 
 put_sends : {M : Type 0} → (a b : End M) (la lb : List (Packet M)) (x : M) (stamp : ℕ) → Known (pair_of a b la lb) → AllPut (pair_of a b la lb) → AllPut (pair_of a (sent b x) la (lb ++ option_to_list (sent_packet b x stamp)))
@@ -89,20 +89,20 @@ putting hello quiet =
 abbrev pub Reaches : {M : Type 0} → ℕ → ℕ → Pair M → Type 0
 Reaches t n pair = t ≤ reach pair.left.end.mine pair.right.end.mine n pair.right.end.taken pair.left.link
 
-reaches_same : {M : Type 0} → (t n m : ℕ) (a b c d : End M) (la lc lb ld : List (Packet M)) → c.mine ≡ a.mine → d.mine ≡ b.mine → reach a.mine b.mine n b.taken la ≤ reach a.mine b.mine m d.taken lc
+pub reaches_same : {M : Type 0} → (t n m : ℕ) (a b c d : End M) (la lc lb ld : List (Packet M)) → c.mine ≡ a.mine → d.mine ≡ b.mine → reach a.mine b.mine n b.taken la ≤ reach a.mine b.mine m d.taken lc
     → Reaches t n (pair_of a b la lb) → Reaches t m (pair_of c d lc ld)
 reaches_same t n m a b c d la lc lb ld mine other more h =
     subst (λ i. t ≤ reach i d.mine m d.taken lc) (sym mine) (subst (λ j. t ≤ reach a.mine j m d.taken lc) (sym other) (grind (arith, more, h)))
 
-reaches_next : {M : Type 0} → (t n : ℕ) (a b : End M) (ps lb : List (Packet M)) (p : Packet M) → Known (pair_of a b (p ∷ ps) lb) → Reaches t (suc n) (pair_of a b (p ∷ ps) lb) → Reaches t n (pair_of a (received b p) ps lb)
+pub reaches_next : {M : Type 0} → (t n : ℕ) (a b : End M) (ps lb : List (Packet M)) (p : Packet M) → Known (pair_of a b (p ∷ ps) lb) → Reaches t (suc n) (pair_of a b (p ∷ ps) lb) → Reaches t n (pair_of a (received b p) ps lb)
 reaches_next t n a b ps lb p k h =
     let up = next_taken a.mine b.mine b p k.right refl (to_right a b ps lb p k) in
     reaches_same t (suc n) n a b a (received b p) (p ∷ ps) ps lb lb refl (advances b p (to_right a b ps lb p k)).mine (reach_rises a.mine b.mine n (next a.mine b.mine b.taken p) (received b p).taken ps up) h
 
-reaches_none : {M : Type 0} → (t n : ℕ) (a b : End M) (lb : List (Packet M)) → Reaches t (suc n) (pair_of a b [] lb) → Reaches t n (pair_of a b [] lb)
+pub reaches_none : {M : Type 0} → (t n : ℕ) (a b : End M) (lb : List (Packet M)) → Reaches t (suc n) (pair_of a b [] lb) → Reaches t n (pair_of a b [] lb)
 reaches_none {M} t n a b lb h = grind (arith, h, reach_least {M = M} a.mine b.mine n b.taken [])
 
-reaches_bears : {M : Type 0} → (hello : M) (quiet : Bool) (t n : ℕ) → Bears hello quiet Known (Reaches t n)
+pub reaches_bears : {M : Type 0} → (hello : M) (quiet : Bool) (t n : ℕ) → Bears hello quiet Known (Reaches t n)
 reaches_bears hello quiet t n = record {
   left_takes = λ a b la ps p k h. reaches_same t n n a b (received a p) b la la (p ∷ ps) ps (advances a p (to_left a b la ps p k)).mine refl (grind arith) h;
   left_sends = λ on a b la lb x stamp k h. reaches_same t n n a b (sent a x) b la (la ++ option_to_list (sent_packet a x stamp)) lb lb (sending a x stamp).mine refl (reach_more a.mine b.mine n b.taken la (option_to_list (sent_packet a x stamp))) h;

@@ -17,6 +17,7 @@ pub mod Meeting
 pub mod Reaching
 pub mod HandingUp
 pub mod HandedUp
+pub mod Telling
 pub mod Acknowledging
 pub mod Quieting
 pub mod AtRest

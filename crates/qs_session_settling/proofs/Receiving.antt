@@ -1,6 +1,5 @@
 -- What a packet makes of the end that takes it, in the four ways in which it may be taken.
-use Rattle.std.proofs.Common.{◌≡◌, ◌≢◌, ◌⊎◌, Bool, ℕ, ◌+◌, ◌-◌, ◌<◌, ◌≤◌, true, refl, arith, length, take, drop, inl, inr}
-use Rattle.std.proofs.Common.{length-take, length-drop}
+use Rattle.std.proofs.Common.{◌≡◌, ◌≢◌, ◌⊎◌, Bool, ℕ, ◌+◌, ◌-◌, ◌<◌, ◌≤◌, true, refl, arith, length, take, drop, inl, inr, length-take, length-drop}
 use Rattle.std.proofs.lemmas.Bool.Decides.{nat_tests}
 use Rattle.qs_session_channels.specs.End.{End, Packet, Answer, OldPeer, NewPeer, OldSelf, Hello, Repeat, Early, Message, Answers, answer, left, received, acknowledged}
 use Rattle.qs_session_channels.proofs.ReceiveShown.{answers}
@@ -32,7 +31,7 @@ pub record TakesIn {M : Type 0} (e : End M) (p : Packet M) (f : End M) : Type 0 
   pub mine : f.mine ≡ e.mine
   pub known : f.known ≡ e.known
   pub met : f.met ≡ true
-  pub taken : (f.taken ≡ e.taken + 1) ⊎ ((f.taken ≡ e.taken) × (p.number ≢ e.taken + 1))
+  pub taken : ((f.taken ≡ e.taken + 1) × (p.number ≡ e.taken + 1)) ⊎ ((f.taken ≡ e.taken) × (p.number ≢ e.taken + 1))
   pub sum : f.acked + length f.kept ≡ e.acked + length e.kept
   pub rises : e.acked ≤ f.acked
   pub within : (f.acked ≡ e.acked) ⊎ (f.acked ≤ p.ack)
@@ -57,7 +56,7 @@ is_acked e ack = record {
   acks = λ t is more. grind (arith, length-take, length-drop, is, more);
 }
 
-takes_in : {M : Type 0} → (e : End M) (p : Packet M) (owed : Bool) (taken : ℕ) → p.inc ≡ e.known → p.to_inc ≡ e.mine → ((taken ≡ e.taken + 1) ⊎ ((taken ≡ e.taken) × (p.number ≢ e.taken + 1)))
+takes_in : {M : Type 0} → (e : End M) (p : Packet M) (owed : Bool) (taken : ℕ) → p.inc ≡ e.known → p.to_inc ≡ e.mine → (((taken ≡ e.taken + 1) × (p.number ≡ e.taken + 1)) ⊎ ((taken ≡ e.taken) × (p.number ≢ e.taken + 1)))
     → (e.owed ≡ true → owed ≡ true) → (p.number ≢ 0 → owed ≡ true) → (p.number ≡ 0 → owed ≡ e.owed) → TakesIn e p (acknowledged e p.ack owed taken)
 takes_in e p owed taken by for n on asked calm =
     let k = is_acked e p.ack in
@@ -70,7 +69,7 @@ by_answer e p (OldSelf mine got) is = inr (inr (inl (record { by = is.2; for = i
 by_answer e p Hello is = inr (inr (inr (takes_in e p e.owed e.taken is.0 is.1 (inr (refl, grind (arith, is.2))) (λ on. on) (λ some. absurd (some is.2)) (λ none. refl))))
 by_answer e p (Repeat number) is = inr (inr (inr (takes_in e p true e.taken is.1 is.2 (inr (refl, grind (arith, is.4))) (λ on. refl) (λ some. refl) (λ none. absurd (grind (arith, is.3, none))))))
 by_answer e p (Early number expected) is = inr (inr (inr (takes_in e p true e.taken is.2 is.3 (inr (refl, grind (arith, is.4))) (λ on. refl) (λ some. refl) (λ none. absurd (grind (arith, is.4, none))))))
-by_answer e p (Message m) is = inr (inr (inr (takes_in e p true (e.taken + 1) is.1 is.2 (inl refl) (λ on. refl) (λ some. refl) (λ none. absurd (grind (arith, is.3, none))))))
+by_answer e p (Message m) is = inr (inr (inr (takes_in e p true (e.taken + 1) is.1 is.2 (inl (refl, is.3)) (λ on. refl) (λ some. refl) (λ none. absurd (grind (arith, is.3, none))))))
 
 pub taking : {M : Type 0} → (e : End M) (p : Packet M) → Taking e p (received e p)
 taking e p = by_answer e p (answer e p) (answers e p (answer e p) refl)

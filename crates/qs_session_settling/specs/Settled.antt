@@ -83,9 +83,9 @@ EachIsSilent M = (hello : M) (pair : Pair M) → IsConsistent pair → IsAtRest 
 abbrev pub EachRests : (M : Type 0) → Type 0
 EachRests M = (hello : M) (step : Step M) (pair : Pair M) → IsConsistent pair → IsAtRest pair → sends_none (step ∷ []) ≡ true → stepped hello step pair ≡ pair
 
--- seven passes in which no message is sent bring two that have met to rest
+-- five passes in which no message is sent bring two that have met to rest
 abbrev pub EachFallsSilent : (M : Type 0) → Type 0
-EachFallsSilent M = (hello : M) (old new : Pair M) → IsConsistent old → HaveMet old → QuietPasses hello 7 old new → IsAtRest new
+EachFallsSilent M = (hello : M) (old new : Pair M) → IsConsistent old → HaveMet old → QuietPasses hello 5 old new → IsAtRest new
 
 -- ---- together: what eleven passes without a send make of whatever a run left
 

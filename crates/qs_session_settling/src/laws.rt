@@ -30,7 +30,7 @@ pub fn hands_up<M>()
     ensures whole { EachHasHandedUp M }
 {}
 
-/// Seven passes without a send bring two ends that have met to rest: nothing is kept, owed or on its way. At rest no tick puts a packet, and all stays as it
+/// Five passes without a send bring two ends that have met to rest: nothing is kept, owed or on its way. At rest no tick puts a packet, and all stays as it
 /// is until a message is sent.
 pub fn rests<M>()
     ensures falls { EachFallsSilent M }
