@@ -1,5 +1,5 @@
 -- Three passes, and each end knows the other.
-use Rattle.std.proofs.Common.{◌≡◌, ◌≢◌, ◌⊎◌, Bool, ℕ, suc, true, false, refl, sym, subst, arith, List, [], ◌∷◌, ◌++◌, length, inl, inr}
+use Rattle.std.proofs.Common.{◌≡◌, ◌≢◌, ◌⊎◌, ℕ, suc, true, false, refl, sym, subst, arith, List, [], ◌∷◌, ◌++◌, length, inl, inr}
 use Rattle.std.specs.Prelude.{⊤, option_to_list}
 use Rattle.qs_session_channels.specs.End.{End, Packet, received, sent, sent_packet, ticked, tick_packets, again}
 use Rattle.qs_session_settling.specs.Pairs.{Pair, Step, swapped, stepped}
@@ -10,6 +10,7 @@ use Rattle.qs_session_settling.proofs.Ticking.{Ticking, ticking, sending}
 use Rattle.qs_session_settling.proofs.Staying.{pair_of, stays, other_way}
 use Rattle.qs_session_settling.proofs.Stages.{Bears, Keeps, Stage, Stays, keeps_each}
 use Rattle.qs_session_settling.proofs.Rows.{Row, row_of, parted, stays_row, keeps_row, consistent_on, staged_row, row_mirrored}
+use Rattle.qs_session_settling.proofs.Keeping.{keeps_nothing}
 use Rattle.qs_session_settling.proofs.Within.{Within, within_more, within_front, within_behind}
 use Rattle.qs_session_settling.proofs.Learning.{heard, KnowsLeft, knows_on, RightRose, rose_on}
 
@@ -76,18 +77,9 @@ says_on hello = record {
   right_takes = λ a b ps lb p is h. says_same a b a (received b p) (p ∷ ps) ps lb refl (heard b p).mine h;
 }
 
-anything : {M : Type 0} → (hello : M) (quiet : Bool) (I : Pair M → Type 0) → Bears hello quiet I (λ pair. ⊤)
-anything hello quiet I = record {
-  left_takes = λ a b la ps p is h. tt;
-  left_sends = λ on a b la lb x stamp is h. tt;
-  left_ticks = λ a b la lb stamp is h. tt;
-  right_sends = λ on a b la lb x stamp is h. tt;
-  right_ticks = λ a b la lb stamp is h. tt;
-}
-
 saying : {M : Type 0} → (hello : M) → Stage hello false Sure (λ n pair. ⊤) Says
 saying hello = record {
-  bears = λ n. anything hello false Sure;
+  bears = λ n. (keeps_nothing hello false Sure).bears;
   takes = λ n a b ps lb p is h. tt;
   finds_none = λ n a b lb is h. tt;
   takes_more = λ a b ps lb p is h. tt;

@@ -1,7 +1,7 @@
 -- Facts that steps keep, and stages: what a pass makes of a pair, by what each step does to the packets that are still to be taken.
 --
 -- The right side takes what stood on the left side's link, and ticks; for the other way round pairs are swapped.
-use Rattle.std.proofs.Common.{◌≡◌, Bool, ℕ, zero, suc, true, false, refl, subst, ◌∙◌, arith, List, [], ◌∷◌, ◌++◌, length, if◌then◌else◌}
+use Rattle.std.proofs.Common.{◌≡◌, Bool, ℕ, zero, suc, true, false, refl, ◌∙◌, arith, List, [], ◌∷◌, ◌++◌, length, if◌then◌else◌}
 use Rattle.std.specs.Prelude.{⊤, option_to_list}
 use Rattle.qs_base_lemmas.proofs.Tests.{and_first, and_last}
 use Rattle.qs_session_channels.specs.End.{End, Packet, received, sent, sent_packet, ticked, tick_packets}
@@ -168,12 +168,6 @@ by_right pair steps is = and_last (takes_and_ticks of_left (length pair.right.li
 
 pub by_left : {M : Type 0} → (pair : Pair M) (steps : List (Step M)) → is_pass pair steps ≡ true → takes_and_ticks of_left (length pair.right.link) steps ≡ true
 by_left pair steps is = and_first (takes_and_ticks of_left (length pair.right.link) steps) (takes_and_ticks of_right (length pair.left.link) steps) is
-
--- the left side goes through a stage of the swapped pair
-pub staged_left : {M : Type 0} → (hello : M) (quiet : Bool) (I : Pair M → Type 0) (F : ℕ → Pair M → Type 0) (D : Pair M → Type 0) → Stays hello quiet I → Stage hello quiet I F D
-    → (steps : List (Step M)) (n : ℕ) → IsOf quiet steps → (pair : Pair M) → takes_and_ticks of_left n steps ≡ true → I (swapped pair) → F n (swapped pair) → D (swapped (after hello steps pair))
-staged_left hello quiet I F D stays s steps n of pair whole is h =
-    subst D (after_mirrored hello steps pair) (staged hello quiet I F D stays s (mirrored steps) n (of_mirrored quiet steps of) (swapped pair) (right_mirrored n steps ∙ whole) is h)
 
 -- a step keeps it
 pub keeps_each : {M : Type 0} → (hello : M) (quiet : Bool) (I P : Pair M → Type 0) → Keeps hello quiet I P → (step : Step M) → IsOf quiet (step ∷ []) → (pair : Pair M) → I pair → P pair → P (stepped hello step pair)
