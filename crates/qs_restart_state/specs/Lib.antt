@@ -1,0 +1,4 @@
+pub mod States
+pub mod Alike
+pub mod Taken
+pub mod Open
