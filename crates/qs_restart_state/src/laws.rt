@@ -1,6 +1,7 @@
 //! What holds of the state of each coherent log.
 ghost use Rattle.qs_restart_state.specs.Alike.{EachFindsSame, EachReadsLikeItself, EachStateReadsAlike, EachStaysAlike};
 ghost use Rattle.qs_restart_state.specs.Open.{EachOpenIsKept, EachStateOpensSame};
+ghost use Rattle.qs_restart_state.specs.StateRow.{RowState};
 ghost use Rattle.qs_restart_state.specs.States.{EachStateIsCoherent, EachStateSays};
 ghost use Rattle.qs_restart_state.specs.Taken.{EachMayTake};
 
@@ -41,4 +42,9 @@ pub fn same_transactions_are_open()
 /// exactly where its transaction was committed.
 pub fn logs_may_be_taken()
     ensures { EachMayTake }
+{}
+
+/// The state of a log with a transaction of each kind, record by record, in its order.
+pub fn a_state_by_records()
+    ensures { RowState }
 {}
