@@ -1,12 +1,14 @@
 -- Which clause an entry breaks that is no restart, it breaks whatever Commits the logs held as the run began.
-use Rattle.std.proofs.Common.{◌≡◌, ◌∙◌, ℕ, ◌+◌, Bool, false, List, refl, sym, ap, map, length, Option, Some, None}
+use Rattle.std.proofs.Common.{[], ◌∷◌, ◌≡◌, ◌∙◌, ℕ, ◌+◌, Bool, false, List, refl, sym, ap, map, length, Option, Some, None}
 use Rattle.std.specs.Prelude.{not, slice_get, if◌then◌else◌}
+use Rattle.std.proofs.lemmas.Bool.{not-true}
 use Rattle.qs_base.specs.declared.identifiers.ClientNo.{ClientNo}
 use Rattle.qs_base.specs.declared.identifiers.Member.{Member}
 use Rattle.qs_base.specs.declared.identifiers.NodeNo.{NodeNo}
 use Rattle.qs_base.specs.declared.identifiers.Outcome.{Outcome}
 use Rattle.qs_base.specs.declared.identifiers.Tid.{Tid}
 use Rattle.qs_base.specs.declared.identifiers.Outcome.TheVariants as outcomes
+use Rattle.qs_base_lemmas.proofs.Tests.{and_first, and_last}
 use Rattle.qs_ops.specs.declared.answer.Cause.{Cause}
 use Rattle.qs_ops.specs.declared.operation.Op.{Op}
 use Rattle.qs_ops.specs.declared.reply.Reply.{Reply}
@@ -24,7 +26,7 @@ use Rattle.qs_book_machine.specs.Lawful.{broken, broken_at, broken_node, effect,
 use Rattle.qs_book_machine.specs.Clauses.{broken_issue, request_here, is_crossed_busy, is_reply, broken_request, broken_serve, is_vote_due, is_files_vote, is_audit_vote, is_names_vote, is_server_vote, has_vote, broken_vote, broken_counted, may_decide, is_room_cause, is_gone_cause, is_cause, broken_outcome, broken_decide, broken_loan, broken_yield, broken_ending, broken_learn}
 use Rattle.qs_book_machine.specs.Transaction.{TransactionValue, part_of, is_crossed, is_covering, learnt_abort}
 use Rattle.qs_book_machine.specs.declared.transaction.Request.{Request}
-use Rattle.qs_world_forgetting.specs.BookCommits.{EachEntryIsSame, book_without, is_restart, without_commits}
+use Rattle.qs_world_forgetting.specs.BookCommits.{EachStretchIsSame, no_restart, EachEntryIsSame, book_without, is_restart, without_commits}
 use Rattle.qs_world_forgetting.proofs.EntriesDo.{act_goes, get_without, length_without, opt_without}
 
 -- ---- which clause it breaks
@@ -174,3 +176,12 @@ each_entry_is_same book other entry e same = record {
   clause = sym (broken_without book entry e) ∙ ap (λ (b : BookValue). broken b entry) same ∙ broken_without other entry e;
   effects = sym (effect_without book entry e) ∙ ap (λ (b : BookValue). effect b entry) same ∙ effect_without other entry e;
 }
+
+-- ---- a stretch of them
+
+pub each_stretch_is_same : EachStretchIsSame
+each_stretch_is_same book other [] none same lawful = (tt, same)
+each_stretch_is_same book other (entry ∷ entries) none same (now, later) =
+    let one = each_entry_is_same book other entry (not-true (is_restart entry.act) (and_first (no_restart entry) _ none)) same in
+    let rest = each_stretch_is_same (effect book entry) (effect other entry) entries (and_last (no_restart entry) _ none) one.effects later in
+    ((sym one.clause ∙ now, rest.0), rest.1)

@@ -1,10 +1,11 @@
 -- The reference machine over logs that held other Commits as the run began: it reads these at a restart alone.
-use Rattle.std.specs.Prelude.{◌≡◌, Bool, true, false, [], map}
+use Rattle.std.specs.Prelude.{◌≡◌, Bool, true, false, not, List, [], map}
+use Rattle.std.specs.List.{list_all}
 use Rattle.qs_book_journal.specs.declared.entry.Act.{Act}
 use Rattle.qs_book_journal.specs.declared.entry.Act.TheVariants as acts
 use Rattle.qs_book_journal.specs.declared.entry.Entry.{Entry}
 use Rattle.qs_book_machine.specs.Book.{BookValue}
-use Rattle.qs_book_machine.specs.Lawful.{broken, effect}
+use Rattle.qs_book_machine.specs.Lawful.{IsLawful, book_after, broken, effect}
 use Rattle.qs_book_machine.specs.Nodes.{NodeValue}
 
 abbrev pub is_restart : Act → Bool
@@ -28,3 +29,11 @@ pub record IsSameEntry (book other : BookValue) (entry : Entry) : Type 0 where
 
 abbrev pub EachEntryIsSame : Type 0
 EachEntryIsSame = (book other : BookValue) (entry : Entry) → is_restart entry.act ≡ false → AreSameBut book other → IsSameEntry book other entry
+
+-- ---- a stretch without restarts
+
+abbrev pub no_restart : Entry → Bool
+no_restart entry = not (is_restart entry.act)
+
+abbrev pub EachStretchIsSame : Type 0
+EachStretchIsSame = (book other : BookValue) (entries : List Entry) → list_all no_restart entries ≡ true → AreSameBut book other → IsLawful book entries → IsLawful other entries × AreSameBut (book_after book entries) (book_after other entries)
