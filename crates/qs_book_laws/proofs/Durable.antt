@@ -47,7 +47,7 @@ IsRestart n here act = (inc : ℕ) × (pend : List Found) × (done : List Tid) �
 abbrev pub IsServe : Tid → Member → Act → Type 0
 IsServe tid member act = (from : NodeNo) × (n : ℕ) × (reply : Reply) × (act ≡ acts.Serve tid member from n reply)
 
-abbrev recorded : Option Mark → Option OnRecord
+abbrev pub recorded : Option Mark → Option OnRecord
 recorded None = None
 recorded (Some mark) = mark.rec
 
@@ -80,7 +80,7 @@ module _ (tid : Tid) (member : Member) where
   going here (acts.Restart inc pend done) h = inr (inr (inc, pend, done, refl, same_number here member.node.0 h))
   going here act h = absurd (cc h)
 
-  voting : (act : Act) → votes_on tid member act ≡ true → IsVote tid member act
+  pub voting : (act : Act) → votes_on tid member act ≡ true → IsVote tid member act
   voting (acts.Vote t other ballot covers) h = vote_is t other ballot covers h
   voting act h = absurd (cc h)
 
@@ -101,14 +101,14 @@ module _ (tid : Tid) (member : Member) where
       alike_back book (effect_act entry.stamp entry.node.0 act book) tid a
       (ap (λ (x : Act). cell_of_transaction (find_transaction (effect_act entry.stamp entry.node.0 x book) tid)) (sym is) ∙ now)
 
-  never_votes : (book : BookValue) (entry : Entry) → broken book entry ≡ None → IsCommitted (effect book entry) tid → IsVote tid member entry.act → ⊥
+  pub never_votes : (book : BookValue) (entry : Entry) → broken book entry ≡ None → IsCommitted (effect book entry) tid → IsVote tid member entry.act → ⊥
   never_votes book entry h now (ballot, covers, is) =
       let at : (node : NodeValue) × (slice_get book.nodes entry.node.0 ≡ Some node) × (broken_act book entry.stamp entry.node.0 node (acts.Vote tid member ballot covers) ≡ None) =
       lawful_node book entry (acts.Vote tid member ballot covers) is (λ node. refl) h in
       no_vote entry.node.0 at.0 tid (find_transaction book tid) member ballot covers
       (acted_back book entry (acts.Vote tid member ballot covers) is (alike.by_vote entry.node.0 tid member ballot covers book) now) at.2
 
-  never_serves : (book : BookValue) (entry : Entry) → broken book entry ≡ None → Ready book tid member → IsServe tid member entry.act → ⊥
+  pub never_serves : (book : BookValue) (entry : Entry) → broken book entry ≡ None → Ready book tid member → IsServe tid member entry.act → ⊥
   never_serves book entry h r (from, n, reply, is) =
       let at : (node : NodeValue) × (slice_get book.nodes entry.node.0 ≡ Some node) × (broken_act book entry.stamp entry.node.0 node (acts.Serve tid member from n reply) ≡ None) =
       lawful_node book entry (acts.Serve tid member from n reply) is (λ node. refl) h in
@@ -116,18 +116,18 @@ module _ (tid : Tid) (member : Member) where
 
   -- ---- an entry at which the member does nothing on it
 
-  record_marked : (book : BookValue) → record_at member.node.0 book tid member.server.0 ≡ recorded (mark_of book tid member)
+  pub record_marked : (book : BookValue) → record_at member.node.0 book tid member.server.0 ≡ recorded (mark_of book tid member)
   record_marked book = by (slice_get book.nodes member.node.0)
     where
       by : (o : Option NodeValue) → (elim o [ None ↦ None | Some v ↦ record_of v tid member.server.0 ]) ≡ recorded (option_map (mark_in tid member.server.0) o)
       by None = refl
       by (Some v) = refl
 
-  record Rests (old new : BookValue) : Type 0 where
+  pub record Rests (old new : BookValue) : Type 0 where
     pub pending : held_at new tid member ≡ held_at old tid member
     pub on_record : record_at member.node.0 new tid member.server.0 ≡ record_at member.node.0 old tid member.server.0
 
-  rests : (book : BookValue) (entry : Entry) → keeps_contents member.server.0 ≡ true → Inv book → Ready book tid member → broken book entry ≡ None → IsCommitted (effect book entry) tid → lets_go tid member entry.node.0 entry.act ≡ false
+  pub rests : (book : BookValue) (entry : Entry) → keeps_contents member.server.0 ≡ true → Inv book → Ready book tid member → broken book entry ≡ None → IsCommitted (effect book entry) tid → lets_go tid member entry.node.0 entry.act ≡ false
       → Rests book (effect book entry)
   rests book entry keeps i r h now holds = record {
     pending =
@@ -147,7 +147,7 @@ module _ (tid : Tid) (member : Member) where
   abbrev learning : NodeValue → NodeValue
   learning v = doubts_after tid member.server.0 (learn_node outcomes.Commit tid member.server.0 v)
 
-  learn_commits : (book : BookValue) (entry : Entry) → broken book entry ≡ None → IsCommitted (effect book entry) tid → IsLearn tid member entry.act → entry.act ≡ acts.Learn tid member outcomes.Commit
+  pub learn_commits : (book : BookValue) (entry : Entry) → broken book entry ≡ None → IsCommitted (effect book entry) tid → IsLearn tid member entry.act → entry.act ≡ acts.Learn tid member outcomes.Commit
   learn_commits book entry h now (outcome, is) =
       let at : (node : NodeValue) × (slice_get book.nodes entry.node.0 ≡ Some node) × (broken_act book entry.stamp entry.node.0 node (acts.Learn tid member outcome) ≡ None) =
       lawful_node book entry (acts.Learn tid member outcome) is (λ node. refl) h in

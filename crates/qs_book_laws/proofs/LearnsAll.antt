@@ -18,6 +18,7 @@ use Rattle.qs_book_laws.proofs.Maps.{changed_at_here, removed_none}
 use Rattle.qs_book_laws.proofs.OnRecord.{on_record_pends}
 use Rattle.qs_book_laws.proofs.Ready.{Ready}
 use Rattle.qs_book_laws.proofs.ReadyCommits.{ready_once}
+use Rattle.qs_book_laws.proofs.RecordedLearns.{recorded_learns}
 use Rattle.qs_book_laws.proofs.Shares.{number, removed_apart, table, table_other}
 use Rattle.qs_book_laws.proofs.Takes.{some_same}
 use Rattle.qs_book_laws.proofs.Tidy.{AllTidy, IsTidy, opening_tidy, step_tidy}
@@ -183,9 +184,21 @@ module _ (opened : List Opened) (history : List Entry) (stamp n : ℕ) (tid : Ti
   table_learns b true its after h = subst (HasCommitted (table b node) after) (recorded b) h
   table_learns b false off after h = subst (HasCommitted (table b node) after) (sym (clear b off)) h
 
-  record_gone : (b c : Bool) → has b servers ≡ c → (after : NodeValue) → record_of after tid (number b) ≡ (if c then None else record_of node tid (number b)) → changes_of (record_of after tid (number b)) ≡ []
-  record_gone b true its after h = ap changes_of h
-  record_gone b false off after h = ap changes_of h ∙ clear b off
+  -- and where something is on record, its server learns
+  unrecorded : (b : Bool) → has b servers ≡ false → record_of node tid (number b) ≡ None
+  unrecorded b off = by (record_of node tid (number b)) refl
+    where
+      ready : Ready book tid (member b)
+      ready = ready_once tid (member b) opened history coherent lawful is
+
+      by : (o : Option OnRecord) → record_of node tid (number b) ≡ o → o ≡ None
+      by None at = refl
+      by (Some rec) at = absurd (cc (sym (all ready.tx (record { 0 = number b }) ready.found (keeps b)
+          (recorded_learns opened coherent tid (member b) (keeps b) there at_home history lawful is ready.tx node ready.found node_there (λ none. cc (sym at ∙ none)))) ∙ off))
+
+  record_gone : (b c : Bool) → has b servers ≡ c → (after : NodeValue) → record_of after tid (number b) ≡ (if c then None else record_of node tid (number b)) → record_of after tid (number b) ≡ None
+  record_gone b true its after h = h
+  record_gone b false off after h = h ∙ unrecorded b off
 
   turned : (t : Tid) → same_tid t tid ≡ false → same_tid tid t ≡ false
   turned t far = by (same_tid tid t) refl
@@ -207,5 +220,5 @@ module _ (opened : List Opened) (history : List Entry) (stamp n : ℕ) (tid : Ti
         },
       )
     where
-      gone : (after : NodeValue) → Runs tid node after servers → (server : ℕ) → (b : Bool) × (server ≡ number b) → changes_of (record_of after tid server) ≡ []
-      gone after r server (b, its) = subst (λ (k : ℕ). changes_of (record_of after tid k) ≡ []) (sym its) (record_gone b (has b servers) refl after (r.records b))
+      gone : (after : NodeValue) → Runs tid node after servers → (server : ℕ) → (b : Bool) × (server ≡ number b) → record_of after tid server ≡ None
+      gone after r server (b, its) = subst (λ (k : ℕ). record_of after tid k ≡ None) (sym its) (record_gone b (has b servers) refl after (r.records b))

@@ -89,3 +89,6 @@ pub mod OpenByEntries
 pub mod Beyond
 pub mod GoneByEntries
 pub mod Pasts
+pub mod Recorded
+pub mod Filled
+pub mod RecordedLearns

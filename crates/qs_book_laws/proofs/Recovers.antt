@@ -66,7 +66,7 @@ module _ (here : ℕ) (book : BookValue) (node : NodeValue) (tid : Tid) (s : ℕ
       by true new = apart new (is_at (voter_cmp (voter tid s)) vote.0) refl
       by false old = refl
 
-  votes_none : (pend : List Found) (v : NodeValue) → record_of (with_votes (flat_map (new_vote here book node) pend) v) tid s ≡ record_of v tid s
+  pub votes_none : (pend : List Found) (v : NodeValue) → record_of (with_votes (flat_map (new_vote here book node) pend) v) tid s ≡ record_of v tid s
   votes_none [] v = refl
   votes_none (found ∷ pend) v =
       ap (λ (w : NodeValue). record_of w tid s) (fold-append with_vote v (new_vote here book node found) (flat_map (new_vote here book node) pend))
@@ -84,7 +84,7 @@ stays_none (t ∷ done) tid s v h =
     forgot t k w none = removed_none (is_at (voter_cmp (voter t k))) (is_at (voter_cmp (voter tid s))) w.records none
 
 -- what is on record at files or audit of a transaction whose Commit is found is so no more
-forgotten : (b : Bool) (done : List Tid) (tid : Tid) (v : NodeValue) → IsTidy v → is_among done tid ≡ true → record_of (fold without_records v done) tid (number b) ≡ None
+pub forgotten : (b : Bool) (done : List Tid) (tid : Tid) (v : NodeValue) → IsTidy v → is_among done tid ≡ true → record_of (fold without_records v done) tid (number b) ≡ None
 forgotten b [] tid v tidy h = absurd (cc h)
 forgotten b (t ∷ done) tid v tidy h =
     by (same_tid tid t) refl h

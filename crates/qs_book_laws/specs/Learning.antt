@@ -1,5 +1,5 @@
 -- How what files and audit of a node have pending of a transaction ends there: it is on record once it is committed, its member is still to learn, and as it learns commit all that is on record is committed.
-use Rattle.std.specs.Prelude.{◌≡◌, ◌≢◌, ◌==◌, ℕ, Bool, true, false, List, [], ◌∷◌, length, Some, nat_lt, slice_get}
+use Rattle.std.specs.Prelude.{◌≡◌, ◌≢◌, ◌==◌, ℕ, Bool, true, false, List, [], ◌∷◌, length, Some, None, nat_lt, slice_get}
 use Rattle.std.specs.List.{list_any}
 use Rattle.qs_base.specs.Order.{same_tid}
 use Rattle.qs_base.specs.declared.identifiers.Member.{Member}
@@ -51,7 +51,7 @@ pub record HasCommitted (before after : TableValue) (changes : List Op) : Type 0
 pub record HasLearnt (tid : Tid) (before after : NodeValue) : Type 0 where
   pub files : HasCommitted before.files after.files (changes_of (record_of before tid files_no))
   pub audit : HasCommitted before.audit after.audit (changes_of (record_of before tid audit_no))
-  pub gone : (server : ℕ) → keeps_contents server ≡ true → changes_of (record_of after tid server) ≡ []
+  pub gone : (server : ℕ) → keeps_contents server ≡ true → record_of after tid server ≡ None
   pub others : (t : Tid) (server : ℕ) → same_tid t tid ≡ false → record_of after t server ≡ record_of before t server
 
 -- each of files and audit that has still to learn is among them

@@ -70,7 +70,7 @@ module _ (book : BookValue) (entry : Entry) (w : LastsWell book) (h : broken boo
       audit = made_by state.audit later.audit log.audit same.audit s.audit;
       recorded = every_on (IsAsRecorded k book state) (IsAsRecorded k after later) (λ v is clear rec at. recorded_on (Some rec) v (is clear rec (sym (record_same v.tid v.server.0) ∙ at))) log.prepared s.recorded;
       apart = s.apart;
-      gone = λ tid server kept among. ap machine.changes_of (record_same tid server) ∙ s.gone tid server kept among;
+      gone = λ tid server kept among. record_same tid server ∙ s.gone tid server kept among;
       undone = every_on (IsUndone k book) (IsUndone k after) undone_on log.prepared s.undone;
     }
       where

@@ -1,5 +1,5 @@
 -- As a world begins the machine has of each log what it says: what is on record, what is committed, contents and changes.
-use Rattle.qs_world_lawful.proofs.Words.{◌≡◌, ◌⊎◌, inl, inr, ℕ, ◌<◌, ◌==◌, ◌&&◌, ◌||◌, not, Bool, true, false, List, [], ◌∷◌, map, flat_map, Option, Some, None, refl, sym, ap, subst, ◌∙◌, arith, is_some, nat_le, nat_tests, option_map, list_any, same_tid, same_tid-self, same_tid-true, Tid, BookValue, cell_of_transaction, find_transaction, changes_of, record_of, voter, voter_cmp, put_of, is_among, TransactionValue, OnRecord, no_table, Prepared, Recovery, is_in_doubt, is_untold_of, names_transaction}
+use Rattle.qs_world_lawful.proofs.Words.{◌≡◌, ◌⊎◌, inl, inr, ℕ, ◌<◌, ◌==◌, ◌&&◌, ◌||◌, not, Bool, true, false, List, [], ◌∷◌, map, flat_map, Option, Some, None, refl, sym, ap, subst, ◌∙◌, arith, is_some, nat_le, nat_tests, option_map, list_any, same_tid, same_tid-self, same_tid-true, Tid, BookValue, cell_of_transaction, find_transaction, record_of, voter, put_of, is_among, TransactionValue, OnRecord, no_table, Prepared, Recovery, is_in_doubt, is_untold_of, names_transaction}
 use Rattle.qs_world_lawful.proofs.Words.{IsOpening, Opening, doubt_at, HoldsLogged, IsCommitMade, IsMarked, IsRecordSafe, StandsIn, Every, IsApplied, IsVoteLogged, HoldsSaid, IsApart, IsAsRecorded, IsRecorded, eqb-self, some_same, or_left, or_right, and_parts, eqb-true, not-true}
 use Rattle.qs_book_laws.proofs.Reopens.{restarted_is}
 use Rattle.qs_book_machine.specs.Nodes as machine
@@ -170,7 +170,7 @@ module _ (o : Opening) (opens : IsOpening o) (n : ℕ) (low : n < o.size) where
     };
     recorded = every_on KnowsVote (IsAsRecorded n now its) recorded its_log.prepared known;
     apart = every_on KnowsVote (IsApart its_log) (λ v k names clear. far_of o opens n low v k.doubt clear) its_log.prepared known;
-    gone = λ tid server kept among. ap changes_of (none tid server among (record_of its tid server) refl);
+    gone = λ tid server kept among. none tid server among (record_of its tid server) refl;
     undone = every_on KnowsVote (IsUndone n now) undone its_log.prepared known;
   }
     where

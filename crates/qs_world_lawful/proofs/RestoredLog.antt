@@ -1,5 +1,5 @@
 -- After a restart the log of the node says what the machine has on record, and the node that begins knows its log.
-use Rattle.qs_world_lawful.proofs.Words.{◌≡◌, ◌⊎◌, inl, inr, ℕ, ◌==◌, ◌||◌, Bool, true, false, List, [], ◌∷◌, Option, Some, None, fold, refl, sym, ap, subst, ◌∙◌, if◌then◌else◌, is_some, slice_get, list_any, lookup, is_at, member_cmp, same_tid, same_tid-self, NodeNo, Tid, Found, voter_exact, changed_at_here, IsRising, put_rises, BookValue, cell_of_transaction, crossed_in, find_transaction, changes_of, is_recoverable, record_of, voter, voter_cmp, is_among, is_found_as, is_new_vote, is_on_record}
+use Rattle.qs_world_lawful.proofs.Words.{◌≡◌, ◌⊎◌, inl, inr, ℕ, ◌==◌, ◌||◌, Bool, true, false, List, [], ◌∷◌, Option, Some, None, fold, refl, sym, ap, subst, ◌∙◌, if◌then◌else◌, is_some, slice_get, list_any, lookup, is_at, member_cmp, same_tid, same_tid-self, NodeNo, Tid, Found, voter_exact, changed_at_here, IsRising, put_rises, BookValue, cell_of_transaction, crossed_in, find_transaction, is_recoverable, record_of, voter, voter_cmp, is_among, is_found_as, is_new_vote, is_on_record}
 use Rattle.qs_world_lawful.proofs.Words.{may_be_lost, member_at, new_votes, record_at, reopened, votes_once, with_votes, without_records, TransactionValue, has_learnt, is_open, OnRecord, Voter, Cell, TableValue, apply_change, apply_note, Prepared, Recovery, is_in_doubt, names_transaction, HoldsLogged, IsCommitMade, IsRecordSafe, StandsIn, Every, IsCutVote, IsRecordKept, IsVoteLogged, found_of, found_votes, HoldsSaid, IsAsRecorded, IsRecorded, IsToBeRecorded, and_parts, eqb-true, or_left, or_right}
 use Rattle.qs_world_lawful.proofs.Words.{eqb-self}
 use Rattle.qs_book_laws.proofs.Found.{forgot_others}
@@ -241,6 +241,6 @@ module _ (book : BookValue) (here : NodeNo) (stamp inc : ℕ) (log : Recovery) (
     };
     recorded = every_two (λ (v : Prepared). (is_recoverable v.server.0 ≡ true) × StandsIn book v) (IsToBeRecorded here.0 book log) (IsAsRecorded here.0 now reborn) (λ v all to_be. recorded_now v all.0 all.1 to_be) log.prepared both_of r.left.recorded;
     apart = r.left.apart;
-    gone = λ tid server kept among. ap changes_of (none_stays_none (found_votes log) kept_then tid server (forgot_done log.committed tid server found (recoverable (server == files_no) (server == audit_no) (server == extra_no) kept) rising_found among));
+    gone = λ tid server kept among. none_stays_none (found_votes log) kept_then tid server (forgot_done log.committed tid server found (recoverable (server == files_no) (server == audit_no) (server == extra_no) kept) rising_found among);
     undone = every_on (λ (v : Prepared). is_in_doubt v ≡ true → InDoubt book here stamp inc log state r v.tid) (IsUndone here.0 now) undone log.prepared (in_doubt book here stamp inc log state r);
   }

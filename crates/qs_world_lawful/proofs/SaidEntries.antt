@@ -176,9 +176,9 @@ module _ (opened : List Opened) (history : List Entry) (stamp here : ℕ) (state
 
       safe : (rec : OnRecord) → IsRecordSafe before log (voter tid server) rec.covers → changes_of (record_of state tid server) ≡ []
       safe rec (inl aborted) = absurd (cc (sym done ∙ aborted))
-      safe rec (inr (inl among)) = h.gone tid server keeps among
-      safe rec (inr (inr found)) = h.gone tid server keeps (any_vote Both (is_found (voter tid server) rec.covers) (is_among log.committed tid ≡ true) (marked rec.covers) log.prepared
-          (every_two (λ (v : Prepared). is_of tid v ≡ true → v.committed ≡ true) (IsMarked log) Both (λ v a b. (a, b)) log.prepared ended logged.marked) (to_votes (voter tid server) rec.covers log found))
+      safe rec (inr (inl among)) = ap changes_of (h.gone tid server keeps among)
+      safe rec (inr (inr found)) = ap changes_of (h.gone tid server keeps (any_vote Both (is_found (voter tid server) rec.covers) (is_among log.committed tid ≡ true) (marked rec.covers) log.prepared
+          (every_two (λ (v : Prepared). is_of tid v ≡ true → v.committed ≡ true) (IsMarked log) Both (λ v a b. (a, b)) log.prepared ended logged.marked) (to_votes (voter tid server) rec.covers log found)))
 
       by : (o : Option OnRecord) → record_of state tid server ≡ o → changes_of (record_of state tid server) ≡ []
       by None is = ap changes_of is
@@ -200,12 +200,12 @@ module _ (opened : List Opened) (history : List Entry) (stamp here : ℕ) (state
       by true its = λ unended. absurd (cc (sym unended ∙ over its))
       by false far = vote_on here before then_now state later crossed_still v (l.others v.tid v.server.0 far) is
 
-  gone : (later : machine.NodeValue) → HasLearnt tid state later → (t : Tid) (server : ℕ) → keeps_contents server ≡ true → is_among log.committed t ≡ true → changes_of (record_of later t server) ≡ []
+  gone : (later : machine.NodeValue) → HasLearnt tid state later → (t : Tid) (server : ℕ) → keeps_contents server ≡ true → is_among log.committed t ≡ true → record_of later t server ≡ None
   gone later l t server keeps among = by (same_tid t tid) refl
     where
-      by : (b : Bool) → same_tid t tid ≡ b → changes_of (record_of later t server) ≡ []
-      by true same = ap (λ (x : Tid). changes_of (record_of later x server)) (same_tid-true t tid same) ∙ l.gone server keeps
-      by false far = ap changes_of (l.others t server far) ∙ h.gone t server keeps among
+      by : (b : Bool) → same_tid t tid ≡ b → record_of later t server ≡ None
+      by true same = ap (λ (x : Tid). record_of later x server) (same_tid-true t tid same) ∙ l.gone server keeps
+      by false far = l.others t server far ∙ h.gone t server keeps among
 
   said_now : (later : machine.NodeValue) → HasLearnt tid state later → HoldsMade here then_now later log
   said_now later l = record {

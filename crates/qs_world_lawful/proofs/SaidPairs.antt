@@ -53,7 +53,7 @@ module _ (here : ℕ) (old new : BookValue) (state later : machine.NodeValue) (l
     audit = made_on state.audit later.audit log.audit k.audit h.audit;
     recorded = every_on (IsAsRecorded here old state) (IsAsRecorded here new later) (λ v. vote_on here old new state later k.crossed v (k.records v.tid v.server.0)) log.prepared h.recorded;
     apart = h.apart;
-    gone = λ tid server keeps among. ap changes_of (k.records tid server) ∙ h.gone tid server keeps among;
+    gone = λ tid server keeps among. k.records tid server ∙ h.gone tid server keeps among;
   }
 
 pub end_keeps_said : (here : ℕ) (book : BookValue) (state : machine.NodeValue) (log : Recovery) (tid : Tid) → HoldsMade here book state log → HoldsMade here book state (ended tid log)
@@ -81,12 +81,12 @@ module _ (here : ℕ) (old new : BookValue) (state later : machine.NodeValue) (l
     gone = gone;
   }
     where
-      gone : (tid : Tid) (server : ℕ) → keeps_contents server ≡ true → is_among log.committed tid ≡ true → changes_of (record_of later tid server) ≡ []
+      gone : (tid : Tid) (server : ℕ) → keeps_contents server ≡ true → is_among log.committed tid ≡ true → record_of later tid server ≡ None
       gone tid server keeps among = by (same_tid tid vote.tid) refl
         where
-          by : (b : Bool) → same_tid tid vote.tid ≡ b → changes_of (record_of later tid server) ≡ []
+          by : (b : Bool) → same_tid tid vote.tid ≡ b → record_of later tid server ≡ None
           by true same = absurd (cc (sym clear ∙ (ap (is_among log.committed) (sym (same_tid-true tid vote.tid same)) ∙ among)))
-          by false far = ap changes_of (p.others tid server (ap (λ (b : Bool). b && (server == vote.server.0)) far)) ∙ h.gone tid server keeps among
+          by false far = p.others tid server (ap (λ (b : Bool). b && (server == vote.server.0)) far) ∙ h.gone tid server keeps among
 
 -- ---- by a transaction that is learnt to be committed, and its Commit
 
@@ -183,7 +183,7 @@ module _ (here : ℕ) (old new : BookValue) (state later : machine.NodeValue) (l
 
       safe : (rec : OnRecord) → record_of state tid server.0 ≡ Some rec → IsRecordSafe old log (voter tid server.0) rec.covers → changes_of (record_of state tid server.0) ≡ []
       safe rec has (inl aborted) = absurd (cc (sym l.committed ∙ aborted))
-      safe rec has (inr (inl among)) = h.gone tid server.0 keeps among
+      safe rec has (inr (inl among)) = ap changes_of (h.gone tid server.0 keeps among)
       safe rec has (inr (inr found)) = absurd (cc (sym none ∙ any_more (is_found (voter tid server.0) rec.covers) (is_vote_of tid server) (λ v is. is_its v rec.covers is) log.prepared (to_votes (voter tid server.0) rec.covers log found)))
 
       by : (o : Option OnRecord) → record_of state tid server.0 ≡ o → changes_of (record_of state tid server.0) ≡ []
@@ -220,12 +220,12 @@ module _ (here : ℕ) (old new : BookValue) (state later : machine.NodeValue) (l
   other_apart : (v : Prepared) → is_of tid v ≡ false → IsApart log v → IsApartNow v
   other_apart v far is names unended = among_back log.committed tid v.tid far (names_transaction tid) ∙ is names unended
 
-  gone : (t : Tid) (server : ℕ) → keeps_contents server ≡ true → is_among now_committed t ≡ true → changes_of (record_of later t server) ≡ []
+  gone : (t : Tid) (server : ℕ) → keeps_contents server ≡ true → is_among now_committed t ≡ true → record_of later t server ≡ None
   gone t server keeps among = by (same_tid t tid) refl
     where
-      by : (b : Bool) → same_tid t tid ≡ b → changes_of (record_of later t server) ≡ []
-      by true same = ap (λ (x : Tid). changes_of (record_of later x server)) (same_tid-true t tid same) ∙ l.learnt.gone server keeps
-      by false far = ap changes_of (l.learnt.others t server far) ∙ h.gone t server keeps (sym (among_back log.committed tid t far (names_transaction tid)) ∙ among)
+      by : (b : Bool) → same_tid t tid ≡ b → record_of later t server ≡ None
+      by true same = ap (λ (x : Tid). record_of later x server) (same_tid-true t tid same) ∙ l.learnt.gone server keeps
+      by false far = l.learnt.others t server far ∙ h.gone t server keeps (sym (among_back log.committed tid t far (names_transaction tid)) ∙ among)
 
   files_made : IsMadeBy later.files (log.files ++ changes_at files_no tid log)
   files_made = made_more state.files later.files log.files (changes_of (record_of state tid files_no.0)) (changes_at files_no tid log) l.learnt.files.contents l.learnt.files.notes (said_changes files_no refl) h.files

@@ -176,7 +176,7 @@ module _ (book : BookValue) (world : World) (n stamp : ℕ) (cause : CrashCause)
         ∙ ap (λ (votes : List (Voter × OnRecord)). record_of (with_votes votes state_now) tid s) votes_none
 
     gone : (server : ℕ) → keeps_contents server ≡ true → (tid : Tid) → is_among log.committed tid ≡ true → changes_at n mid server tid ≡ []
-    gone server keeps tid among = ap machine.changes_of (record_is tid server) ∙ said.gone tid server keeps among
+    gone server keeps tid among = ap machine.changes_of (record_is tid server ∙ said.gone tid server keeps among)
 
     every_self : (P : Tid → Type 0) (tids : List Tid) → ((tid : Tid) → is_among tids tid ≡ true → P tid) → Every P tids
     every_self P [] gives = tt

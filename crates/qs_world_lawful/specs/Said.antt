@@ -1,6 +1,6 @@
 -- What a log says of contents and changes, and what the machine has of them: committed files and notes are those that the log's
 -- Commits leave, and what is on record is what the log's Prepare has.
-use Rattle.std.specs.Prelude.{◌≡◌, ℕ, true, false, List, [], length, Option, Some}
+use Rattle.std.specs.Prelude.{◌≡◌, ℕ, true, false, List, length, None, Option, Some}
 use Rattle.qs_base.specs.declared.identifiers.Tid.{Tid}
 use Rattle.qs_book_laws.specs.Served.{keeps_contents}
 use Rattle.qs_book_machine.specs.Book.{BookValue, crossed_in, find_transaction}
@@ -50,7 +50,7 @@ pub record HoldsSaid (here : ℕ) (book : BookValue) (state : machine.NodeValue)
   pub audit : IsMadeBy state.audit log.audit
   pub recorded : Every (IsAsRecorded here book state) log.prepared
   pub apart : Every (IsApart log) log.prepared
-  pub gone : (tid : Tid) (server : ℕ) → keeps_contents server ≡ true → is_among log.committed tid ≡ true → machine.changes_of (machine.record_of state tid server) ≡ []  -- it was applied
+  pub gone : (tid : Tid) (server : ℕ) → keeps_contents server ≡ true → is_among log.committed tid ≡ true → machine.record_of state tid server ≡ None  -- it was applied
   pub undone : Every (IsUndone here book) log.prepared
 
 -- ---- a node that is down: what its log has that was not applied is applied as it restarts

@@ -46,7 +46,7 @@ pub record HoldsMade (here : ℕ) (book : BookValue) (state : machine.NodeValue)
   pub audit : IsMadeBy state.audit log.audit
   pub recorded : Every (IsAsRecorded here book state) log.prepared
   pub apart : Every (IsApart log) log.prepared
-  pub gone : (tid : Tid) (server : ℕ) → keeps_contents server ≡ true → is_among log.committed tid ≡ true → machine.changes_of (machine.record_of state tid server) ≡ []
+  pub gone : (tid : Tid) (server : ℕ) → keeps_contents server ≡ true → is_among log.committed tid ≡ true → machine.record_of state tid server ≡ None
 
 -- ---- what the machine does
 

@@ -31,7 +31,7 @@ nothing_applied here book state there log said = record {
   where
     nothing : (server : ℕ) → ((server == 0) || (server == 1)) ≡ true → flat_map (changes_at here book server) (commits_found here book log.committed) ≡ []
     nothing server keeps = none_found here book (changes_at here book server) log.committed (every_self (λ (tid : Tid). changes_at here book server tid ≡ []) log.committed
-        (λ tid among. ap (λ (o : Option machine.NodeValue). changes_of (elim o [ None ↦ None | Some node ↦ record_of node tid server ])) there ∙ said.gone tid server keeps among))
+        (λ tid among. ap (λ (o : Option machine.NodeValue). changes_of (elim o [ None ↦ None | Some node ↦ record_of node tid server ])) there ∙ ap changes_of (said.gone tid server keeps among)))
 
 -- where the same is on record
 module _ (here : ℕ) (new old : BookValue) where

@@ -1,0 +1,5 @@
+pub mod States
+pub mod StateRow
+pub mod Alike
+pub mod Taken
+pub mod Open

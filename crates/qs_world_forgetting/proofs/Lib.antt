@@ -1,0 +1,12 @@
+pub mod KnowingDeeds
+pub mod KnowingRequests
+pub mod KnowingVotes
+pub mod KnowingClients
+pub mod KnowingSteps
+pub mod EntriesDo
+pub mod EntriesBreak
+pub mod Keyed
+pub mod ThinLawful
+pub mod ThinDoes
+pub mod ThinRestarts
+pub mod RisesSame

@@ -1,0 +1,4 @@
+pub mod Knowing
+pub mod BookCommits
+pub mod ThinRestarts
+pub mod Rising
