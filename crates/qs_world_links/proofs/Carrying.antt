@@ -13,7 +13,7 @@ use Rattle.qs_node_step.specs.declared.trace.Step.{Step}
 use Rattle.qs_world_links.proofs.Hearing.{peer_there, post_of_node}
 use Rattle.qs_world_links.proofs.Linking.{each_link_is_carried}
 use Rattle.qs_world_links.specs.Between.{AreFew, IsLinkOf}
-use Rattle.qs_world_links.specs.Everywhere.{AreLinked, FewWerePut, HasCarriedLink, LinkedAsCarried, LinkedAsSame}
+use Rattle.qs_world_links.specs.Everywhere.{LinksAreTold, FewWerePut, HasCarriedLink, ToldAsAllCarried, ToldAsCarried, ToldAsSame}
 use Rattle.qs_world_links.specs.Posts.{IsOfNode, IsPostOf, trace_in}
 use Rattle.qs_world_traces.specs.Links.{put_to}
 use Rattle.qs_world_links.proofs.Linked.{link_same}
@@ -27,7 +27,7 @@ module _ {D : Type 0} (nodes : ℕ) (plans : ℕ → ℕ → List LinkFault) (ol
   few_still : ((j : ℕ) → j < nodes → trace_in (new j) ≡ trace_in (old j)) → FewWerePut nodes new → FewWerePut nodes old
   few_still traces few m n low_m low_n other = subst (λ (l : List Step). AreFew (put_to n l)) (traces m low_m) (few m n low_m low_n other)
 
-  pub each_same : LinkedAsSame nodes plans old new
+  pub each_same : ToldAsSame nodes plans old new
   each_same same linked = record {
     of = λ n low. post_of_node nodes n (old n) (new n) (linked.of n low) (record { size = ap (λ (l : LinksValue). l.size) (same n low).1; me = ap (λ (l : LinksValue). l.me) (same n low).1 })
         (subst (λ (s : CellState D). IsOfNode nodes n s) (sym (same n low).0) (linked.of n low).node);
@@ -39,9 +39,23 @@ module _ {D : Type 0} (nodes : ℕ) (plans : ℕ → ℕ → List LinkFault) (ol
       traces : (j : ℕ) → j < nodes → trace_in (new j) ≡ trace_in (old j)
       traces j low = same_trace (old j) (new j) (same j low).0
 
-  -- ---- a link is carried
+  -- ---- all links are carried
 
-  module _ (m n : ℕ) (result : Result ℕ NoMemory) (low_m : m < nodes) (low_n : n < nodes) (apart : m ≢ n) (c : HasCarriedLink nodes m n result old new) (linked : AreLinked nodes plans old) where
+  pub each_all_carried : ToldAsAllCarried nodes plans old new
+  each_all_carried c linked = record {
+    of = λ n low. post_of_node nodes n (old n) (new n) (linked.of n low) (c.same n low).1 (subst (λ (s : CellState D). IsOfNode nodes n s) (sym (c.same n low).0) (linked.of n low).node);
+    links = λ few m n low_m low_n other. link_same (plans m n) m n (trace_in (old m)) (trace_in (new m)) (trace_in (old n)) (trace_in (new n)) (out_of (new m).links n) (out_of (new m).links n) (into_of (new n).links m) (into_of (new n).links m)
+        (traces m low_m) (traces n low_n) refl refl
+        (each_link_is_carried (plans m n) m n (trace_in (old m)) (trace_in (old n)) (c.each m n low_m low_n other).result (out_of (old m).links n) (out_of (new m).links n) (into_of (old n).links m) (into_of (new n).links m)
+        (c.each m n low_m low_n other).carried (linked.links (few_still traces few) m n low_m low_n other));
+  }
+    where
+      traces : (j : ℕ) → j < nodes → trace_in (new j) ≡ trace_in (old j)
+      traces j low = same_trace (old j) (new j) (c.same j low).0
+
+  -- ---- one link is carried
+
+  module _ (m n : ℕ) (result : Result ℕ NoMemory) (low_m : m < nodes) (low_n : n < nodes) (apart : m ≢ n) (c : HasCarriedLink nodes m n result old new) (linked : LinksAreTold nodes plans old) where
     -- what holds of each node holds of the two, and of the others
     by_node : (P : ℕ → Type 0) → P m → P n → ((j : ℕ) → j < nodes → j ≢ m → j ≢ n → P j) → (j : ℕ) → j < nodes → P j
     by_node P at_m at_n at_others j low = by (j == m) refl (j == n) refl
@@ -104,5 +118,5 @@ module _ {D : Type 0} (nodes : ℕ) (plans : ℕ → ℕ → List LinkFault) (ol
           by true is false also = other_link a b low_a low_b other (λ same. eqb-false b n also)
           by false is y also = other_link a b low_a low_b other (λ same. absurd (eqb-false a m is same))
 
-  pub each_carried : (m n : ℕ) (result : Result ℕ NoMemory) → LinkedAsCarried nodes plans m n result old new
+  pub each_carried : (m n : ℕ) (result : Result ℕ NoMemory) → ToldAsCarried nodes plans m n result old new
   each_carried m n result low_m low_n apart c linked = record { of = of_each m n result low_m low_n apart c linked; links = each_link m n result low_m low_n apart c linked }

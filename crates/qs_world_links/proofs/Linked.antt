@@ -19,7 +19,7 @@ use Rattle.qs_world_links.proofs.Linking.{each_link_begins, each_link_is_named, 
 use Rattle.qs_world_links.proofs.Starting.{each_restart}
 use Rattle.qs_world_links.proofs.Visiting.{each_visit}
 use Rattle.qs_world_links.specs.Between.{AreFew, Goes, IsLinkOf}
-use Rattle.qs_world_links.specs.Everywhere.{AreLinked, FewWerePut, LinkedAsNew, LinkedAsRestarted, LinkedAsTold, LinkedAsVisited, LinkedKeepsPlans, OthersStay}
+use Rattle.qs_world_links.specs.Everywhere.{LinksAreTold, FewWerePut, ToldAsNew, ToldAsRestarted, ToldAsOneTells, ToldAsVisited, ToldKeepPlans, OthersStay}
 use Rattle.qs_world_links.specs.Posts.{AreCarriedNamed, IsPostOf, LinkIsPutTo, LinkIsTakenFrom, TellsOfLinks, trace_in}
 use Rattle.qs_world_traces.specs.Links.{put_to}
 
@@ -48,7 +48,7 @@ link_same plan m n s s_new r r_new o o_new i i_new same_s same_r same_o same_i l
 
 module _ {D : Type 0} (nodes : ℕ) (plans : ℕ → ℕ → List LinkFault) where
   -- all that was carried is named
-  named_there : (posts : ℕ → Post D) → AreLinked nodes plans posts → FewWerePut nodes posts → (k : ℕ) → k < nodes → AreCarriedNamed nodes k (posts k).links
+  named_there : (posts : ℕ → Post D) → LinksAreTold nodes plans posts → FewWerePut nodes posts → (k : ℕ) → k < nodes → AreCarriedNamed nodes k (posts k).links
   named_there posts linked few k low m peer =
       all_front (Goes m k) i.inbox (drop (length (received i.ring)) (sent o.feed.ring))
       (all_front (Goes m k) (i.inbox ++ drop (length (received i.ring)) (sent o.feed.ring)) o.feed.outbox
@@ -60,20 +60,20 @@ module _ {D : Type 0} (nodes : ℕ) (plans : ℕ → ℕ → List LinkFault) whe
       i : DrawValue Packet
       i = into_of (posts k).links m
 
-  pub each_new : (posts : ℕ → Post D) → LinkedAsNew nodes plans posts
+  pub each_new : (posts : ℕ → Post D) → ToldAsNew nodes plans posts
   each_new posts new = record {
     of = new.of;
     links = λ few m n low_m low_n other. link_same (plans m n) m n [] (trace_in (posts m)) [] (trace_in (posts n)) (out_of (posts m).links n) (out_of (posts m).links n) (into_of (posts n).links m) (into_of (posts n).links m)
         (new.none m low_m) (new.none n low_n) refl refl (each_link_begins (plans m n) m n (out_of (posts m).links n) (into_of (posts n).links m) (new.links m n low_m low_n other));
   }
 
-  pub each_keeps : (posts : ℕ → Post D) → LinkedKeepsPlans nodes plans posts
+  pub each_keeps : (posts : ℕ → Post D) → ToldKeepPlans nodes plans posts
   each_keeps posts linked few n m low_n low_m other =
       each_link_keeps_plan (plans m n) m n (trace_in (posts m)) (trace_in (posts n)) (out_of (posts m).links n) (into_of (posts n).links m) (linked.links few m n low_m low_n other)
 
   -- ---- a cell goes on
 
-  module _ (k : ℕ) (old new : ℕ → Post D) (low : k < nodes) (t : TellsOfLinks nodes k (old k) (new k)) (others : OthersStay nodes k old new) (linked : AreLinked nodes plans old) where
+  module _ (k : ℕ) (old new : ℕ → Post D) (low : k < nodes) (t : TellsOfLinks nodes k (old k) (new k)) (others : OthersStay nodes k old new) (linked : LinksAreTold nodes plans old) where
     of_each : (j : ℕ) → j < nodes → IsPostOf nodes j (new j)
     of_each j low_j = by (j == k) refl
       where
@@ -113,13 +113,13 @@ module _ {D : Type 0} (nodes : ℕ) (plans : ℕ → ℕ → List LinkFault) whe
               (subst (λ (p : Post D). IsLinkOf (plans m n) m n (trace_in (old m)) (trace_in p) (out_of (old m).links n) (into_of p.links m)) (sym (others n low_n (eqb-false n k also)))
               (linked.links (few_then few) m n low_m low_n other))
 
-  pub each_told : (k : ℕ) (old new : ℕ → Post D) → LinkedAsTold nodes plans k old new
+  pub each_told : (k : ℕ) (old new : ℕ → Post D) → ToldAsOneTells nodes plans k old new
   each_told k old new low t others linked = record { of = of_each k old new low t others linked; links = each_link k old new low t others linked }
 
-  pub each_visited : (told : Type 0) (state : D → DiskState) (own size : D → ℕ) (k : ℕ) (old new : ℕ → Post D) → LinkedAsVisited told state own size nodes plans k old new
+  pub each_visited : (told : Type 0) (state : D → DiskState) (own size : D → ℕ) (k : ℕ) (old new : ℕ → Post D) → ToldAsVisited told state own size nodes plans k old new
   each_visited told state own size k old new low visits others linked =
       each_told k old new low (each_visit told state own size nodes k (old k) (new k) visits (linked.of k low)) others linked
 
-  pub each_restarted : (told : Type 0) (state : D → DiskState) (own size : D → ℕ) (alloc : Global) (k : ℕ) (old new : ℕ → Post D) (answer : Result Bool RestartFault) → LinkedAsRestarted told state own size alloc nodes plans k old new answer
+  pub each_restarted : (told : Type 0) (state : D → DiskState) (own size : D → ℕ) (alloc : Global) (k : ℕ) (old new : ℕ → Post D) (answer : Result Bool RestartFault) → ToldAsRestarted told state own size alloc nodes plans k old new answer
   each_restarted told state own size alloc k old new answer low starts same others linked =
       each_told k old new low (each_restart told state own size alloc nodes k (old k) (new k) answer starts same (linked.of k low)) others linked

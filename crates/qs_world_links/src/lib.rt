@@ -6,5 +6,5 @@ mod everywhere;
 mod telling;
 
 pub use between::{links_bring_by_plan, links_go_on_as_told};
-pub use everywhere::runs_stay_linked;
+pub use everywhere::links_stay_told;
 pub use telling::cells_tell_of_links;
