@@ -1,10 +1,10 @@
 -- The link from one node to another, between the traces of both: what was put stands in the one, and what was taken in the other.
-use Rattle.std.specs.Prelude.{◌≡◌, ℕ, ◌<◌, ◌^◌, All, List, [], length, Result}
+use Rattle.std.specs.Prelude.{◌≡◌, ℕ, ◌<◌, ◌^◌, All, List, [], ◌++◌, length, Result}
 use Rattle.qs_base.specs.declared.memory.NoMemory.{NoMemory}
 use Rattle.qs_cell_peers.specs.Links.{HasCarried}
-use Rattle.qs_link.specs.Lane.{DrawValue, IsFifo, on_way}
+use Rattle.qs_link.specs.Lane.{DrawValue, Drawn, IsFifo, on_way}
 use Rattle.qs_link.specs.Plan.{IsFresh, IsPlan, OutgoingValue}
-use Rattle.qs_link.specs.Planned.{IsLink}
+use Rattle.qs_link.specs.Planned.{IsLink, PutAll}
 use Rattle.qs_link.specs.declared.outgoing.LinkFault.{LinkFault}
 use Rattle.qs_node_step.specs.declared.trace.Step.{Step}
 use Rattle.qs_packet.specs.declared.packet.Packet.{Packet}
@@ -26,6 +26,10 @@ pub record IsLinkOf (plan : List LinkFault) (m n : ℕ) (sender receiver : List 
   pub from : All (IsFrom m) (put_to n sender)
   pub is : IsLink (put_to n sender) (took_from m receiver) o i
 
+-- so few that the end of a link numbers each: its count stands still at its type's last value
+abbrev pub AreFew : List Packet → Type 0
+AreFew put = length put < 2 ^ 63
+
 -- ---- it begins, and is carried
 
 -- nothing was put to it, and nothing stands on it
@@ -42,6 +46,14 @@ abbrev pub EachLinkIsCarried : Type 0
 EachLinkIsCarried = (plan : List LinkFault) (m n : ℕ) (sender receiver : List Step) (result : Result ℕ NoMemory) (o p : OutgoingValue) (i j : DrawValue Packet)
     → HasCarried result o p i j → IsLinkOf plan m n sender receiver o i → IsLinkOf plan m n sender receiver p j
 
+-- ---- it goes on
+
+-- both its ends went on, each in a thread of its own, and the traces with them: these steps more put that, as from the sender, and those took this
+abbrev pub EachLinkGoesOn : Type 0
+EachLinkGoesOn = (plan : List LinkFault) (m n : ℕ) (sender steps receiver more : List Step) (o p : OutgoingValue) (i j : DrawValue Packet)
+    → IsLinkOf plan m n sender receiver o i → All (IsFrom m) (put_to n steps) → PutAll (put_to n steps) o p → Drawn (took_from m more) i j → IsFifo p.feed j
+    → AreFew (put_to n (sender ++ steps)) → IsLinkOf plan m n (sender ++ steps) (receiver ++ more) p j
+
 -- ---- what it tells
 
 -- all that stands on it goes from the sender to the receiver
@@ -52,7 +64,3 @@ EachLinkIsNamed = (plan : List LinkFault) (m n : ℕ) (sender receiver : List St
 abbrev pub EachLinkKeepsPlan : Type 0
 EachLinkKeepsPlan = (plan : List LinkFault) (m n : ℕ) (sender receiver : List Step) (o : OutgoingValue) (i : DrawValue Packet)
     → IsLinkOf plan m n sender receiver o i → IsTakenByPlan plan (put_to n sender) (took_from m receiver)
-
--- so few that the end of a link numbers each: its count stands still at its type's last value
-abbrev pub AreFew : List Packet → Type 0
-AreFew put = length put < 2 ^ 63
