@@ -1,8 +1,9 @@
 -- The link from one node to another, as one of the two goes on, and what it tells.
-use Rattle.std.proofs.Common.{◌≡◌, ℕ, ◌+◌, ◌<◌, true, List, [], ◌∷◌, ◌++◌, length, sym, ap, subst, ◌∙◌, append-nil, arith, length-append}
-use Rattle.std.specs.Prelude.{All, ◌^◌}
+use Rattle.std.proofs.Common.{◌≡◌, ℕ, ◌+◌, ◌<◌, true, List, [], ◌∷◌, ◌++◌, length, refl, sym, ap, subst, ◌∙◌, append-nil, arith, length-append}
+use Rattle.std.specs.Prelude.{All, ◌^◌, not}
 use Rattle.std.specs.List.{filter, flat_map}
 use Rattle.std.proofs.lemmas.Bool.{eqb-true}
+use Rattle.std.proofs.lemmas.List.Filters.{length-filter_both}
 use Rattle.std.proofs.lemmas.List.Concat.{flat_map-append}
 use Rattle.std.proofs.lemmas.List.Elements.{All-append, All-cons, All-filter, All-head, All-nil, All-same, All-tail, filter-append, filter_passes}
 use Rattle.qs_cell_peers.specs.Peers.{is_to}
@@ -17,7 +18,7 @@ use Rattle.qs_node_step.specs.declared.trace.Step.{Step}
 use Rattle.qs_packet.specs.declared.packet.Packet.{Packet}
 use Rattle.qs_world_traces.specs.Links.{is_from, put_to, puts_of, takes_of, took_from}
 use Rattle.qs_world_links.proofs.Ends.{all_behind, fifo_fed, none_drawn, none_put}
-use Rattle.qs_world_links.specs.Between.{AreFew, EachLinkBegins, EachLinkGoesOn, EachLinkIsCarried, EachLinkIsNamed, EachLinkKeepsPlan, Goes, IsFrom, IsLinkOf}
+use Rattle.qs_world_links.specs.Between.{AreFew, EachIsOfFew, EachLinkBegins, EachLinkGoesOn, EachLinkIsCarried, EachLinkIsNamed, EachLinkKeepsPlan, Goes, IsFrom, IsLinkOf}
 
 -- ---- what two parts of a trace put and took
 
@@ -32,6 +33,9 @@ few_both n before steps few = omega (arith, few, ap length (put_to_more n before
 
 pub few_before : (n : ℕ) (before steps : List Step) → AreFew (put_to n (before ++ steps)) → AreFew (put_to n before)
 few_before n before steps few = omega (arith, few_both n before steps few)
+
+pub each_is_of_few : EachIsOfFew
+each_is_of_few n trace few = omega (arith, few, length-filter_both (is_to n) (λ p. not (is_to n p)) (λ p. refl) (flat_map puts_of trace))
 
 -- ---- it goes on
 
