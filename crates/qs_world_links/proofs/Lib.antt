@@ -1,0 +1,18 @@
+-- The ends of a link as one of them goes on.
+pub mod Ends
+-- The link between two nodes as one of them goes on, and what it tells.
+pub mod Linking
+-- What an event adds to the trace of its cell.
+pub mod Adding
+-- A packet that comes.
+pub mod Coming
+-- The packets of a visit.
+pub mod Hearing
+-- A visit.
+pub mod Visiting
+-- A restart and a start.
+pub mod Starting
+-- All links of a run.
+pub mod Linked
+-- As a link is carried.
+pub mod Carrying
