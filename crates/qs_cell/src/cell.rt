@@ -7,7 +7,7 @@ ghost use Rattle.qs_cell.specs.Logged.{HasLog, IsLogged, most_rounds};
 ghost use Rattle.qs_cell.specs.Hearing.{BreaksBelow, BreaksFrom, BreaksHearing, Hears, HearsBelow, HearsFrom};
 ghost use Rattle.qs_cell.specs.Starts.{IsStarted, started_disk, journal_of, post_of, trace_of};
 ghost use Rattle.qs_cell.specs.WholeVisits.{Breaks, Visits, has_put};
-ghost use Rattle.qs_cell_peers.specs.Links.{HasPut, HasPutSome, IsSameNode, is_peer_of, puts_any, puts_of};
+ghost use Rattle.qs_cell_peers.specs.Links.{CarriesLink, HasPut, HasPutSome, IsSameNode, StayLinked, has_carried, into_of, is_peer_of, out_of, puts_any, puts_of};
 ghost use Rattle.qs_cell.specs.Restart.{in_round_as};
 ghost use Rattle.qs_cell.specs.State.{IsSeenAs, LogStands, IsAllowed, StartsAgain, carried_of, cause_of, disk_of, has_undecided, is_settled_node, rounds_of};
 ghost use Rattle.qs_cell.specs.Visits.{Turns, IsBroken, TurnsAll, TurnsSome, Grows, sources_of, due, left_by, held_by, as_command, due_command, due_again, left_of, all_delivered, deliver, has_noted, is_noted, MakesIn};
@@ -16,6 +16,7 @@ ghost use Rattle.qs_cell.specs.declared.state.RestartFault.TheVariants as restar
 ghost use Rattle.qs_disk.specs.Disk.{EachImage};
 ghost use Rattle.qs_disk.specs.Moments.{Keeps};
 ghost use Rattle.qs_log_start.specs.Incarnation.{open_limit, IsTouched, MayLeaveUnraised};
+ghost use Rattle.qs_link.specs.Lane.{IsLane};
 ghost use Rattle.qs_link.specs.Lanes.{ends_of, SendsTo, SendsFrom, CarriesIn, CarriesOut};
 ghost use Rattle.qs_log.specs.Image.{IsDamaged};
 ghost use Rattle.qs_log.specs.declared.fault.OpenFault.TheVariants as open_faults;
@@ -24,7 +25,7 @@ use crate::opened_with;
 use crate::starting::{CellOpen, NodePlan, Started, begin};
 use crate::state::{CellState, RestartFault};
 use core::mem;
-use qs_base::{ClientNo, Copied, List, NoMemory};
+use qs_base::{ClientNo, Copied, List, NoMemory, NodeNo};
 use qs_book_journal::{Act, CrashCause, Entry, LineAnswer, ScriptLine};
 use qs_book_machine::Opened;
 use qs_cell_chronicle::{Carried, HeldCommand, Occasion};
@@ -157,8 +158,9 @@ impl<D: Disk> NodeCell<D> {
         ensures opened { self.new.opened ≡ self.old.opened }
         ensures faults { self.new.faults ≡ self.old.faults }
 
-        // The links stay those of its node, and the lanes joined to the clients' ends.
+        // The links stay those of its node, joined to their other ends, and so do the lanes to the clients' ends.
         ensures links { IsSameNode self.old.links self.new.links }
+        ensures linked { StayLinked self.old.links self.new.links }
         ensures rings { HaveSameRings self.old.seat.ends self.new.seat.ends }
         ensures joined { StayJoined self.old.seat.ends self.new.seat.ends }
     {
@@ -178,7 +180,7 @@ impl<D: Disk> NodeCell<D> {
     fn hear_all(&mut self) -> Result<(), NoMemory>
         ensures hears { OnOk result (HearsBelow D.told D.state D.fault_count D.byte_count self.old.links.size (post_of self.old) (post_of self.new)) }
         ensures breaks { OnErr result (BreaksBelow D.told D.state D.fault_count D.byte_count self.old.links.size (post_of self.old) (post_of self.new)) }
-        ensures same { IsSameNode self.old.links self.new.links }
+        ensures linked { StayLinked self.old.links self.new.links }
         ensures opened { self.new.opened ≡ self.old.opened }
         ensures faults { self.new.faults ≡ self.old.faults }
         ensures rings { HaveSameRings self.old.seat.ends self.new.seat.ends }
@@ -193,7 +195,7 @@ impl<D: Disk> NodeCell<D> {
     fn hear_from(&mut self, from: usize) -> Result<(), NoMemory>
         ensures hears { OnOk result (HearsFrom D.told D.state D.fault_count D.byte_count from (post_of self.old) (post_of self.new)) }
         ensures breaks { OnErr result (BreaksFrom D.told D.state D.fault_count D.byte_count from (post_of self.old) (post_of self.new)) }
-        ensures same { IsSameNode self.old.links self.new.links }
+        ensures linked { StayLinked self.old.links self.new.links }
         ensures opened { self.new.opened ≡ self.old.opened }
         ensures faults { self.new.faults ≡ self.old.faults }
         ensures rings { HaveSameRings self.old.seat.ends self.new.seat.ends }
@@ -210,7 +212,7 @@ impl<D: Disk> NodeCell<D> {
         requires { is_peer_of self.old.links from ≡ true }
         ensures hears { OnOk result (Hears D.told D.state D.fault_count D.byte_count from (post_of self.old) (post_of self.new)) }
         ensures breaks { OnErr result (BreaksHearing D.told D.state D.fault_count D.byte_count (post_of self.old) (post_of self.new)) }
-        ensures same { IsSameNode self.old.links self.new.links }
+        ensures linked { StayLinked self.old.links self.new.links }
         ensures opened { self.new.opened ≡ self.old.opened }
         ensures faults { self.new.faults ≡ self.old.faults }
         ensures rings { HaveSameRings self.old.seat.ends self.new.seat.ends }
@@ -231,7 +233,7 @@ impl<D: Disk> NodeCell<D> {
         ensures put { OnOk result (HasPut (flat_map puts_of (drop before (trace_of self.old))) self.old.links self.new.links) }
         ensures some { OnErr result (HasPutSome (flat_map puts_of (drop before (trace_of self.old))) self.old.links self.new.links) }
         ensures any { IfOk result (λ any. any ≡ list_any puts_any (drop before (trace_of self.old))) }
-        ensures same { IsSameNode self.old.links self.new.links }
+        ensures linked { StayLinked self.old.links self.new.links }
         ensures seat { self.new.seat ≡ self.old.seat }
         ensures opened { self.new.opened ≡ self.old.opened }
         ensures faults { self.new.faults ≡ self.old.faults }
@@ -349,6 +351,33 @@ impl<D: Disk> NodeCell<D> {
         ensures joined { StayJoined self.old.seat.ends self.new.seat.ends }
     {
         carry_out(self.ends.as_mut_slice(), client, to)
+    }
+
+    /// Moves what stands on the link from the node of another cell into the inbox of its link here, and says how many packets that
+    /// then holds. After `NoMemory`, which comes where memory was refused, a front was moved and nothing is lost.
+    pub fn carry_packets(&mut self, from: &mut NodeCell<D>) -> Result<usize, NoMemory>
+        requires peer { is_peer_of self.old.links from.old.links.me.0 ≡ true }
+        requires its { is_peer_of from.old.links self.old.links.me.0 ≡ true }
+        requires lane { IsLane (out_of from.old.links self.old.links.me.0).feed (into_of self.old.links from.old.links.me.0) }
+        ensures carries { CarriesLink result from.old.links from.new.links self.old.links self.new.links }
+        ensures own { self.new ≡ record self.old { links = self.new.links } }
+        ensures its { from.new ≡ record from.old { links = from.new.links } }
+    {
+        self.links.carry(&mut from.links)
+    }
+
+    /// Whether a packet was carried and not taken.
+    pub fn has_packets(&self) -> bool
+        ensures { result ≡ has_carried self.now.links }
+    {
+        self.links.has_carried()
+    }
+
+    /// The number of its node, by its links.
+    pub fn node(&self) -> NodeNo
+        ensures { result ≡ self.now.links.me }
+    {
+        self.links.node()
     }
 
     /// Whether the node is up.

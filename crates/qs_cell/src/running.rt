@@ -203,7 +203,7 @@ fn take(
 
 /// What the event brings about is worked out, unless a count would rise past its last value; a line of the script may
 /// stop the node in place of it. Its messages go over the sessions before anything is done with the log, so that a step
-/// sends all or nothing; no packet is put to a link yet.
+/// sends all or nothing. The visit puts them to the links once the step stands.
 fn worked_out<D: Disk, F: Server, X: Server>(
     host: &mut Host<Fused<D>, F, X>,
     sessions: &mut Sessions,

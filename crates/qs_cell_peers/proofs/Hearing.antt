@@ -1,12 +1,12 @@
 -- What a node's sessions make of a packet, by whether it comes from a peer to this node.
-use Rattle.std.proofs.Common.{◌≡◌, ℕ, Bool, true, false, Option, refl, subst, sym, ap, ◌∙◌, if◌then◌else◌}
+use Rattle.std.proofs.Common.{◌≡◌, true, false, Option, refl, ap, ◌∙◌}
 use Rattle.qs_session_channels.specs.End.{answer}
 use Rattle.qs_packet.specs.declared.message.Message.{Message}
 use Rattle.qs_packet.specs.declared.packet.Packet.{Packet}
 use Rattle.qs_session.specs.Seen.{answer_with, seen}
 use Rattle.qs_session.specs.declared.taken.Taken.{Taken}
 use Rattle.qs_cell_peers.specs.Hears.{comes_in, ends_heard, heard_as, heard_of}
-use Rattle.qs_cell_peers.specs.Sessions.{EndAs, Ends, SessionsValue, ends_of, taken_in}
+use Rattle.qs_cell_peers.specs.Sessions.{EndAs, SessionsValue, ends_of, taken_in}
 use Rattle.qs_cell_peers.specs.declared.heard.Heard.{Heard}
 use Rattle.qs_cell_peers.specs.declared.heard.Heard.TheVariants as heards
 

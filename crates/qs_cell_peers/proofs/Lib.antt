@@ -9,3 +9,5 @@ pub mod Sends
 pub mod Ticking
 pub mod Beginning
 pub mod Stepping
+-- The ends stay of their rings.
+pub mod Linked

@@ -1,5 +1,5 @@
 -- What a node's sessions make of a packet that comes.
-use Rattle.std.specs.Prelude.{ℕ, ◌==◌, Bool, true, false, if◌then◌else◌}
+use Rattle.std.specs.Prelude.{◌==◌, Bool, if◌then◌else◌}
 use Rattle.qs_session_channels.specs.End as end
 use Rattle.qs_session_channels.specs.End.{Answer, answer}
 use Rattle.qs_packet.specs.declared.message.Message.{Message}

@@ -1,6 +1,6 @@
 -- A node's ends of its links: one to each other node of the run, and one from it.
-use Rattle.std.specs.Prelude.{◌≡◌, ◌++◌, ◌+◌, ◌==◌, ◌<◌, ℕ, true, not, Bool, List, IfOk, OnOk, Result, get_or, length, if◌then◌else◌}
-use Rattle.std.specs.List.{filter}
+use Rattle.std.specs.Prelude.{◌≡◌, ◌++◌, ◌+◌, ◌==◌, ◌<◌, ℕ, true, not, Bool, List, IfOk, OnOk, Result, get_or, length, nat_lt, if◌then◌else◌}
+use Rattle.std.specs.List.{filter, list_any}
 use Rattle.qs_base.specs.declared.identifiers.NodeNo.{NodeNo}
 use Rattle.qs_base.specs.declared.memory.NoMemory.{NoMemory}
 use Rattle.qs_link.specs.Lane.{DrawValue, IsFifo, IsFront, IsLane, on_way}
@@ -33,6 +33,13 @@ into_of links m = get_or links.into (place links.me.0 m) no_into
 abbrev pub carried_from : LinksValue → ℕ → ℕ
 carried_from links m = if is_peer_of links m then length (into_of links m).inbox else 0
 
+-- a packet stands in the inbox of a link, and in one of these
+abbrev pub has_packet : DrawValue Packet → Bool
+has_packet end = nat_lt 0 (length end.inbox)
+
+abbrev pub has_carried : LinksValue → Bool
+has_carried links = list_any has_packet links.into
+
 -- what a step puts, and whether it puts anything
 abbrev pub puts_of : Step → List Packet
 puts_of step = step.put
@@ -57,6 +64,12 @@ SameOut but old new = (m : ℕ) → is_peer_of old m ≡ true → but m ≡ true
 abbrev pub SameInto : (ℕ → Bool) → LinksValue → LinksValue → Type 0
 SameInto but old new = (m : ℕ) → is_peer_of old m ≡ true → but m ≡ true → into_of new m ≡ into_of old m
 
+-- whatever was pushed or popped, each end is of the ring that it was of
+pub record StayLinked (old new : LinksValue) : Type 0 where
+  pub same : IsSameNode old new
+  pub out : (m : ℕ) → is_peer_of old m ≡ true → SameProducer (out_of old m).feed.ring (out_of new m).feed.ring
+  pub into : (m : ℕ) → is_peer_of old m ≡ true → SameConsumer (into_of old m).ring (into_of new m).ring
+
 -- each link has got the packets for its node, in order
 pub record HasPut (packets : List Packet) (old new : LinksValue) : Type 0 where
   pub same : IsSameNode old new
@@ -80,3 +93,13 @@ pub record HasCarried (result : Result ℕ NoMemory) (o p : OutgoingValue) (i j 
   pub all : OnOk result (j.inbox ≡ on_way o.feed i)
   pub held : IfOk result (λ n. n ≡ length j.inbox)
   pub fifo : IsFifo o.feed i × IsFifo p.feed j
+
+-- and all else of the two nodes is as it was
+pub record CarriesLink (result : Result ℕ NoMemory) (from_old from_new to_old to_new : LinksValue) : Type 0 where
+  pub to_same : IsSameNode to_old to_new
+  pub from_same : IsSameNode from_old from_new
+  pub to_out : SameOut (λ m. true) to_old to_new
+  pub to_into : SameInto (λ m. not (m == from_old.me.0)) to_old to_new
+  pub from_out : SameOut (λ m. not (m == to_old.me.0)) from_old from_new
+  pub from_into : SameInto (λ m. true) from_old from_new
+  pub carried : HasCarried result (out_of from_old to_old.me.0) (out_of from_new to_old.me.0) (into_of to_old from_old.me.0) (into_of to_new from_old.me.0)

@@ -5,7 +5,7 @@ ghost use Rattle.qs_packet.specs.Grammar.{IsPacket};
 ghost use Rattle.qs_node_step.specs.declared.trace.Step.{Step};
 ghost use Rattle.qs_link.specs.Lane.{IsLane};
 ghost use Rattle.qs_link.specs.Link.{Took, TookNone};
-ghost use Rattle.qs_cell_peers.specs.Links.{HasCarried, HasPut, HasPutSome, IsSameNode, SameInto, SameOut, carried_from, into_of, is_peer_of, out_of, puts_any, puts_of};
+ghost use Rattle.qs_cell_peers.specs.Links.{HasCarried, HasPut, HasPutSome, IsSameNode, SameInto, SameOut, carried_from, has_carried, has_packet, into_of, is_peer_of, out_of, puts_any, puts_of};
 ghost use Rattle.qs_cell_peers.specs.Peers.{place};
 
 use crate::peers::{is_other, place_of};
@@ -57,6 +57,20 @@ impl Links {
         ensures { result ≡ self.now.size }
     {
         self.out.len() + 1
+    }
+
+    /// The node whose ends they are.
+    pub fn node(&self) -> NodeNo
+        ensures { result ≡ self.now.me }
+    {
+        self.me
+    }
+
+    /// Whether a packet was carried and not taken.
+    pub fn has_carried(&self) -> bool
+        ensures { result ≡ has_carried self.now }
+    {
+        self.into.iter().any(has_packet)
     }
 
     /// How many packets of a node were carried; none of a number that is no other node of the run.
@@ -141,6 +155,13 @@ impl Links {
         let here = place_of(self.me, usize::from(from.me.0));
         carry_link(&mut from.out[there], &mut self.into[here])
     }
+}
+
+/// Whether a packet stands in the inbox of a link.
+fn has_packet(end: &Incoming) -> bool
+    ensures { result ≡ has_packet end.now }
+{
+    end.carried() > 0
 }
 
 /// Whether a step puts anything.

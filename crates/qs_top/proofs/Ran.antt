@@ -16,7 +16,7 @@ use Rattle.qs_world_opening.specs.Scripts.{Fits}
 use Rattle.qs_world_rounds.specs.Endings.{IsEnding, IsCutShort, IsOutOfMemory}
 use Rattle.qs_world_plans.specs.Budget.{most_budget}
 use Rattle.qs_world_rounds.specs.Rounds.{Cast, IsSameStart, visits_of}
-use Rattle.qs_world_rounds.specs.Seats.{HasBegun, first_node, node_count}
+use Rattle.qs_world_rounds.specs.Seats.{HasBegun, node_count}
 use Rattle.qs_world_rounds.specs.declared.faults.RoundFault.{RoundFault}
 use Rattle.qs_world_rounds.specs.declared.faults.RoundFault.TheVariants as faults
 use Rattle.qs_world_rounds.specs.declared.rounds.Ending.{Ending}
@@ -125,12 +125,12 @@ module _ {D : Type 0} (told : Type 0) (state : D → DiskState) (own size : D �
   pub over_ran : (ending : Result Ending RoundFault) (opened : Result Opened NoMemory) → IfOk ending (IsEnding told state own size script seed first last) → ((n : NodeNo) → ending ≡ Err (faults.DiskFault n) → IsCutShort told state own size seed first last)
       → (ending ≡ Err faults.NoMemory → IsOutOfMemory told state own size seed first last)
       → (told → ending ≡ Err faults.Damaged → most_rounds < visits_of first + most_budget script)
-      → ((n : NodeNo) → ending ≡ Err (faults.DiskFault n) → n ≡ first_node) → IfOk opened (λ found. found ≡ node.opened) → IsMadeOf script shown ending opened journal trace made → IsOver told state own size seed script shown made disk after
+      → ((n : NodeNo) → ending ≡ Err (faults.DiskFault n) → n ≡ first.node.links.me) → IfOk opened (λ found. found ≡ node.opened) → IsMadeOf script shown ending opened journal trace made → IsOver told state own size seed script shown made disk after
   over_ran (Ok ending) (Ok opened) ends cut out late named is j = over_end told state own size seed script shown alloc disk after first last begins room start logged left_by made (at_end ending ends) ending ends
       (subst (λ (steps : List Step). IsJudgedEnd script shown ending last.node.opened (journal_of last.node) steps made) trace_is
       (subst (λ (entries : List Entry). IsJudgedEnd script shown ending last.node.opened entries trace made) journal_is
       (subst (λ (found : Opened). IsJudgedEnd script shown ending found journal trace made) (is ∙ ap (λ (cell : CellValue D). cell.opened) left.node_is) j)))
-  over_ran (Err (faults.DiskFault n)) (Ok opened) ends cut out late named is j = over_short told state own size seed script shown alloc disk after first last begins room start logged left_by made (at_cut (cut n refl)) n (named n refl)
+  over_ran (Err (faults.DiskFault n)) (Ok opened) ends cut out late named is j = over_short told state own size seed script shown alloc disk after first last begins room start logged left_by made (at_cut (cut n refl)) n (named n refl ∙ begins.links.me)
       (subst (λ (d : D). Rose (own disk) (own d)) (sym after_is) (subst (λ (before : ℕ). Rose before (own (disk_of last.node.seat.node).disk)) begins.faults (cut n refl).rose)) (cut n refl)
       (subst (λ (steps : List Step). IsJudgedShort script n last.node.opened (journal_of last.node) steps made) trace_is
       (subst (λ (entries : List Entry). IsJudgedShort script n last.node.opened entries trace made) journal_is

@@ -14,7 +14,7 @@ use Rattle.qs_world_rounds.specs.Rounds.{CarriesAll}
 use Rattle.qs_world_rounds.specs.Seats.{IsAlone}
 
 pub alone_on : (old new : LinksValue) → IsSameNode old new → IsAlone old → IsAlone new
-alone_on old new same alone = record { size = same.size ∙ alone.size; me = same.me ∙ alone.me }
+alone_on old new same alone = record { size_is = same.size ∙ alone.size_is; me = same.me ∙ alone.me }
 
 -- as the lanes are carried the links stay
 pub carried_links : {D : Type 0} (old new : CellValue D) (befores afters : List ClientCell) → CarriesAll old new befores afters → new.links ≡ old.links
@@ -24,7 +24,7 @@ carried_links old new [] (after ∷ afters) carries = absurd carries
 carried_links old new (before ∷ befores) [] carries = absurd carries
 
 none_carried : (links : LinksValue) → IsAlone links → carried_from links 0 ≡ 0
-none_carried links alone = rw (alone.size, alone.me) refl
+none_carried links alone = rw (alone.size_is, alone.me) refl
 
 module _ {D : Type 0} (told : Type 0) (state : D → DiskState) (own size : D → ℕ) where
   times_none : (count : ℕ) (old new : Post D) → count ≡ 0 → HearsTimes told state own size 0 count old new → new ≡ old
@@ -63,7 +63,7 @@ module _ {D : Type 0} (told : Type 0) (state : D → DiskState) (own size : D �
     round = visits.begins.round;
     turns = subst (λ (s : Seat D). TurnsAll told state own size (sources_of old.seat.ends) s new.seat)
         (begun_seat old visits.begun visits.heard visits.begins (hears_none visits.begun visits.heard (begun_alone old visits.begun visits.begins alone)
-        (below_one old.links.size visits.begun visits.heard alone.size visits.hears))) visits.turns;
+        (below_one old.links.size visits.begun visits.heard alone.size_is visits.hears))) visits.turns;
   }
 
   -- memory was refused in a turn, or all were taken
@@ -82,7 +82,7 @@ module _ {D : Type 0} (told : Type 0) (state : D → DiskState) (own size : D �
   ]
     where
       seat : it.heard.seat ≡ record { node = begun.seat.node; ends = old.seat.ends }
-      seat = begun_seat old begun it.heard begins (hears_none begun it.heard (begun_alone old begun begins alone) (below_one old.links.size begun it.heard alone.size it.hears))
+      seat = begun_seat old begun it.heard begins (hears_none begun it.heard (begun_alone old begun begins alone) (below_one old.links.size begun it.heard alone.size_is it.hears))
 
   pub own_break : (old new : Post D) → IsAlone old.links → Breaks told state own size old new → IsOwnBreak old.seat new.seat
   own_break old new alone breaks = record {
@@ -95,4 +95,4 @@ module _ {D : Type 0} (told : Type 0) (state : D → DiskState) (own size : D �
   }
     where
       never : BreaksBelow told state own size old.links.size breaks.begun new → ⊥
-      never it = breaks_never it.at breaks.begun it.mid new (begun_alone old breaks.begun breaks.begins alone) (subst (λ (n : ℕ). it.at < n) alone.size it.low) it.heard it.breaks
+      never it = breaks_never it.at breaks.begun it.mid new (begun_alone old breaks.begun breaks.begins alone) (subst (λ (n : ℕ). it.at < n) alone.size_is it.low) it.heard it.breaks

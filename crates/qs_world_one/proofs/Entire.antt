@@ -51,7 +51,7 @@ pub begins_in : {D : Type 0} (told : Type 0) (state : D → DiskState) (own size
 begins_in told state own size alloc script disk cast o t begun opens = record {
   carried = each_cast told state own size alloc script disk cast o t begun opens;
   lanes = seats_of script cast.clients cast.node.seat.ends begun.seats;
-  alone = begun.alone;
+  alone = begun.links;
 }
 
 pub each_run : {D : Type 0} (told : Type 0) (state : D → DiskState) (own size : D → ℕ) (alloc : Global) (script : Script) (disk : D) (cast : Cast D) (o : Opening) (rng : Lcg) (n : ℕ) (new : Cast D) (later : Lcg)

@@ -4,6 +4,7 @@ use Rattle.std.proofs.lemmas.Bool.Decides.{nat_tests}
 use Rattle.std.specs.Global.{Global}
 use Rattle.std.specs.Prelude.{⊤}
 use Rattle.qs_base.specs.declared.identifiers.ClientNo.{ClientNo}
+use Rattle.qs_base.specs.declared.identifiers.NodeNo.{NodeNo}
 use Rattle.qs_cell.specs.State.{disk_of}
 use Rattle.qs_cell.specs.declared.state.CellState.{CellState}
 use Rattle.qs_session_channels.specs.Network.{Among}
@@ -20,7 +21,7 @@ use Rattle.qs_book_laws.proofs.Rising.{IsRising}
 use Rattle.qs_world_plans.specs.Plan.{commands_of}
 use Rattle.qs_world_plans.specs.Waiting.{client_count}
 use Rattle.qs_world_rounds.specs.Rounds.{Cast}
-use Rattle.qs_world_rounds.specs.Seats.{AreSeated, HasBegun, IsSeated, has_seat, number_of, seated, seated_as, seated_below}
+use Rattle.qs_world_rounds.specs.Seats.{AreSeated, HasBegun, IsSeated, sits_at, number_of, seated, seated_as, seated_below, first_node}
 use Rattle.qs_book_script.specs.declared.script.Script.{Script}
 use Rattle.qs_book_script.specs.declared.script.Seat.{Seat}
 use Rattle.qs_node_step.specs.State.{client_cmp}
@@ -53,9 +54,9 @@ as_number true n k (inl is) = is
 as_number true n k (inr there) = absurd there
 as_number false n k there = absurd there
 
-below : (seats : List Seat) (n : ℕ) (k : ClientNo) → Among (seated_below seats n) k → k.0 < n
-below seats zero k there = absurd there
-below seats (suc n) k there = by (below seats n k) (among_append (seated_below seats n) (seated_as (record { 0 = n }) seats) k there)
+below : (node : NodeNo) (seats : List Seat) (n : ℕ) (k : ClientNo) → Among (seated_below node seats n) k → k.0 < n
+below node seats zero k there = absurd there
+below node seats (suc n) k there = by (below node seats n k) (among_append (seated_below node seats n) (seated_as node (record { 0 = n }) seats) k there)
   where
     up : (a b : ℕ) → a < b → a < suc b
     up a b less = omega arith
@@ -63,9 +64,9 @@ below seats (suc n) k there = by (below seats n k) (among_append (seated_below s
     last : (a b : ℕ) → a ≡ b → b < suc a
     last a b same = omega arith
 
-    by : (Among (seated_below seats n) k → k.0 < n) → Among (seated_below seats n) k ⊎ Among (seated_as (record { 0 = n }) seats) k → k.0 < suc n
+    by : (Among (seated_below node seats n) k → k.0 < n) → Among (seated_below node seats n) k ⊎ Among (seated_as node (record { 0 = n }) seats) k → k.0 < suc n
     by less (inl front) = up k.0 n (less front)
-    by less (inr back) = last n k.0 (ap (λ (c : ClientNo). c.0) (as_number (has_seat (record { 0 = n }) seats) (record { 0 = n }) k back))
+    by less (inr back) = last n k.0 (ap (λ (c : ClientNo). c.0) (as_number (sits_at node (record { 0 = n }) seats) (record { 0 = n }) k back))
 
 abbrev NumbersApart : List ClientNo → Type 0
 NumbersApart [] = ⊤
@@ -83,16 +84,16 @@ apart_more (n ∷ ns) k apart less = ((λ m there. by m (among_append ns (k ∷ 
     by m (inr (inl is)) = ap (λ (c : ClientNo). c.0 == n.0) (sym is) ∙ above n.0 k.0 (less n (inl refl))
     by m (inr (inr there)) = absurd there
 
-numbers_apart : (seats : List Seat) (n : ℕ) → NumbersApart (seated_below seats n)
-numbers_apart seats zero = tt
-numbers_apart seats (suc n) = by (has_seat (record { 0 = n }) seats) (numbers_apart seats n)
+numbers_apart : (node : NodeNo) (seats : List Seat) (n : ℕ) → NumbersApart (seated_below node seats n)
+numbers_apart node seats zero = tt
+numbers_apart node seats (suc n) = by (sits_at node (record { 0 = n }) seats) (numbers_apart node seats n)
   where
     none : (xs : List ClientNo) → xs ++ [] ≡ xs
     none xs = append-nil xs
 
-    by : (b : Bool) → NumbersApart (seated_below seats n) → NumbersApart (seated_below seats n ++ (if b then record { 0 = n } ∷ [] else []))
-    by true apart = apart_more (seated_below seats n) (record { 0 = n }) apart (below seats n)
-    by false apart = subst NumbersApart (sym (none (seated_below seats n))) apart
+    by : (b : Bool) → NumbersApart (seated_below node seats n) → NumbersApart (seated_below node seats n ++ (if b then record { 0 = n } ∷ [] else []))
+    by true apart = apart_more (seated_below node seats n) (record { 0 = n }) apart (below node seats n)
+    by false apart = subst NumbersApart (sym (none (seated_below node seats n))) apart
 
 number_there : (clients : List ClientCell) (client : ClientCell) → Among clients client → Among (map number_of clients) client.client
 number_there [] client there = absurd there
@@ -104,12 +105,12 @@ clients_apart [] apart = tt
 clients_apart (c ∷ clients) apart = ((λ o there. apart.0 o.client (number_there clients o there)), clients_apart clients apart.1)
 
 -- there are no more numbers than clients may have
-pub seated_small : (seats : List Seat) (clients : List ClientCell) → map number_of clients ≡ seated seats → (client : ClientCell) → Among clients client → client.client.0 < client_count
+pub seated_small : (node : NodeNo) (seats : List Seat) (clients : List ClientCell) → map number_of clients ≡ seated node seats → (client : ClientCell) → Among clients client → client.client.0 < client_count
 unfolding seated
-seated_small seats clients numbers client there = in_seats (subst (λ (l : List ClientNo). Among l client.client) numbers (number_there clients client there))
+seated_small node seats clients numbers client there = in_seats (subst (λ (l : List ClientNo). Among l client.client) numbers (number_there clients client there))
   where
-    in_seats : Among (seated seats) client.client → client.client.0 < client_count
-    in_seats at = below seats client_count client.client at
+    in_seats : Among (seated node seats) client.client → client.client.0 < client_count
+    in_seats at = below node seats client_count client.client at
 
 -- ---- each client by its seat
 
@@ -167,8 +168,8 @@ module _ {D : Type 0} (told : Type 0) (state : D → DiskState) (own size : D �
   unfolding seated
   apart = clients_apart cast.clients (subst NumbersApart (sym begun.clients) numbers)
     where
-      numbers : NumbersApart (seated script.seats)
-      numbers = numbers_apart script.seats client_count
+      numbers : NumbersApart (seated first_node script.seats)
+      numbers = numbers_apart first_node script.seats client_count
 
   no_commands : begun.started.running.carried.commands ≡ []
   no_commands = ap (λ (s : Seen). s.commands) begun.started.begins.seen
@@ -177,7 +178,7 @@ module _ {D : Type 0} (told : Type 0) (state : D → DiskState) (own size : D �
       → ShowsIn begun.started.running.carried.setting.inc (Some begun.started.running.carried.setting.inc) begun.started.running.carried.commands cast.node.seat.ends (start o).clients client
   shown client there =
       subst (λ (c : Commands). ShowsIn begun.started.running.carried.setting.inc (Some begun.started.running.carried.setting.inc) c cast.node.seat.ends (start o).clients client) (sym no_commands) (record {
-        small = smaller client.client.0 client_count moves.client_count (seated_small script.seats cast.clients begun.clients client there) (omega arith);
+        small = smaller client.client.0 client_count moves.client_count (seated_small first_node script.seats cast.clients begun.clients client there) (omega arith);
         own = λ n line at. own_line client.client script.lines n line (ap (λ (r : Progress). slice_get r.lines n) (sym has.seat.progress) ∙ at);
         end = has.end;
         there = has.there;

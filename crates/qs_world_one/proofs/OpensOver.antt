@@ -16,7 +16,7 @@ use Rattle.qs_world_plans.specs.Plan.{commands_of}
 use Rattle.qs_world_plans.specs.Waiting.{client_count as seat_count}
 use Rattle.qs_world_refine.proofs.SoundParts.{and_both}
 use Rattle.qs_world_rounds.specs.Rounds.{Cast}
-use Rattle.qs_world_rounds.specs.Seats.{HasBegun, node_count}
+use Rattle.qs_world_rounds.specs.Seats.{HasBegun, node_count, first_node}
 use Rattle.qs_slot.specs.Slot.{Present}
 use Rattle.qs_book_script.specs.declared.script.Script.{Script}
 use Rattle.qs_world.specs.Moves.{client_count}
@@ -58,7 +58,7 @@ module _ {D : Type 0} (may : (o : Opening) → MayBegin o) (told : Type 0) (stat
   at_first client there = only (place_of script.seats client.client.0)
       (and_both (nat_lt (place_of script.seats client.client.0) 1) _
       (each_is client_count (λ k. is_script 1 k (o.clients k)) fit.scripts client.client.0
-      (wider client.client.0 seat_count client_count (seated_small script.seats cast.clients begun.clients client there) (omega arith)))).0
+      (wider client.client.0 seat_count client_count (seated_small first_node script.seats cast.clients begun.clients client there) (omega arith)))).0
 
   stands : AreCoherentLogs alloc 1 (λ n. inc_of log) (λ n. log.forced)
   stands = subst (λ (inc : ℕ). AreCoherentLogs alloc 1 (λ n. inc) (λ n. log.forced)) (sym inc_is) (coherent raised.present log.forced log.used raised.records)

@@ -1,3 +1,5 @@
+-- Visits and rounds, whatever is visited.
+pub mod Repeats
 -- The rounds that a script has.
 pub mod Spending
 -- How often the node is visited.

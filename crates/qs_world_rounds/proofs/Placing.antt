@@ -2,6 +2,7 @@
 use Rattle.std.proofs.Common.{◌≡◌, ◌≢◌, ◌∙◌, ◌≤◌, ◌<◌, ap, subst, sym, refl, ℕ, zero, suc, ◌+◌, Bool, true, false, List, [], ◌∷◌, ◌++◌, map, length, arith}
 use Rattle.std.specs.Prelude.{⊤}
 use Rattle.qs_base.specs.declared.identifiers.ClientNo.{ClientNo}
+use Rattle.qs_base.specs.declared.identifiers.NodeNo.{NodeNo}
 use Rattle.qs_client.specs.declared.cell.ClientCell.{ClientCell}
 use Rattle.qs_client.specs.Progress.{begun}
 use Rattle.qs_book_journal.specs.declared.script_line.LineAnswer.{LineAnswer}
@@ -11,7 +12,7 @@ use Rattle.qs_world_plans.specs.Plan.{commands_of}
 use Rattle.qs_link.specs.Lanes.{is_of}
 use Rattle.qs_link.specs.declared.ends.NodeEnds.{NodeEnds}
 use Rattle.qs_world_rounds.specs.Lanes.{IsJoined, AllJoined, AreJoined}
-use Rattle.qs_world_rounds.specs.Seats.{AreSeated, IsSeated, IsOneMore, has_seat, number_of, seated_below}
+use Rattle.qs_world_rounds.specs.Seats.{AreSeated, IsSeated, IsOneMore, sits_at, number_of, seated_below}
 use Rattle.qs_book_script.specs.declared.script.Script.{Script}
 use Rattle.qs_book_script.specs.declared.script.Seat.{Seat}
 use Rattle.std.proofs.lemmas.List.{append-nil, length-map}
@@ -105,18 +106,18 @@ length_more : (ns : List ClientNo) (n : ClientNo) → length (ns ++ n ∷ []) �
 length_more [] n = refl
 length_more (m ∷ ns) n = let rest = length_more ns n in omega arith
 
-one_further : (seats : List Seat) (k : ℕ) (b : Bool) → has_seat (record { 0 = k }) seats ≡ b → InOrder k (seated_below seats k) → InOrder (suc k) (seated_below seats (suc k))
-one_further seats k true is here = rw is (record {
-  below = below_more (suc k) (seated_below seats k) (record { 0 = k }) (below_up k (seated_below seats k) here.below) (omega arith);
-  distinct = distinct_more (record { 0 = k }) (seated_below seats k) here.below here.distinct;
-  few = let f = here.few in let long = length_more (seated_below seats k) (record { 0 = k }) in omega arith;
+one_further : (node : NodeNo) (seats : List Seat) (k : ℕ) (b : Bool) → sits_at node (record { 0 = k }) seats ≡ b → InOrder k (seated_below node seats k) → InOrder (suc k) (seated_below node seats (suc k))
+one_further node seats k true is here = rw is (record {
+  below = below_more (suc k) (seated_below node seats k) (record { 0 = k }) (below_up k (seated_below node seats k) here.below) (omega arith);
+  distinct = distinct_more (record { 0 = k }) (seated_below node seats k) here.below here.distinct;
+  few = let f = here.few in let long = length_more (seated_below node seats k) (record { 0 = k }) in omega arith;
 })
-one_further seats k false is here =
-    rw (is, append-nil) (record { below = below_up k (seated_below seats k) here.below; distinct = here.distinct; few = let f = here.few in omega arith })
+one_further node seats k false is here =
+    rw (is, append-nil) (record { below = below_up k (seated_below node seats k) here.below; distinct = here.distinct; few = let f = here.few in omega arith })
 
-in_order : (seats : List Seat) (k : ℕ) → InOrder k (seated_below seats k)
-in_order seats zero = record { below = tt; distinct = tt; few = omega arith }
-in_order seats (suc k) = one_further seats k (has_seat (record { 0 = k }) seats) refl (in_order seats k)
+in_order : (node : NodeNo) (seats : List Seat) (k : ℕ) → InOrder k (seated_below node seats k)
+in_order node seats zero = record { below = tt; distinct = tt; few = omega arith }
+in_order node seats (suc k) = one_further node seats k (sits_at node (record { 0 = k }) seats) refl (in_order node seats k)
 
 -- ---- the lanes are whole
 
@@ -149,13 +150,13 @@ all_joined script (client ∷ clients) (end ∷ ends) seats distinct = (
 all_joined script [] (end ∷ ends) seats distinct = absurd seats
 all_joined script (client ∷ clients) [] seats distinct = absurd seats
 
-pub joined_seats : (script : Script) (clients : List ClientCell) (ends : List NodeEnds) (k : ℕ) → k ≤ 256 → AreSeated script clients ends
-    → map number_of clients ≡ seated_below script.seats k → AreJoined ends clients
-joined_seats script clients ends k most seats numbers = record {
-  each = all_joined script clients ends seats (subst AreDistinct (sym numbers) (in_order script.seats k).distinct);
+pub joined_seats : (script : Script) (node : NodeNo) (clients : List ClientCell) (ends : List NodeEnds) (k : ℕ) → k ≤ 256 → AreSeated script clients ends
+    → map number_of clients ≡ seated_below node script.seats k → AreJoined ends clients
+joined_seats script node clients ends k most seats numbers = record {
+  each = all_joined script clients ends seats (subst AreDistinct (sym numbers) (in_order node script.seats k).distinct);
   few =
-      let few = (in_order script.seats k).few in
-      let same : length (map number_of clients) ≡ length (seated_below script.seats k) = ap length numbers in
+      let few = (in_order node script.seats k).few in
+      let same : length (map number_of clients) ≡ length (seated_below node script.seats k) = ap length numbers in
       let all : length (map number_of clients) ≡ length clients = length-map clients number_of in
       omega arith;
 }

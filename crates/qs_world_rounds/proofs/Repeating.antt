@@ -1,5 +1,5 @@
 -- Rounds, one after the other, and how they end.
-use Rattle.std.proofs.Common.{◌≡◌, ◌∙◌, ◌≤◌, ap, subst, sym, refl, inl, inr, ℕ, zero, suc, ◌+◌, ◌-◌, Bool, arith}
+use Rattle.std.proofs.Common.{◌≡◌, ◌∙◌, ◌≤◌, ap, subst, sym, inl, inr, ℕ, ◌+◌, ◌-◌, Bool, arith}
 use Rattle.qs_base.specs.Causes.{Rose}
 use Rattle.qs_cell.specs.Starts.{journal_of}
 use Rattle.qs_disk.specs.Disk.{DiskState}
@@ -14,32 +14,7 @@ use Rattle.qs_world_rounds.specs.declared.rounds.Ending.{Ending}
 use Rattle.qs_book_script.specs.declared.script.Script.{Script}
 use Rattle.rand_pcg.specs.Lcg.{Lcg}
 
-one_more : (n : ℕ) → n + 1 ≡ suc n
-one_more n = omega arith
-
 module _ {D : Type 0} (told : Type 0) (state : D → DiskState) (own size : D → ℕ) where
-  more : (rng : Lcg) (n : ℕ) (a b c : Cast D) (later : Lcg) (quiet : Bool) → Rounds told state own size rng n a b later
-      → IsRound told state own size (drawn_order (count_of b) later).0 b c quiet → Rounds told state own size rng (suc n) a c (drawn_order (count_of b) later).1
-  more rng zero a b c later quiet all last =
-      subst (λ (l : Lcg). Rounds told state own size rng 1 a c (drawn_order (count_of b) l).1) (sym all.1)
-      (subst (λ (x : Cast D). Rounds told state own size rng 1 a c (drawn_order (count_of x) rng).1) (sym all.0)
-      (c, (quiet, (here, (refl, refl)))))
-    where
-      here : IsRound told state own size (drawn_order (count_of a) rng).0 a c quiet
-      here =
-          subst (λ (x : Cast D). IsRound told state own size (drawn_order (count_of x) rng).0 x c quiet) all.0
-          (subst (λ (l : Lcg). IsRound told state own size (drawn_order (count_of b) l).0 b c quiet) all.1 last)
-  more rng (suc n) a b c later quiet all last =
-      (all.0, (all.1.0, (all.1.1.0, more (drawn_order (count_of a) rng).1 n all.0 b c later quiet all.1.1.1 last)))
-
-  -- one more round
-  pub rounds_more : (rng : Lcg) (n : ℕ) (a b c : Cast D) (later next : Lcg) (quiet : Bool) → Rounds told state own size rng n a b later
-      → IsRound told state own size (drawn_order (count_of b) later).0 b c quiet → next ≡ (drawn_order (count_of b) later).1
-      → Rounds told state own size rng (n + 1) a c next
-  rounds_more rng n a b c later next quiet all last is =
-      subst (λ (k : ℕ). Rounds told state own size rng k a c next) (sym (one_more n))
-      (subst (λ (l : Lcg). Rounds told state own size rng (suc n) a c l) (sym is) (more rng n a b c later quiet all last))
-
   ends_with : (rng : Lcg) (n : ℕ) (a b c : Cast D) (later : Lcg) (quiet : Bool) → Rounds told state own size rng n a b later
       → IsRound told state own size (drawn_order (count_of b) later).0 b c quiet → EndsWith told state own size rng (n + 1) a c quiet
   ends_with rng n a b c later quiet all last =

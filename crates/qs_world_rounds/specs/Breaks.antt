@@ -1,11 +1,12 @@
 -- A round that is cut short: the disk of the node failed as the node was started again, or memory was refused.
-use Rattle.std.specs.Prelude.{◌≡◌, ◌⊎◌, ℕ, zero, suc, Bool, true, false, List, [], ◌∷◌, Err}
+use Rattle.std.specs.Prelude.{◌≡◌, ◌⊎◌, ℕ, zero, suc, Bool, true, false, List, Err}
 use Rattle.qs_base.specs.Causes.{Rose}
 use Rattle.qs_cell.specs.Starts.{CellValue, post_of}
 use Rattle.qs_cell.specs.State.{StartsAgain, cause_of, disk_of}
 use Rattle.qs_cell.specs.WholeVisits.{Breaks, Visits}
 use Rattle.qs_cell.specs.declared.state.RestartFault.TheVariants as restart_faults
 use Rattle.qs_disk.specs.Disk.{DiskState}
+use Rattle.qs_world_rounds.specs.Repeats.{VisitsUpTo}
 use Rattle.qs_world_rounds.specs.Rounds.{Cast, CarriesAll, IsSameStart, VisitAt, is_refused, is_up}
 
 -- what the disk itself has counted
@@ -28,10 +29,7 @@ FailsAt told state own size (suc at) old new = ⊥
 
 -- those before a place were visited, and this came of the visit there
 abbrev pub VisitsUntil : {D : Type 0} → Type 0 → (D → DiskState) → (D → ℕ) → (D → ℕ) → (ℕ → Cast D → Cast D → Type 0) → List ℕ → Cast D → Cast D → Type 0
-VisitsUntil told state own size Comes [] old new = ⊥
-VisitsUntil told state own size Comes (place ∷ places) old new =
-    Comes place old new
-    ⊎ ((mid : Cast _) × ((did : Bool) × (VisitAt told state own size place old mid did × VisitsUntil told state own size Comes places mid new)))
+VisitsUntil told state own size Comes places old new = VisitsUpTo (VisitAt told state own size) Comes places old new
 
 abbrev pub VisitSome : {D : Type 0} → Type 0 → (D → DiskState) → (D → ℕ) → (D → ℕ) → List ℕ → Cast D → Cast D → Type 0
 VisitSome told state own size places old new = VisitsUntil told state own size (FailsAt told state own size) places old new

@@ -1,3 +1,5 @@
+-- Visits and rounds, whatever is visited.
+pub mod Repeats
 -- The actors, what is carried, who is visited, and when a round is quiet.
 pub mod Rounds
 -- A round that is cut short.

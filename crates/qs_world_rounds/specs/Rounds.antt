@@ -13,7 +13,7 @@ use Rattle.qs_disk.specs.Disk.{DiskState}
 use Rattle.qs_book_journal.specs.declared.entry.CrashCause.{CrashCause}
 use Rattle.qs_book_journal.specs.declared.entry.CrashCause.TheVariants as causes
 use Rattle.qs_link.specs.Lanes.{ends_of, CarriesIn, CarriesOut}
-use Rattle.qs_world_plans.specs.Order.{drawn_order}
+use Rattle.qs_world_rounds.specs.Repeats.{AllVisits, RoundsBy}
 use Rattle.rand_pcg.specs.Lcg.{Lcg}
 
 -- the node, and its clients by number
@@ -104,10 +104,7 @@ VisitAt told state own size (suc at) old new did =
 
 -- in the order of these places; something was done where it was in one of them
 abbrev pub VisitAll : {D : Type 0} → Type 0 → (D → DiskState) → (D → ℕ) → (D → ℕ) → List ℕ → Cast D → Cast D → Bool → Type 0
-VisitAll told state own size [] old new did = (new ≡ old) × (did ≡ false)
-VisitAll told state own size (place ∷ places) old new did =
-    (mid : Cast _) × ((first : Bool) × ((more : Bool) × (VisitAt told state own size place old mid first
-    × (VisitAll told state own size places mid new more × (did ≡ (first || more))))))
+VisitAll told state own size places old new did = AllVisits (VisitAt told state own size) places old new did
 
 -- ---- a round
 
@@ -121,10 +118,7 @@ pub record IsRound {D : Type 0} (told : Type 0) (state : D → DiskState) (own s
 
 -- so many rounds, in orders that are drawn one after the other
 abbrev pub Rounds : {D : Type 0} → Type 0 → (D → DiskState) → (D → ℕ) → (D → ℕ) → Lcg → ℕ → Cast D → Cast D → Lcg → Type 0
-Rounds told state own size rng zero old new later = (new ≡ old) × (later ≡ rng)
-Rounds told state own size rng (suc n) old new later =
-    (mid : Cast _) × ((quiet : Bool) × (IsRound told state own size (drawn_order (count_of old) rng).0 old mid quiet
-    × Rounds told state own size (drawn_order (count_of old) rng).1 n mid new later))
+Rounds told state own size rng n old new later = RoundsBy count_of (IsRound told state own size) rng n old new later
 
 -- ---- how often the node is visited
 

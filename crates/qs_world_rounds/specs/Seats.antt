@@ -1,5 +1,5 @@
 -- The actors as a run of a script begins: the node over its disk, and the clients at the first of their lines.
-use Rattle.std.specs.Prelude.{◌≡◌, ⊤, ℕ, zero, suc, ◌==◌, Bool, List, [], ◌∷◌, ◌++◌, map, Result, Ok, Err, if◌then◌else◌}
+use Rattle.std.specs.Prelude.{◌≡◌, ⊤, ℕ, zero, suc, ◌==◌, Bool, List, [], ◌∷◌, ◌++◌, ◌&&◌, map, Result, Ok, Err, if◌then◌else◌}
 use Rattle.std.specs.List.{list_any}
 use Rattle.std.specs.Global.{Global}
 use Rattle.qs_base.specs.declared.identifiers.ClientNo.{ClientNo}
@@ -31,10 +31,14 @@ node_count = 1
 abbrev pub first_node : NodeNo
 first_node = record { 0 = 0 }
 
--- which has no links
-pub record IsAlone (links : LinksValue) : Type 0 where
-  pub size : links.size ≡ node_count
-  pub me : links.me ≡ first_node
+-- links of a node, in a run of so many
+pub record AreLinksOf (size : ℕ) (node : NodeNo) (links : LinksValue) : Type 0 where
+  pub size_is : links.size ≡ size
+  pub me : links.me ≡ node
+
+-- the only node has none
+abbrev pub IsAlone : LinksValue → Type 0
+IsAlone links = AreLinksOf node_count first_node links
 
 -- what a script has planned for a node
 abbrev pub plan_of : NodeNo → List FaultLine → NodePlan
@@ -42,20 +46,20 @@ plan_of node lines = record { crashes = crashes_of node lines; stops = stops_of 
 
 -- ---- the clients
 
--- a line gives the client a seat
-abbrev pub has_seat : ClientNo → List Seat → Bool
-has_seat client seats = list_any (λ seat. seat.client.0 == client.0) seats
+-- a line gives the client a seat at the node
+abbrev pub sits_at : NodeNo → ClientNo → List Seat → Bool
+sits_at node client seats = list_any (λ seat. (seat.client.0 == client.0) && (seat.node.0 == node.0)) seats
 
-abbrev pub seated_as : ClientNo → List Seat → List ClientNo
-seated_as client seats = if has_seat client seats then client ∷ [] else []
+abbrev pub seated_as : NodeNo → ClientNo → List Seat → List ClientNo
+seated_as node client seats = if sits_at node client seats then client ∷ [] else []
 
 -- those whose numbers are below this one, by number
-abbrev pub seated_below : List Seat → ℕ → List ClientNo
-seated_below seats zero = []
-seated_below seats (suc n) = seated_below seats n ++ seated_as (record { 0 = n }) seats
+abbrev pub seated_below : NodeNo → List Seat → ℕ → List ClientNo
+seated_below node seats zero = []
+seated_below node seats (suc n) = seated_below node seats n ++ seated_as node (record { 0 = n }) seats
 
-unfoldable pub seated : List Seat → List ClientNo
-seated seats = seated_below seats client_count
+unfoldable pub seated : NodeNo → List Seat → List ClientNo
+seated node seats = seated_below node seats client_count
 
 -- a client at the first of its lines, and the node's ends of its lanes, in which nothing is on its way
 pub record IsSeated (script : Script) (client : ClientCell) (end : NodeEnds) : Type 0 where
@@ -85,13 +89,17 @@ pub record IsOneMore (script : Script) (number : ClientNo) (clients : List Clien
 
 -- ---- all of them
 
--- the node began over the disk, as the script sets it, and so did the clients that have a seat, by number
-pub record HasBegun {D : Type 0} (told : Type 0) (state : D → DiskState) (own : D → ℕ) (alloc : Global) (script : Script) (disk : D) (cast : Cast D) : Type 0 where
-  pub started : IsStarted told state alloc disk (setting_of script node_count first_node 0) cast.node.links cast.node.seat.ends (plan_of first_node script.faults) cast.node
-  pub alone : IsAlone cast.node.links
+-- a node of a run of so many began over the disk, as the script sets it, and so did the clients that have a seat there, by number
+pub record BeginsAt {D : Type 0} (told : Type 0) (state : D → DiskState) (own : D → ℕ) (alloc : Global) (script : Script) (size : ℕ) (node : NodeNo) (disk : D) (cast : Cast D) : Type 0 where
+  pub started : IsStarted told state alloc disk (setting_of script size node 0) cast.node.links cast.node.seat.ends (plan_of node script.faults) cast.node
+  pub links : AreLinksOf size node cast.node.links
   pub faults : cast.node.faults ≡ own disk
-  pub clients : map number_of cast.clients ≡ seated script.seats
+  pub clients : map number_of cast.clients ≡ seated node script.seats
   pub seats : AreSeated script cast.clients cast.node.seat.ends
+
+-- the only node did
+abbrev pub HasBegun : {D : Type 0} → Type 0 → (D → DiskState) → (D → ℕ) → Global → Script → D → Cast D → Type 0
+HasBegun told state own alloc script disk cast = BeginsAt told state own alloc script node_count first_node disk cast
 
 -- the disk, whether they began or not
 abbrev pub begun_disk : {D : Type 0} → Result (Cast D) (CellOpen D) → FusedValue D

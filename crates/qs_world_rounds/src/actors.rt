@@ -1,14 +1,15 @@
 //! The actors of a run of one node: the node and its clients. In a round each is visited once.
-ghost use Rattle.std.specs.Prelude.{◌≡◌, ◌<◌, ◌+◌, ◌&&◌, ◌||◌, not, IfOk, OnOk, Err};
+ghost use Rattle.std.specs.Prelude.{◌≡◌, true, ◌<◌, ◌+◌, ◌&&◌, ◌||◌, not, IfOk, OnOk, Err};
 ghost use Rattle.qs_base.specs.declared.identifiers.NodeNo.{NodeNo};
 ghost use Rattle.qs_cell.specs.Logged.{most_rounds};
 ghost use Rattle.qs_cell.specs.Starts.{journal_of};
 ghost use Rattle.qs_cell.specs.Visits.{Grows};
+ghost use Rattle.qs_cell_peers.specs.Links.{CarriesLink, StayLinked, into_of, is_peer_of, out_of};
+ghost use Rattle.qs_link.specs.Lane.{IsLane};
 ghost use Rattle.qs_world_rounds.specs.Breaks.{BreaksRound, FailsAt, RefusedAt, RefusesRound, VisitSome, VisitsUntil};
 ghost use Rattle.qs_world_rounds.specs.Lanes.{AreJoined};
 ghost use Rattle.std.specs.List.{list_all};
 ghost use Rattle.qs_world_rounds.specs.Rounds.{IsRound, has_ended, IsSameStart, VisitAt, VisitAll, CarriesAll, all_ended, are_settled, count_of, node_turns, visits_of};
-ghost use Rattle.qs_world_rounds.specs.Seats.{first_node};
 ghost use Rattle.qs_world_rounds.specs.declared.faults.RoundFault.TheVariants as faults;
 
 use crate::faults::RoundFault;
@@ -86,7 +87,7 @@ impl<D: Disk> Actors<D> {
         ensures broken { (node : NodeNo) → result ≡ Err (faults.DiskFault node) → BreaksRound D.told D.state D.fault_count D.byte_count order.now self.old self.new }
         ensures refused { result ≡ Err faults.NoMemory → RefusesRound D.told D.state D.fault_count D.byte_count order.now self.old self.new }
         ensures damaged { D.told → result ≡ Err faults.Damaged → most_rounds < visits_of self.old + node_turns order.now }
-        ensures named { (node : NodeNo) → result ≡ Err (faults.DiskFault node) → node ≡ first_node }
+        ensures named { (node : NodeNo) → result ≡ Err (faults.DiskFault node) → node ≡ self.old.node.links.me }
         ensures start { IsSameStart self.old.node self.new.node }
         ensures grows { Grows (journal_of self.old.node) (journal_of self.new.node) }
     {
@@ -98,10 +99,24 @@ impl<D: Disk> Actors<D> {
         })
     }
 
+    /// Moves what stands on the link from the node of other actors into the inbox of its link here, and says how many packets that
+    /// then holds. After `NoMemory`, which comes where memory was refused, a front was moved and nothing is lost.
+    pub fn carry_packets(&mut self, from: &mut Actors<D>) -> Result<usize, NoMemory>
+        requires peer { is_peer_of self.old.node.links from.old.node.links.me.0 ≡ true }
+        requires its { is_peer_of from.old.node.links self.old.node.links.me.0 ≡ true }
+        requires lane { IsLane (out_of from.old.node.links self.old.node.links.me.0).feed (into_of self.old.node.links from.old.node.links.me.0) }
+        ensures carries { CarriesLink result from.old.node.links from.new.node.links self.old.node.links self.new.node.links }
+        ensures own { self.new ≡ record self.old { node = record self.old.node { links = self.new.node.links } } }
+        ensures its { from.new ≡ record from.old { node = record from.old.node { links = from.new.node.links } } }
+    {
+        self.node.carry_packets(&mut from.node)
+    }
+
     /// What stands in each lane is carried into the inbox of its receiver.
-    fn carry(&mut self) -> Result<(), NoMemory>
+    pub fn carry(&mut self) -> Result<(), NoMemory>
         ensures carries { OnOk result (CarriesAll self.old.node self.new.node self.old.clients self.new.clients) }
         ensures node { self.new.node.seat.node ≡ self.old.node.seat.node }
+        ensures links { self.new.node.links ≡ self.old.node.links }
         ensures start { IsSameStart self.old.node self.new.node }
     {
         carry_all(&mut self.node, &mut self.clients)
@@ -113,7 +128,7 @@ impl<D: Disk> Actors<D> {
         ensures broken { (node : NodeNo) → result ≡ Err (faults.DiskFault node) → VisitSome D.told D.state D.fault_count D.byte_count order.now self.old self.new }
         ensures refused { result ≡ Err faults.NoMemory → VisitsUntil D.told D.state D.fault_count D.byte_count (RefusedAt D.told D.state D.fault_count D.byte_count) order.now self.old self.new }
         ensures damaged { D.told → result ≡ Err faults.Damaged → most_rounds < visits_of self.old + node_turns order.now }
-        ensures named { (node : NodeNo) → result ≡ Err (faults.DiskFault node) → node ≡ first_node }
+        ensures named { (node : NodeNo) → result ≡ Err (faults.DiskFault node) → node ≡ self.old.node.links.me }
         ensures start { IsSameStart self.old.node self.new.node }
         ensures grows { Grows (journal_of self.old.node) (journal_of self.new.node) }
     {
@@ -126,14 +141,15 @@ impl<D: Disk> Actors<D> {
     }
 
     /// The visit of the actor at that place of the order, and whether anything was done in it.
-    fn visit(&mut self, place: usize) -> Result<bool, RoundFault>
+    pub fn visit(&mut self, place: usize) -> Result<bool, RoundFault>
         ensures visits { IfOk result (VisitAt D.told D.state D.fault_count D.byte_count place self.old self.new) }
         ensures broken { (node : NodeNo) → result ≡ Err (faults.DiskFault node) → FailsAt D.told D.state D.fault_count D.byte_count place self.old self.new }
         ensures refused { result ≡ Err faults.NoMemory → RefusedAt D.told D.state D.fault_count D.byte_count place self.old self.new }
         ensures damaged { D.told → result ≡ Err faults.Damaged → most_rounds < visits_of self.old }
-        ensures named { (node : NodeNo) → result ≡ Err (faults.DiskFault node) → node ≡ first_node }
+        ensures named { (node : NodeNo) → result ≡ Err (faults.DiskFault node) → node ≡ self.old.node.links.me }
         ensures start { IsSameStart self.old.node self.new.node }
         ensures grows { Grows (journal_of self.old.node) (journal_of self.new.node) }
+        ensures linked { StayLinked self.old.node.links self.new.node.links }
     {
         if place == 0 {
             return visit_node(&mut self.node);

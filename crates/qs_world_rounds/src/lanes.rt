@@ -20,6 +20,7 @@ pub fn carry_all<D: Disk>(
     ensures each { AllJoined node.new.seat.ends clients.new.items }
     ensures count { length clients.new.items ≡ length clients.old.items }
     ensures node { node.new.seat.node ≡ node.old.seat.node }
+    ensures links { node.new.links ≡ node.old.links }
     ensures start { IsSameStart node.old node.new }
 {
     carry_each(node, clients.as_mut_slice())
@@ -31,6 +32,7 @@ fn carry_each<D: Disk>(node: &mut NodeCell<D>, clients: &mut [ClientCell]) -> Re
     ensures each { AllJoined node.new.seat.ends clients.new }
     ensures joined { StayJoined node.old.seat.ends node.new.seat.ends }
     ensures node { node.new.seat.node ≡ node.old.seat.node }
+    ensures links { node.new.links ≡ node.old.links }
     ensures start { IsSameStart node.old node.new }
 {
     match clients.split_first_mut() {
@@ -49,6 +51,7 @@ fn carry_both<D: Disk>(node: &mut NodeCell<D>, client: &mut ClientCell) -> Resul
     ensures here { IsJoined node.new.seat.ends client.new }
     ensures joined { StayJoined node.old.seat.ends node.new.seat.ends }
     ensures node { node.new.seat.node ≡ node.old.seat.node }
+    ensures links { node.new.links ≡ node.old.links }
     ensures start { IsSameStart node.old node.new }
 {
     let number = client.client();

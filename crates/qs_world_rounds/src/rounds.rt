@@ -9,7 +9,6 @@ ghost use Rattle.qs_world_plans.specs.Order.{drawn_order};
 ghost use Rattle.qs_world_rounds.specs.Breaks.{BreaksRound, RefusesRound};
 ghost use Rattle.qs_world_rounds.specs.Endings.{IsEnding, IsCutShort, IsOutOfMemory, IsOver};
 ghost use Rattle.qs_world_rounds.specs.Rounds.{IsRound, IsSameStart, all_ended, are_settled, count_of, visits_of};
-ghost use Rattle.qs_world_rounds.specs.Seats.{first_node};
 ghost use Rattle.qs_world_rounds.specs.declared.faults.RoundFault.TheVariants as faults;
 
 use crate::actors::{Actors, RoundEnd};
@@ -41,7 +40,7 @@ pub fn rounds_of<D: Disk>(
     ensures cut { (node : NodeNo) → result ≡ Err (faults.DiskFault node) → IsCutShort D.told D.state D.fault_count D.byte_count seed actors.old actors.new }
     ensures refused { result ≡ Err faults.NoMemory → IsOutOfMemory D.told D.state D.fault_count D.byte_count seed actors.old actors.new }
     ensures damaged { D.told → result ≡ Err faults.Damaged → most_rounds < visits_of actors.old + most_budget script.now }
-    ensures named { (node : NodeNo) → result ≡ Err (faults.DiskFault node) → node ≡ first_node }
+    ensures named { (node : NodeNo) → result ≡ Err (faults.DiskFault node) → node ≡ actors.old.node.links.me }
     ensures start { IsSameStart actors.old.node actors.new.node }
     ensures grows { Grows (journal_of actors.old.node) (journal_of actors.new.node) }
 {
@@ -72,7 +71,7 @@ fn next_round<D: Disk>(
     ensures refused { result ≡ Err faults.NoMemory
         → RefusesRound D.told D.state D.fault_count D.byte_count (drawn_order (count_of actors.old) orders.old.rng).0 actors.old actors.new }
     ensures damaged { D.told → result ≡ Err faults.Damaged → most_rounds < visits_of actors.old + 1 }
-    ensures named { (node : NodeNo) → result ≡ Err (faults.DiskFault node) → node ≡ first_node }
+    ensures named { (node : NodeNo) → result ≡ Err (faults.DiskFault node) → node ≡ actors.old.node.links.me }
     ensures start { IsSameStart actors.old.node actors.new.node }
     ensures grows { Grows (journal_of actors.old.node) (journal_of actors.new.node) }
 {

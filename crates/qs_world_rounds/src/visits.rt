@@ -6,11 +6,11 @@ ghost use Rattle.qs_cell.specs.Logged.{most_rounds};
 ghost use Rattle.qs_cell.specs.Starts.{journal_of};
 ghost use Rattle.qs_cell.specs.State.{rounds_of};
 ghost use Rattle.qs_cell.specs.Visits.{Grows};
+ghost use Rattle.qs_cell_peers.specs.Links.{StayLinked};
 ghost use Rattle.qs_link.specs.declared.ends.NodeEnds.{NodeEnds};
 ghost use Rattle.qs_world_rounds.specs.Breaks.{NodeFails, NodeRefusedIf};
 ghost use Rattle.qs_world_rounds.specs.Lanes.{AllJoined};
 ghost use Rattle.qs_world_rounds.specs.Rounds.{ClientVisitAt, IsSameStart, NodeActs, NodeStarts, NodeVisit, is_refused, is_up};
-ghost use Rattle.qs_world_rounds.specs.Seats.{first_node};
 ghost use Rattle.qs_world_rounds.specs.declared.faults.RoundFault.TheVariants as faults;
 
 use crate::faults::RoundFault;
@@ -19,7 +19,6 @@ use qs_book_journal::CrashCause;
 use qs_cell::{NodeCell, RestartFault};
 use qs_client::ClientCell;
 use qs_disk::Disk;
-use qs_world_plans::NODE;
 
 /// A node that is up makes its events; one that is down is started again. It answers whether anything was done. `Damaged` comes
 /// where its log opened as damaged, which over a disk that tells it never does within 2^61 - 2 visits and restarts.
@@ -28,10 +27,11 @@ pub fn visit_node<D: Disk>(node: &mut NodeCell<D>) -> Result<bool, RoundFault>
     ensures broken { (at : NodeNo) → result ≡ Err (faults.DiskFault at) → NodeFails D.told D.state D.fault_count D.byte_count node.old node.new }
     ensures refused { result ≡ Err faults.NoMemory → NodeRefusedIf (is_up node.old) D.told D.state D.fault_count D.byte_count node.old node.new }
     ensures damaged { D.told → result ≡ Err faults.Damaged → most_rounds < rounds_of node.old.seat.node }
-    ensures named { (at : NodeNo) → result ≡ Err (faults.DiskFault at) → at ≡ first_node }
+    ensures named { (at : NodeNo) → result ≡ Err (faults.DiskFault at) → at ≡ node.old.links.me }
     ensures start { IsSameStart node.old node.new }
     ensures grows { Grows (journal_of node.old) (journal_of node.new) }
     ensures joined { StayJoined node.old.seat.ends node.new.seat.ends }
+    ensures linked { StayLinked node.old.links node.new.links }
 {
     if !node.is_up() {
         return restart(node);
@@ -48,6 +48,7 @@ fn act<D: Disk>(node: &mut NodeCell<D>) -> Result<bool, NoMemory>
     ensures start { IsSameStart node.old node.new }
     ensures grows { Grows (journal_of node.old) (journal_of node.new) }
     ensures joined { StayJoined node.old.seat.ends node.new.seat.ends }
+    ensures linked { StayLinked node.old.links node.new.links }
 {
     let visited = node.visit()?;
     if is_refused(node.cause()) {
@@ -70,14 +71,15 @@ fn restart<D: Disk>(node: &mut NodeCell<D>) -> Result<bool, RoundFault>
     ensures broken { (at : NodeNo) → result ≡ Err (faults.DiskFault at) → NodeFails D.told D.state D.fault_count D.byte_count node.old node.new }
     ensures refused { result ≡ Err faults.NoMemory → NodeRefusedIf false D.told D.state D.fault_count D.byte_count node.old node.new }
     ensures damaged { D.told → result ≡ Err faults.Damaged → most_rounds < rounds_of node.old.seat.node }
-    ensures named { (at : NodeNo) → result ≡ Err (faults.DiskFault at) → at ≡ first_node }
+    ensures named { (at : NodeNo) → result ≡ Err (faults.DiskFault at) → at ≡ node.old.links.me }
     ensures start { IsSameStart node.old node.new }
     ensures grows { Grows (journal_of node.old) (journal_of node.new) }
     ensures ends { node.new.seat.ends ≡ node.old.seat.ends }
+    ensures links { node.new.links ≡ node.old.links }
 {
     match node.restart() {
         Ok(up) => Ok(up),
-        Err(RestartFault::DiskFailed) => Err(RoundFault::DiskFault { node: NODE }),
+        Err(RestartFault::DiskFailed) => Err(RoundFault::DiskFault { node: node.node() }),
         Err(RestartFault::Damaged { .. }) => Err(RoundFault::Damaged),
         Err(RestartFault::NoMemory) => Err(RoundFault::NoMemory),
     }

@@ -1,9 +1,11 @@
-use Rattle.std.proofs.Common.{◌+◌, rules}
+use Rattle.std.proofs.Common.{◌+◌, ◌∙◌, rules}
 use Rattle.qs_cell.specs.Starts.{journal_of}
 use Rattle.qs_world_plans.specs.Budget.{budget, most_budget}
 use Rattle.qs_world_plans.specs.Order.{seeded}
 use Rattle.qs_world_rounds.proofs.Counting.{late_after}
-use Rattle.qs_world_rounds.proofs.Repeating.{rounds_more, ending_with, cut_at, refused_at, same_start}
+use Rattle.qs_world_rounds.proofs.Repeating.{ending_with, cut_at, refused_at, same_start}
+use Rattle.qs_world_rounds.proofs.Repeats.{rounds_more}
+use Rattle.qs_world_rounds.specs.Rounds.{IsRound, count_of}
 use Rattle.qs_world_rounds.proofs.Spending.{budget_most, lt_le_on, more_on, most_on}
 use Rattle.qs_world_rounds.proofs.Turning.{grows_on}
 use Rattle.qs_world_rounds.proofs.rounds.rounds_of.Goals as goal
@@ -40,7 +42,7 @@ returns-in-Some-clause-ending g c =
 
 pub loop-rounds-preserved : goal.loop-rounds-preserved
 loop-rounds-preserved g c = record {
-  made = rounds_more g.D.Disk.told g.D.Disk.state g.D.Disk.fault_count g.D.Disk.byte_count (seeded c.args.seed) c.loop-rounds.rounds c.args.actors.now
+  made = rounds_more count_of (IsRound g.D.Disk.told g.D.Disk.state g.D.Disk.fault_count g.D.Disk.byte_count) (seeded c.args.seed) c.loop-rounds.rounds c.args.actors.now
       c.loop-rounds.actors c.next_round.new.actors c.loop-rounds.orders.rng c.next_round.new.orders.rng c.in_ok-end.end.quiet c.loop-rounds.invariant.made
       c.in_ok-end.ensures.round c.in_ok-end.ensures.drawn;
   more = lt_le_on (c.loop-rounds.rounds + 1) c.ending_of.new.most (budget c.args.script.now (journal_of c.next_round.new.actors.node))
@@ -50,3 +52,6 @@ loop-rounds-preserved g c = record {
   grows = grows_on (journal_of c.args.actors.now.node) (journal_of c.loop-rounds.actors.node) (journal_of c.next_round.new.actors.node)
       c.loop-rounds.invariant.grows c.next_round.ensures.grows;
 }
+
+pub returns-in_err-end-clause-named : goal.returns-in_err-end-clause-named
+returns-in_err-end-clause-named g c = λ node is. c.in_err-end.ensures.named node (search rules) ∙ c.loop-rounds.invariant.start.links.me

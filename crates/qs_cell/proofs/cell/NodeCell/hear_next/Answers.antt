@@ -2,6 +2,8 @@ use Rattle.std.proofs.Common.{◌≡◌, ◌∙◌, ap, subst, sym, Bool, true, 
 use Rattle.std.specs.Prelude.{Option, None, Some, Ok, is_some}
 use Rattle.qs_book_journal.specs.declared.entry.CrashCause.{CrashCause}
 use Rattle.qs_world.specs.Histories.{opened_with}
+use Rattle.qs_cell_peers.specs.Links.{StayLinked}
+use Rattle.qs_cell_peers.proofs.Linked.{linked_as, taken_linked}
 use Rattle.qs_cell.specs.Hearing.{BreaksHearing, Hears, Post}
 use Rattle.qs_cell.specs.Starts.{post_of}
 use Rattle.qs_cell.specs.State.{cause_of}
@@ -36,6 +38,24 @@ returns-in_err-packet-clause-rings g c = rings_as c.args.self.now.seat.ends c.se
 
 pub returns-in_default-clause-rings : goal.returns-in_default-clause-rings
 returns-in_default-clause-rings g c = rings_as c.args.self.now.seat.ends c.self.inside.ends.items (ap (λ cell. cell.seat.ends) c.self.view_is)
+
+pub returns-in_err-make_room-clause-linked : goal.returns-in_err-make_room-clause-linked
+returns-in_err-make_room-clause-linked g c = linked_as c.args.self.now.links c.self.inside.links (ap (λ cell. cell.links) c.self.view_is)
+
+pub returns-then-is_some-clause-linked : goal.returns-then-is_some-clause-linked
+returns-then-is_some-clause-linked g c = linked_as c.args.self.now.links c.self.inside.links (ap (λ cell. cell.links) c.self.view_is)
+
+pub returns-in_err-packet-clause-linked : goal.returns-in_err-packet-clause-linked
+returns-in_err-packet-clause-linked g c = subst (λ links. StayLinked links c.take_carried.new.self) (ap (λ cell. cell.links) c.self.view_is)
+    (taken_linked c.args.from c.self.inside.links c.take_carried.new.self c.take_carried.ensures.same c.take_carried.ensures.out c.take_carried.ensures.others c.take_carried.ensures.ring)
+
+pub returns-in_default-clause-linked : goal.returns-in_default-clause-linked
+returns-in_default-clause-linked g c = subst (λ links. StayLinked links c.take_carried.new.self) (ap (λ cell. cell.links) c.self.view_is)
+    (taken_linked c.args.from c.self.inside.links c.take_carried.new.self c.take_carried.ensures.same c.take_carried.ensures.out c.take_carried.ensures.others c.take_carried.ensures.ring)
+
+pub returns-clause-linked : goal.returns-clause-linked
+returns-clause-linked g c = subst (λ links. StayLinked links c.take_carried.new.self) (ap (λ cell. cell.links) c.self.view_is)
+    (taken_linked c.args.from c.self.inside.links c.take_carried.new.self c.take_carried.ensures.same c.take_carried.ensures.out c.take_carried.ensures.others c.take_carried.ensures.ring)
 
 -- whether the node is up
 up_is : (cause : Option CrashCause) (some : Bool) (it : Option CrashCause) (b : Bool) → it ≡ cause → some ≡ is_some it → some ≡ b → is_some cause ≡ b

@@ -1,4 +1,6 @@
-use Rattle.std.proofs.Common.{ap, length, subst, sym}
+use Rattle.std.proofs.Common.{◌≡◌, ap, length, subst, sym}
+use Rattle.qs_cell_peers.specs.Links.{LinksValue, StayLinked}
+use Rattle.qs_cell_peers.proofs.Linked.{linked_on}
 use Rattle.qs_cell.specs.Joined.{HaveSameRings}
 use Rattle.qs_cell.specs.Starts.{post_of}
 use Rattle.qs_cell.proofs.Rings.{joined_rings, rings_on}
@@ -75,3 +77,26 @@ returns-clause-rings g c = subst (λ seat. HaveSameRings c.args.self.now.seat.en
 
 pub returns-clause-joined : goal.returns-clause-joined
 returns-clause-joined g c = joined_rings c.args.self.now.seat.ends c.put_since.new.self.seat.ends (returns-clause-rings g c)
+
+-- the ends that a visit has of its links, up to the turns of its sources
+heard_linked : (old begun heard : LinksValue) → begun ≡ old → StayLinked begun heard → StayLinked old heard
+heard_linked old begun heard is linked = subst (λ (links : LinksValue). StayLinked links heard) is linked
+
+pub returns-in_err-hear_all-clause-linked : goal.returns-in_err-hear_all-clause-linked
+returns-in_err-hear_all-clause-linked g c = heard_linked c.args.self.now.links c.begin_round.new.self.links c.hear_all.new.self.links c.begin_round.ensures.links c.hear_all.ensures.linked
+
+pub returns-in_err-turn_all-clause-linked : goal.returns-in_err-turn_all-clause-linked
+returns-in_err-turn_all-clause-linked g c = subst (StayLinked c.args.self.now.links) (sym c.turn_all.ensures.links)
+    (heard_linked c.args.self.now.links c.begin_round.new.self.links c.hear_all.new.self.links c.begin_round.ensures.links c.hear_all.ensures.linked)
+
+pub returns-in_err-sent-clause-linked : goal.returns-in_err-sent-clause-linked
+returns-in_err-sent-clause-linked g c = linked_on c.args.self.now.links c.turn_all.new.self.links c.put_since.new.self.links
+    (subst (StayLinked c.args.self.now.links) (sym c.turn_all.ensures.links)
+    (heard_linked c.args.self.now.links c.begin_round.new.self.links c.hear_all.new.self.links c.begin_round.ensures.links c.hear_all.ensures.linked))
+    c.put_since.ensures.linked
+
+pub returns-clause-linked : goal.returns-clause-linked
+returns-clause-linked g c = linked_on c.args.self.now.links c.turn_all.new.self.links c.put_since.new.self.links
+    (subst (StayLinked c.args.self.now.links) (sym c.turn_all.ensures.links)
+    (heard_linked c.args.self.now.links c.begin_round.new.self.links c.hear_all.new.self.links c.begin_round.ensures.links c.hear_all.ensures.linked))
+    c.put_since.ensures.linked

@@ -1,4 +1,4 @@
-use Rattle.std.proofs.Common.{◌≡◌, ◌+◌, ◌==◌, true, false, ap, length, refl, subst, sym, ◌∙◌}
+use Rattle.std.proofs.Common.{◌≡◌, ◌+◌, ◌==◌, true, ap, length, subst, sym, ◌∙◌}
 use Rattle.std.proofs.lemmas.Bool.{and_parts}
 use Rattle.qs_session_channels.specs.End.{End, answer, received}
 use Rattle.qs_packet.specs.declared.message.Message.{Message}
@@ -6,7 +6,7 @@ use Rattle.qs_session.specs.Seen.{seen}
 use Rattle.qs_cell_peers.specs.Peers.{comes_to, is_peer, place}
 use Rattle.qs_cell_peers.specs.Sessions.{SessionsValue}
 use Rattle.qs_cell_peers.proofs.Changing.{IsRead, end_is, ends_there, is_with, still_kept, with_end}
-use Rattle.qs_cell_peers.proofs.Hearing.{ends_as, heard_here, heard_strange, same_ends}
+use Rattle.qs_cell_peers.proofs.Hearing.{ends_as, heard_here}
 use Rattle.qs_cell_peers.proofs.sessions.Sessions.hear.Goals as goal
 use Rattle.qs_cell_peers.proofs.sessions.Sessions.hear.Goals.{After-index_mut}
 

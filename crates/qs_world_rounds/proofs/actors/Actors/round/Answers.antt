@@ -30,3 +30,6 @@ returns-clause-round g c = record {
   visits = c.in_ok-did.ensures.visits;
   quiet_is = c.is_quiet.ensures ∙ ap (λ b. b && not c.in_ok-did.did) (c.is_up-up.ensures ∙ ap (λ cast. is_up cast.node) c.self.view_is);
 }
+
+pub returns-in_err-did-clause-named : goal.returns-in_err-did-clause-named
+returns-in_err-did-clause-named g c = λ node is. c.in_err-did.ensures.named node (search rules) ∙ c.carry.ensures.start.links.me

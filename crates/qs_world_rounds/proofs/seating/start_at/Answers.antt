@@ -2,7 +2,7 @@ use Rattle.std.proofs.Common.{subst, sym}
 use Rattle.qs_cell.specs.State.{disk_of}
 use Rattle.qs_disk.specs.Moments.{Keeps}
 use Rattle.qs_log_start.specs.Incarnation.{IsTouched}
-use Rattle.qs_world_rounds.proofs.seating.start.Goals as goal
+use Rattle.qs_world_rounds.proofs.seating.start_at.Goals as goal
 
 pub returns-in-Err-clause-damaged : goal.returns-in-Err-clause-damaged
 returns-in-Err-clause-damaged g c = λ told at is. absurd (cc is)
