@@ -18,3 +18,6 @@ pub mod Reaching
 pub mod Alike
 pub mod Turning
 pub mod Visiting
+pub mod Apart
+pub mod Carried
+pub mod ClientTurns
