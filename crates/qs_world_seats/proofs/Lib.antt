@@ -21,3 +21,7 @@ pub mod Visiting
 pub mod Apart
 pub mod Carried
 pub mod ClientTurns
+pub mod LanesStay
+pub mod SitesGoOn
+pub mod SitesBegin
+pub mod ByNumber

@@ -12,3 +12,5 @@ pub mod Reached
 pub mod Visiting
 -- Lanes are carried, and clients have their turns.
 pub mod Carrying
+-- A site of a run.
+pub mod Sites
