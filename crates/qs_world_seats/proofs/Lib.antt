@@ -18,3 +18,10 @@ pub mod Reaching
 pub mod Alike
 pub mod Turning
 pub mod Visiting
+pub mod Apart
+pub mod Carried
+pub mod ClientTurns
+pub mod LanesStay
+pub mod SitesGoOn
+pub mod SitesBegin
+pub mod ByNumber

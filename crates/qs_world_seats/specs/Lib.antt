@@ -10,3 +10,7 @@ pub mod Seats
 pub mod Reached
 -- A visit.
 pub mod Visiting
+-- Lanes are carried, and clients have their turns.
+pub mod Carrying
+-- A site of a run.
+pub mod Sites

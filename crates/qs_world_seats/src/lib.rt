@@ -4,7 +4,11 @@
 mod beginnings;
 mod events;
 mod going;
+mod lanes;
+mod sites;
 
 pub use beginnings::cells_begin_in_the_world;
 pub use events::{events_go_on_in_the_world, packets_aside_go_on_in_the_world};
 pub use going::{seats_go_on, visits_of_seats_go_on};
+pub use lanes::lanes_go_on;
+pub use sites::{sites_begin, sites_go_on};
