@@ -1,0 +1,8 @@
+-- What holds of each site before and after.
+pub mod Staying
+-- The links between sites, as they are carried one after the other.
+pub mod Between
+-- Two sites of a list that is split between them.
+pub mod Halves
+-- One link more, until all are carried.
+pub mod Further

@@ -1,0 +1,12 @@
+-- The sites of a run, and what is carried between them as a round begins.
+pub mod Sites
+-- Within the carrying of a round.
+pub mod Carrying
+-- The visits of a round, and its rounds.
+pub mod Rounds
+-- A round that is cut short.
+pub mod Breaks
+-- How the rounds of a run end.
+pub mod Endings
+-- The sites as a run begins.
+pub mod Seats
