@@ -3,6 +3,8 @@
 
 mod carrying;
 mod turn;
+mod visits;
 
 pub use carrying::carry_all;
 pub use turn::Turn;
+pub use visits::visit_turn;
