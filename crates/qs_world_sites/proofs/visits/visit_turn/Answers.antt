@@ -1,4 +1,4 @@
-use Rattle.std.proofs.Common.{◌≡◌, ◌<◌, arith, length, rules}
+use Rattle.std.proofs.Common.{◌<◌, arith, length}
 use Rattle.qs_world_sites.proofs.Staying.{each_set, linked_set, stays_none}
 use Rattle.qs_world_sites.proofs.Visiting.{came, got_here, risen, rises, visited, visited_none}
 use Rattle.qs_world_rounds.specs.Breaks as one
