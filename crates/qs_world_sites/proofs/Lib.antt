@@ -6,3 +6,5 @@ pub mod Between
 pub mod Halves
 -- One link more, until all are carried.
 pub mod Further
+-- The visit of one actor.
+pub mod Visiting

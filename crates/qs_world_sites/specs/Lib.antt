@@ -6,6 +6,8 @@ pub mod Carrying
 pub mod Rounds
 -- A round that is cut short.
 pub mod Breaks
+-- How often nodes are visited.
+pub mod Late
 -- How the rounds of a run end.
 pub mod Endings
 -- The sites as a run begins.
