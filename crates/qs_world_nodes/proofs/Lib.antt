@@ -1,0 +1,14 @@
+-- Sites by their places.
+pub mod Places
+-- What a script has planned for a link is a plan.
+pub mod Planned
+-- The sites begin.
+pub mod Beginning
+-- Lanes and links are carried.
+pub mod Carrying
+-- A visit.
+pub mod Visiting
+-- Rounds.
+pub mod Rounds
+-- What the cells tell.
+pub mod Telling

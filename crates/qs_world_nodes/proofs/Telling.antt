@@ -1,0 +1,72 @@
+-- What the cells of sites in the world tell, merged, is traced.
+use Rattle.std.proofs.Common.{◌≡◌, ◌∙◌, ap, subst, sym, ℕ, ◌<◌, List, arith, slice_get, Some}
+use Rattle.std.specs.Global.{Global}
+use Rattle.qs_book_script.specs.declared.script.Script.{Script}
+use Rattle.qs_cell.specs.Hearing.{Post}
+use Rattle.qs_cell.specs.Starts.{post_of}
+use Rattle.qs_disk.specs.Disk.{DiskState}
+use Rattle.qs_link.specs.declared.outgoing.LinkFault.{LinkFault}
+use Rattle.qs_node_step.specs.declared.trace.Step.{Step}
+use Rattle.qs_world.specs.World.{Opening}
+use Rattle.qs_world_links.proofs.Linked.{each_keeps}
+use Rattle.qs_world_links.specs.Between.{AreFew}
+use Rattle.qs_world_links.specs.Everywhere as links
+use Rattle.qs_world_links.specs.Posts.{trace_in}
+use Rattle.qs_world_merge.specs.Observed.{AreOfLocalRuns, IsOfLocalRun}
+use Rattle.qs_world_nodes.proofs.Beginning.{each_begins}
+use Rattle.qs_world_nodes.proofs.Places.{found, post_there}
+use Rattle.qs_world_nodes.proofs.Rounds.{each_rounds}
+use Rattle.qs_world_nodes.specs.Nodes.{AreSitesIn, FewWerePut, journal_at, journal_by, plans_of, post_at, trace_at, trace_by}
+use Rattle.qs_world_nodes.specs.Running.{RoundsAreTraced, SitesAreTraced}
+use Rattle.qs_world_rounds.specs.Rounds.{Cast}
+use Rattle.qs_world_seats.proofs.Starting.{each_tells}
+use Rattle.qs_world_sites.specs.Sites.{SitesValue}
+use Rattle.qs_world_traces.proofs.TracesRun.{each_traced}
+use Rattle.qs_world_traces.specs.Links.{IsTakenByPlan, KeepPlans, observed_by, put_to, took_from}
+use Rattle.rand_pcg.specs.Lcg.{Lcg}
+
+module _ {D : Type 0} (told : Type 0) (state : D → DiskState) (o : Opening) (plans : ℕ → ℕ → List LinkFault) (sites : List (Cast D)) (are : AreSitesIn told state o plans sites) where
+  -- ---- each tells of a local run
+
+  tells_at : (n : ℕ) (a : Cast D) → slice_get sites n ≡ Some a → IsOfLocalRun o n (observed_by (journal_at sites n) (trace_at sites n))
+  tells_at n a is = subst (λ (x : _). IsOfLocalRun o n (observed_by (journal_by x) (trace_by x))) (sym is)
+      (each_tells told state o n a.node.seat.node a.node.seat.ends a.clients (are.each n a is).there.there)
+
+  local : AreOfLocalRuns o (λ n. observed_by (journal_at sites n) (trace_at sites n))
+  local n low = by (found sites n (omega (arith, low, are.count)))
+    where
+      by : (a : Cast D) × (slice_get sites n ≡ Some a) → IsOfLocalRun o n (observed_by (journal_at sites n) (trace_at sites n))
+      by (a, is) = tells_at n a is
+
+  -- ---- the links keep their plans
+
+  module _ (few : FewWerePut sites) (other : Post D) where
+    same_trace : (n : ℕ) → n < o.size → trace_in (post_at other sites n) ≡ trace_at sites n
+    same_trace n low = by (found sites n (omega (arith, low, are.count)))
+      where
+        by : (a : Cast D) × (slice_get sites n ≡ Some a) → trace_in (post_at other sites n) ≡ trace_at sites n
+        by (a, is) = ap (λ (p : Post D). trace_in p) (post_there other sites n a is) ∙ sym (ap trace_by is)
+
+    few_posts : links.FewWerePut o.size (post_at other sites)
+    few_posts m n low_m low_n apart = subst (λ (l : List Step). AreFew (put_to n l)) (sym (same_trace m low_m)) (few m n (omega (arith, low_m, are.count)) (omega (arith, low_n, are.count)) apart)
+
+    keep_with : KeepPlans o.size plans (trace_at sites)
+    keep_with n m low_n low_m apart = subst (λ (l : List Step). IsTakenByPlan (plans m n) (put_to n l) (took_from m (trace_at sites n))) (same_trace m low_m)
+        (subst (λ (l : List Step). IsTakenByPlan (plans m n) (put_to n (trace_in (post_at other sites m))) (took_from m l)) (same_trace n low_n)
+        (each_keeps o.size plans (post_at other sites) (are.links other) few_posts n m low_n low_m apart))
+
+  -- where there are two nodes there is a post
+  keep : FewWerePut sites → KeepPlans o.size plans (trace_at sites)
+  keep few n m low_n low_m apart = by (found sites n (omega (arith, low_n, are.count)))
+    where
+      by : (a : Cast D) × (slice_get sites n ≡ Some a) → IsTakenByPlan (plans m n) (put_to n (trace_at sites m)) (took_from m (trace_at sites n))
+      by (a, is) = keep_with few (post_of a.node) n m low_n low_m apart
+
+pub each_sites_traced : {D : Type 0} (told : Type 0) (state : D → DiskState) (o : Opening) (plans : ℕ → ℕ → List LinkFault) (sites : List (Cast D)) → SitesAreTraced told state o plans sites
+each_sites_traced told state o plans sites are few journal trace entries steps =
+    each_traced o plans (journal_at sites) (trace_at sites) (local told state o plans sites are) (keep told state o plans sites are few) journal trace entries steps
+
+pub each_rounds_traced : {D : Type 0} (told : Type 0) (state : D → DiskState) (own size : D → ℕ) (alloc : Global) (script : Script) (disks : List D) (o : Opening) (rng : Lcg) (n : ℕ) (all new : SitesValue D) (later : Lcg)
+    → RoundsAreTraced told state own size alloc script disks o rng n all new later
+each_rounds_traced told state own size alloc script disks o rng n all new later t begun opens rounds few =
+    each_sites_traced told state o (plans_of script) new.sites (each_rounds told state own size o (plans_of script) rng n all new later t rounds (each_begins told state own alloc script disks all o t begun opens)) few

@@ -1,0 +1,8 @@
+use Rattle.qs_world_nodes.proofs.Telling.{each_rounds_traced, each_sites_traced}
+use Rattle.qs_world_nodes.proofs.running.rounds_are_runs_of_the_world.Goals as goal
+
+pub returns : goal.returns
+returns g c = record {
+  sites = λ o plans sites. each_sites_traced g.D.Disk.told g.D.Disk.state o plans sites;
+  rounds = λ alloc script disks o rng later n all new. each_rounds_traced g.D.Disk.told g.D.Disk.state g.D.Disk.fault_count g.D.Disk.byte_count alloc script disks o rng n all new later;
+}

@@ -1,0 +1,4 @@
+-- All sites of a run at once.
+pub mod Nodes
+-- They go on, and tell of a run.
+pub mod Running

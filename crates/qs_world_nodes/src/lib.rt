@@ -1,0 +1,6 @@
+//! The rounds of all sites of a run are, by what their cells tell, a run of the world over packets.
+#![tactic(auto)]
+
+mod running;
+
+pub use running::{nodes_begin, nodes_go_on, rounds_are_runs_of_the_world};
