@@ -1,6 +1,7 @@
 -- What the cells of sites in the world tell, merged, is traced.
-use Rattle.std.proofs.Common.{◌≡◌, ◌∙◌, ap, subst, sym, ℕ, ◌<◌, List, arith, slice_get, Some}
+use Rattle.std.proofs.Common.{◌≡◌, ◌∙◌, ap, subst, sym, ℕ, ◌<◌, ◌-◌, List, arith, slice_get, Some}
 use Rattle.std.specs.Global.{Global}
+use Rattle.qs_base.specs.declared.identifiers.NodeNo.{NodeNo}
 use Rattle.qs_book_script.specs.declared.script.Script.{Script}
 use Rattle.qs_cell.specs.Hearing.{Post}
 use Rattle.qs_cell.specs.Starts.{post_of}
@@ -15,12 +16,14 @@ use Rattle.qs_world_links.specs.Posts.{trace_in}
 use Rattle.qs_world_merge.specs.Observed.{AreOfLocalRuns, IsOfLocalRun}
 use Rattle.qs_world_nodes.proofs.Beginning.{each_begins}
 use Rattle.qs_world_nodes.proofs.Places.{found, post_there}
-use Rattle.qs_world_nodes.proofs.Rounds.{each_rounds}
+use Rattle.qs_world_nodes.proofs.Rounds.{each_broken, each_round, each_rounds}
 use Rattle.qs_world_nodes.specs.Nodes.{AreSitesIn, FewWerePut, journal_at, journal_by, plans_of, post_at, trace_at, trace_by}
-use Rattle.qs_world_nodes.specs.Running.{RoundsAreTraced, SitesAreTraced}
+use Rattle.qs_world_nodes.specs.Running.{CutShortIsTraced, EndingsAreTraced, RoundsAreTraced, SitesAreTraced}
+use Rattle.qs_world_plans.specs.Order.{drawn_order, seeded}
 use Rattle.qs_world_rounds.specs.Rounds.{Cast}
+use Rattle.qs_world_rounds.specs.declared.rounds.Ending.{Ending}
 use Rattle.qs_world_seats.proofs.Starting.{each_tells}
-use Rattle.qs_world_sites.specs.Sites.{SitesValue}
+use Rattle.qs_world_sites.specs.Sites.{SitesValue, count_of}
 use Rattle.qs_world_traces.proofs.TracesRun.{each_traced}
 use Rattle.qs_world_traces.specs.Links.{IsTakenByPlan, KeepPlans, observed_by, put_to, took_from}
 use Rattle.rand_pcg.specs.Lcg.{Lcg}
@@ -66,7 +69,21 @@ pub each_sites_traced : {D : Type 0} (told : Type 0) (state : D → DiskState) (
 each_sites_traced told state o plans sites are few journal trace entries steps =
     each_traced o plans (journal_at sites) (trace_at sites) (local told state o plans sites are) (keep told state o plans sites are few) journal trace entries steps
 
-pub each_rounds_traced : {D : Type 0} (told : Type 0) (state : D → DiskState) (own size : D → ℕ) (alloc : Global) (script : Script) (disks : List D) (o : Opening) (rng : Lcg) (n : ℕ) (all new : SitesValue D) (later : Lcg)
-    → RoundsAreTraced told state own size alloc script disks o rng n all new later
-each_rounds_traced told state own size alloc script disks o rng n all new later t begun opens rounds few =
-    each_sites_traced told state o (plans_of script) new.sites (each_rounds told state own size o (plans_of script) rng n all new later t rounds (each_begins told state own alloc script disks all o t begun opens)) few
+-- ---- of a run that has begun
+
+module _ {D : Type 0} (told : Type 0) (state : D → DiskState) (own size : D → ℕ) (alloc : Global) (script : Script) (disks : List D) (o : Opening) where
+  pub each_rounds_traced : (rng : Lcg) (n : ℕ) (all new : SitesValue D) (later : Lcg) → RoundsAreTraced told state own size alloc script disks o rng n all new later
+  each_rounds_traced rng n all new later t begun opens rounds few =
+      each_sites_traced told state o (plans_of script) new.sites (each_rounds told state own size o (plans_of script) rng n all new later t rounds (each_begins told state own alloc script disks all o t begun opens)) few
+
+  pub each_ending_traced : (seed : ℕ) (all new : SitesValue D) (ending : Ending) → EndingsAreTraced told state own size alloc script disks o seed all new ending
+  each_ending_traced seed all new ending t begun opens is few =
+      each_sites_traced told state o (plans_of script) new.sites
+      (each_round told state own size o (plans_of script) (drawn_order (count_of is.ends.before) is.ends.drawn).0 is.ends.before new is.quiet t is.ends.last
+      (each_rounds told state own size o (plans_of script) (seeded seed) (ending.rounds - 1) all is.ends.before is.ends.drawn t is.ends.earlier (each_begins told state own alloc script disks all o t begun opens))) few
+
+  pub each_cut_traced : (seed : ℕ) (node : NodeNo) (all new : SitesValue D) → CutShortIsTraced told state own size alloc script disks o seed node all new
+  each_cut_traced seed node all new t begun opens is few =
+      each_sites_traced told state o (plans_of script) new.sites
+      (each_broken told state own size o (plans_of script) (drawn_order (count_of is.before) is.drawn).0 node is.before new t is.broken
+      (each_rounds told state own size o (plans_of script) (seeded seed) is.rounds all is.before is.drawn t is.earlier (each_begins told state own alloc script disks all o t begun opens))) few

@@ -14,7 +14,9 @@ use Rattle.qs_world_merge.specs.Observed.{journals_of}
 use Rattle.qs_world_merge.specs.StepMoves.{step_key}
 use Rattle.qs_world_nodes.specs.Nodes.{AreSitesIn, FewWerePut, OpensSites, journal_at, plans_of, trace_at}
 use Rattle.qs_world_rounds.specs.Rounds.{Cast}
+use Rattle.qs_world_rounds.specs.declared.rounds.Ending.{Ending}
 use Rattle.qs_world_sites.specs.Breaks.{BreaksRound}
+use Rattle.qs_world_sites.specs.Endings.{IsCutShort, IsEnding}
 use Rattle.qs_world_sites.specs.Rounds.{IsRound, Rounds, VisitAll, VisitAt}
 use Rattle.qs_world_sites.specs.Seats.{HasBegun}
 use Rattle.qs_world_sites.specs.Sites.{AreCarried, SitesValue}
@@ -64,4 +66,16 @@ SitesAreTraced told state o plans sites = AreSitesIn told state o plans sites �
 abbrev pub RoundsAreTraced : {D : Type 0} → Type 0 → (D → DiskState) → (D → ℕ) → (D → ℕ) → Global → Script → List D → Opening → Lcg → ℕ → SitesValue D → SitesValue D → Lcg → Type 0
 RoundsAreTraced told state own size alloc script disks o rng n all new later =
     told → (begun : HasBegun told state own alloc script disks all) → OpensSites told state own alloc script disks all begun o → Rounds told state own size rng n all new later
+    → FewWerePut new.sites → AreTraced o (plans_of script) new.sites
+
+-- as the rounds of such a run end
+abbrev pub EndingsAreTraced : {D : Type 0} → Type 0 → (D → DiskState) → (D → ℕ) → (D → ℕ) → Global → Script → List D → Opening → ℕ → SitesValue D → SitesValue D → Ending → Type 0
+EndingsAreTraced told state own size alloc script disks o seed all new ending =
+    told → (begun : HasBegun told state own alloc script disks all) → OpensSites told state own alloc script disks all begun o → IsEnding told state own size script seed all new ending
+    → FewWerePut new.sites → AreTraced o (plans_of script) new.sites
+
+-- and where one was cut short
+abbrev pub CutShortIsTraced : {D : Type 0} → Type 0 → (D → DiskState) → (D → ℕ) → (D → ℕ) → Global → Script → List D → Opening → ℕ → NodeNo → SitesValue D → SitesValue D → Type 0
+CutShortIsTraced told state own size alloc script disks o seed node all new =
+    told → (begun : HasBegun told state own alloc script disks all) → OpensSites told state own alloc script disks all begun o → IsCutShort told state own size seed node all new
     → FewWerePut new.sites → AreTraced o (plans_of script) new.sites

@@ -5,8 +5,9 @@ ghost use Rattle.qs_base.specs.declared.identifiers.NodeNo.{NodeNo};
 ghost use Rattle.qs_book_script.specs.declared.script.Script.{Script};
 ghost use Rattle.qs_link.specs.declared.outgoing.LinkFault.{LinkFault};
 ghost use Rattle.qs_world.specs.World.{Opening};
-ghost use Rattle.qs_world_nodes.specs.Running.{BrokenRoundKeeps, CarriesKeep, NodesBegin, RoundKeeps, RoundsAreTraced, RoundsKeep, SitesAreTraced, VisitKeeps, VisitsKeep};
+ghost use Rattle.qs_world_nodes.specs.Running.{BrokenRoundKeeps, CarriesKeep, CutShortIsTraced, EndingsAreTraced, NodesBegin, RoundKeeps, RoundsAreTraced, RoundsKeep, SitesAreTraced, VisitKeeps, VisitsKeep};
 ghost use Rattle.qs_world_rounds.specs.Rounds.{Cast};
+ghost use Rattle.qs_world_rounds.specs.declared.rounds.Ending.{Ending};
 ghost use Rattle.qs_world_sites.specs.Sites.{SitesValue};
 ghost use Rattle.rand_pcg.specs.Lcg.{Lcg};
 
@@ -29,8 +30,11 @@ pub fn nodes_go_on<D: Disk>()
 {}
 
 /// What the cells of such sites tell, merged by stamp and node, is the steps of a run of the world over packets, over links that keep their plans, and its
-/// history; so is what they tell after any rounds of a run that has begun. Each link got fewer than 2^63 packets, as its end can count.
+/// history; so is what they tell after any rounds of a run that has begun, as these end, and where one was cut short. Each link got fewer than 2^63 packets, as
+/// its end can count.
 pub fn rounds_are_runs_of_the_world<D: Disk>()
     ensures sites { (o : Opening) (plans : ℕ → ℕ → List LinkFault) (sites : List (Cast D)) → SitesAreTraced D.told D.state o plans sites }
     ensures rounds { (alloc : Global) (script : Script) (disks : List D) (o : Opening) (rng later : Lcg) (n : ℕ) (all new : SitesValue D) → RoundsAreTraced D.told D.state D.fault_count D.byte_count alloc script disks o rng n all new later }
+    ensures ends { (alloc : Global) (script : Script) (disks : List D) (o : Opening) (seed : ℕ) (all new : SitesValue D) (ending : Ending) → EndingsAreTraced D.told D.state D.fault_count D.byte_count alloc script disks o seed all new ending }
+    ensures cut { (alloc : Global) (script : Script) (disks : List D) (o : Opening) (seed : ℕ) (node : NodeNo) (all new : SitesValue D) → CutShortIsTraced D.told D.state D.fault_count D.byte_count alloc script disks o seed node all new }
 {}
