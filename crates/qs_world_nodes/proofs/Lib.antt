@@ -12,3 +12,5 @@ pub mod Visiting
 pub mod Rounds
 -- What the cells tell.
 pub mod Telling
+-- What such a run opens with.
+pub mod Opened

@@ -2,3 +2,5 @@
 pub mod Nodes
 -- They go on, and tell of a run.
 pub mod Running
+-- What such a run opens with.
+pub mod Openings

@@ -3,4 +3,4 @@
 
 mod running;
 
-pub use running::{nodes_begin, nodes_go_on, rounds_are_runs_of_the_world};
+pub use running::{nodes_begin, nodes_go_on, nodes_have_openings, rounds_are_runs_of_the_world};

@@ -1,0 +1,5 @@
+use Rattle.qs_world_nodes.proofs.Opened.{each_opening}
+use Rattle.qs_world_nodes.proofs.running.nodes_have_openings.Goals as goal
+
+pub returns : goal.returns
+returns g c = λ alloc script disks all. each_opening g.D.Disk.told g.D.Disk.state g.D.Disk.fault_count alloc script disks all
