@@ -14,3 +14,5 @@ pub mod Rounds
 pub mod Telling
 -- What such a run opens with.
 pub mod Opened
+-- Scripts that are read.
+pub mod Sitting

@@ -16,7 +16,7 @@ abbrev IsNot : LinkFault → LinkFault → Type 0
 IsNot fault other = packet_of other ≢ packet_of fault
 
 -- of two tests of which none holds, neither does
-neither : (a b : Bool) → (a || b) ≡ false → (a ≡ false) × (b ≡ false)
+pub neither : (a b : Bool) → (a || b) ≡ false → (a ≡ false) × (b ≡ false)
 neither true b none = absurd (grind (arith, none))
 neither false b none = (refl, none)
 

@@ -1,5 +1,5 @@
 -- What a run of many nodes opens with is not assumed: it is the script over the logs that the nodes raised as they began.
-use Rattle.std.specs.Prelude.{◌≡◌, ℕ, List, [], length, Option, Some, None, slice_get}
+use Rattle.std.specs.Prelude.{◌≡◌, ℕ, List, [], length, Option, Some, None, Ok, slice_get}
 use Rattle.std.specs.Global.{Global}
 use Rattle.qs_book_script.specs.declared.script.Script.{Script}
 use Rattle.qs_book_script.specs.declared.script.Seat.{Seat}
@@ -9,6 +9,7 @@ use Rattle.qs_cell.specs.declared.state.CellState.TheVariants as states
 use Rattle.qs_disk.specs.Disk.{DiskState}
 use Rattle.qs_record.specs.declared.record.Record.{Record}
 use Rattle.qs_session_channels.specs.Network.{Among}
+use Rattle.qs_text_script.specs.Script.{script_of}
 use Rattle.qs_world.specs.World.{Opening}
 use Rattle.qs_world_nodes.specs.Nodes.{OpensSites}
 use Rattle.qs_world_opening.specs.Scripts.{opening_by}
@@ -39,3 +40,7 @@ SitOnce seats = (a b : Seat) → Among seats a → Among seats b → a.client.0 
 abbrev pub NodesHaveOpening : {D : Type 0} → Type 0 → (D → DiskState) → (D → ℕ) → Global → Script → List D → SitesValue D → Type 0
 NodesHaveOpening told state own alloc script disks all =
     (begun : HasBegun told state own alloc script disks all) → SitOnce script.seats → OpensSites told state own alloc script disks all begun (opening_over alloc script disks all.sites)
+
+-- none does by a script that is read
+abbrev pub ReadSitOnce : ℕ → List ℕ → Script → Type 0
+ReadSitOnce nodes text script = script_of nodes text ≡ Ok script → SitOnce script.seats

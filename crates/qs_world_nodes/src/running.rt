@@ -6,7 +6,7 @@ ghost use Rattle.qs_book_script.specs.declared.script.Script.{Script};
 ghost use Rattle.qs_link.specs.declared.outgoing.LinkFault.{LinkFault};
 ghost use Rattle.qs_world.specs.World.{Opening};
 ghost use Rattle.qs_world_nodes.specs.Running.{BrokenRoundKeeps, CarriesKeep, CutShortIsTraced, EndingsAreTraced, NodesBegin, RoundKeeps, RoundsAreTraced, RoundsKeep, SitesAreTraced, VisitKeeps, VisitsKeep};
-ghost use Rattle.qs_world_nodes.specs.Openings.{NodesHaveOpening};
+ghost use Rattle.qs_world_nodes.specs.Openings.{NodesHaveOpening, ReadSitOnce};
 ghost use Rattle.qs_world_rounds.specs.Rounds.{Cast};
 ghost use Rattle.qs_world_rounds.specs.declared.rounds.Ending.{Ending};
 ghost use Rattle.qs_world_sites.specs.Sites.{SitesValue};
@@ -15,9 +15,10 @@ ghost use Rattle.rand_pcg.specs.Lcg.{Lcg};
 use qs_disk::Disk;
 
 /// A run in which no client sits at two nodes has such an opening: its script over the logs that the nodes raised as they began, each in the incarnation to
-/// which it was raised.
+/// which it was raised. By a script that is read no client does.
 pub fn nodes_have_openings<D: Disk>()
-    ensures { (alloc : Global) (script : Script) (disks : List D) (all : SitesValue D) → NodesHaveOpening D.told D.state D.fault_count alloc script disks all }
+    ensures opens { (alloc : Global) (script : Script) (disks : List D) (all : SitesValue D) → NodesHaveOpening D.told D.state D.fault_count alloc script disks all }
+    ensures read { (nodes : ℕ) (text : List ℕ) (script : Script) → ReadSitOnce nodes text script }
 {}
 
 /// The sites of a run that has begun stand in a world that opens with each node over its log and with the scripts of all clients, over links on which
