@@ -16,3 +16,5 @@ pub mod Telling
 pub mod Opened
 -- Scripts that are read.
 pub mod Sitting
+-- What is told is lawful.
+pub mod Histories

@@ -88,6 +88,10 @@ its_place node seats k once has =
 
 -- ---- a site
 
+pub inc_is : {D : Type 0} (told : Type 0) (state : D → DiskState) (own : D → ℕ) (alloc : Global) (script : Script) (size n : ℕ) (disk : D) (site : Cast D) (b : BeginsAt told state own alloc script size (record { 0 = n }) disk site)
+    → (carried_of site.node.seat.node).setting.inc ≡ inc_of b.started.running.host.log
+inc_is told state own alloc script size n disk site b = ap (λ (c : CellState _). (carried_of c).setting.inc) b.started.node ∙ ap (λ (s : Setting). s.inc) b.started.begins.setting
+
 module _ {D : Type 0} (told : Type 0) (state : D → DiskState) (own : D → ℕ) (alloc : Global) (script : Script) (disks : List D) (all : SitesValue D) (once : SitOnce script.seats) where
   site_opens : (n : ℕ) (disk : D) (site : Cast D) → n < length disks → slice_get all.sites n ≡ Some site → (b : BeginsAt told state own alloc script (length disks) (record { 0 = n }) disk site)
       → OpensSite alloc n (setting_of script (length disks) (record { 0 = n }) 0) script site.clients b.started.running.host.log (opening_over alloc script disks all.sites)
@@ -97,14 +101,11 @@ module _ {D : Type 0} (told : Type 0) (state : D → DiskState) (own : D → ℕ
       in_run = low;
       nodes = refl;
       node = refl;
-      setting_is = ap (setting_of script (length disks) (record { 0 = n })) (ap inc_by is ∙ inc);
+      setting_is = ap (setting_of script (length disks) (record { 0 = n })) (ap inc_by is ∙ inc_is told state own alloc script (length disks) n disk site b);
       log_is = ap log_by is ∙ ap (λ (c : CellState D). forced_in c) b.started.node;
     };
     scripts = λ client there. ap (λ (m : ℕ). (m, commands_of client.client script.lines)) (its_place (record { 0 = n }) script.seats client.client once (is_seated (record { 0 = n }) script.seats site.clients b.clients client there));
   }
-    where
-      inc : (carried_of site.node.seat.node).setting.inc ≡ inc_of b.started.running.host.log
-      inc = ap (λ (c : CellState D). (carried_of c).setting.inc) b.started.node ∙ ap (λ (s : Setting). s.inc) b.started.begins.setting
 
 pub each_opening : {D : Type 0} (told : Type 0) (state : D → DiskState) (own : D → ℕ) (alloc : Global) (script : Script) (disks : List D) (all : SitesValue D) → NodesHaveOpening told state own alloc script disks all
 each_opening told state own alloc script disks all begun once = record {

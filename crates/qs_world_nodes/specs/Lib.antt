@@ -4,3 +4,5 @@ pub mod Nodes
 pub mod Running
 -- What such a run opens with.
 pub mod Openings
+-- What is told is lawful.
+pub mod Lawful

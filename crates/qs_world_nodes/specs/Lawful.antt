@@ -1,0 +1,39 @@
+-- What is told after any rounds is a lawful history, where the script fits and the logs that the nodes raised are coherent.
+use Rattle.std.specs.Prelude.{ℕ, List, length, slice_get}
+use Rattle.std.specs.Global.{Global}
+use Rattle.qs_book_journal.specs.Merge.{IsMerged}
+use Rattle.qs_book_journal.specs.declared.entry.Entry.{Entry}
+use Rattle.qs_book_machine.specs.Lawful.{IsLawful}
+use Rattle.qs_book_script.specs.declared.script.Script.{Script}
+use Rattle.qs_disk.specs.Disk.{DiskState}
+use Rattle.qs_node_step.specs.declared.trace.Step.{Step}
+use Rattle.qs_world.specs.Histories.{book_of}
+use Rattle.qs_world.specs.Openings.{IsOpening}
+use Rattle.qs_world_merge.specs.MergedByKey.{IsMergedBy}
+use Rattle.qs_world_merge.specs.Observed.{journals_of}
+use Rattle.qs_world_merge.specs.StepMoves.{step_key}
+use Rattle.qs_world_nodes.specs.Nodes.{FewWerePut, journal_at, trace_at}
+use Rattle.qs_world_nodes.specs.Openings.{SitOnce, inc_by, log_by, opening_over}
+use Rattle.qs_world_opening.specs.Coherent.{AreCoherentLogs}
+use Rattle.qs_world_opening.specs.Scripts.{Fits}
+use Rattle.qs_world_rounds.specs.Rounds.{Cast}
+use Rattle.qs_world_sites.specs.Rounds.{Rounds}
+use Rattle.qs_world_sites.specs.Seats.{HasBegun}
+use Rattle.qs_world_sites.specs.Sites.{SitesValue}
+use Rattle.qs_world_traces.specs.Links.{observed_by}
+use Rattle.rand_pcg.specs.Lcg.{Lcg}
+
+-- the logs of all nodes stand together as they began, each in the incarnation to which it was raised
+abbrev pub HaveCoherentLogs : {D : Type 0} → Global → List D → List (Cast D) → Type 0
+HaveCoherentLogs alloc disks sites = AreCoherentLogs alloc (length disks) (λ n. inc_by (slice_get sites n)) (λ n. log_by (slice_get sites n))
+
+-- a run of the world may begin so
+abbrev pub NodesMayBegin : {D : Type 0} → Type 0 → (D → DiskState) → (D → ℕ) → Global → Script → List D → SitesValue D → Type 0
+NodesMayBegin told state own alloc script disks all =
+    told → HasBegun told state own alloc script disks all → Fits (length disks) script → HaveCoherentLogs alloc disks all.sites → IsOpening (opening_over alloc script disks all.sites)
+
+abbrev pub RoundsAreLawful : {D : Type 0} → Type 0 → (D → DiskState) → (D → ℕ) → (D → ℕ) → Global → Script → List D → Lcg → ℕ → SitesValue D → SitesValue D → Lcg → List Entry → List Step → Type 0
+RoundsAreLawful told state own size alloc script disks rng n all new later journal trace =
+    told → HasBegun told state own alloc script disks all → SitOnce script.seats → Fits (length disks) script → HaveCoherentLogs alloc disks all.sites → Rounds told state own size rng n all new later → FewWerePut new.sites
+    → IsMerged (journals_of (length disks) (λ k. observed_by (journal_at new.sites k) (trace_at new.sites k))) journal → IsMergedBy step_key (length disks) (trace_at new.sites) trace
+    → IsLawful (book_of (opening_over alloc script disks all.sites)) journal
