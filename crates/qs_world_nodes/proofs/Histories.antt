@@ -1,6 +1,7 @@
 -- A run of many nodes may begin over coherent logs, and so what is told after any rounds is lawful.
 use Rattle.std.proofs.Common.{◌≡◌, ◌∙◌, ap, subst, ℕ, ◌+◌, ◌<◌, List, length, arith, slice_get, Some}
 use Rattle.std.specs.Global.{Global}
+use Rattle.qs_base.specs.declared.identifiers.NodeNo.{NodeNo}
 use Rattle.qs_book_journal.specs.declared.entry.Entry.{Entry}
 use Rattle.qs_book_machine.specs.Lawful.{IsLawful}
 use Rattle.qs_book_script.specs.declared.script.Script.{Script}
@@ -13,14 +14,15 @@ use Rattle.qs_world.specs.World.{Opening}
 use Rattle.qs_world_merge.specs.MergedRuns.{untimed}
 use Rattle.qs_world_nodes.proofs.Opened.{each_opening, inc_is}
 use Rattle.qs_world_nodes.proofs.Places.{found}
-use Rattle.qs_world_nodes.proofs.Telling.{each_rounds_traced}
-use Rattle.qs_world_nodes.specs.Lawful.{NodesMayBegin, RoundsAreLawful}
+use Rattle.qs_world_nodes.proofs.Telling.{each_cut_traced, each_ending_traced, each_rounds_traced}
+use Rattle.qs_world_nodes.specs.Lawful.{CutShortIsLawful, EndingsAreLawful, NodesMayBegin, RoundsAreLawful}
 use Rattle.qs_world_nodes.specs.Nodes.{plans_of}
 use Rattle.qs_world_nodes.specs.Openings.{inc_by, log_by, opening_over}
 use Rattle.qs_world_opening.specs.Scripts.{MayBegin}
 use Rattle.qs_world_packets.specs.PacketLawful.{EachJournalLawful}
 use Rattle.qs_world_rounds.specs.Rounds.{Cast}
 use Rattle.qs_world_rounds.specs.Seats.{BeginsAt}
+use Rattle.qs_world_rounds.specs.declared.rounds.Ending.{Ending}
 use Rattle.qs_world_sites.specs.Seats.{HasBegun}
 use Rattle.qs_world_sites.specs.Sites.{SitesValue}
 use Rattle.qs_world_traces.specs.Traced.{IsTraced}
@@ -54,3 +56,15 @@ pub each_rounds_lawful : {D : Type 0} → ((o : Opening) → MayBegin o) → Eac
 each_rounds_lawful may lawful told state own size alloc script disks rng n all new later journal trace t begun once fits coherent rounds few entries steps =
     lawful_of lawful (opening_over alloc script disks all.sites) (plans_of script) journal trace (each_may_begin may told state own alloc script disks all t begun fits coherent)
     (each_rounds_traced told state own size alloc script disks (opening_over alloc script disks all.sites) rng n all new later t begun (each_opening told state own alloc script disks all begun once) rounds few journal trace entries steps)
+
+pub each_ending_lawful : {D : Type 0} → ((o : Opening) → MayBegin o) → EachJournalLawful → (told : Type 0) (state : D → DiskState) (own size : D → ℕ) (alloc : Global) (script : Script) (disks : List D) (seed : ℕ) (all new : SitesValue D) (ending : Ending)
+    (journal : List Entry) (trace : List Step) → EndingsAreLawful told state own size alloc script disks seed all new ending journal trace
+each_ending_lawful may lawful told state own size alloc script disks seed all new ending journal trace t begun once fits coherent ends few entries steps =
+    lawful_of lawful (opening_over alloc script disks all.sites) (plans_of script) journal trace (each_may_begin may told state own alloc script disks all t begun fits coherent)
+    (each_ending_traced told state own size alloc script disks (opening_over alloc script disks all.sites) seed all new ending t begun (each_opening told state own alloc script disks all begun once) ends few journal trace entries steps)
+
+pub each_cut_lawful : {D : Type 0} → ((o : Opening) → MayBegin o) → EachJournalLawful → (told : Type 0) (state : D → DiskState) (own size : D → ℕ) (alloc : Global) (script : Script) (disks : List D) (seed : ℕ) (node : NodeNo) (all new : SitesValue D)
+    (journal : List Entry) (trace : List Step) → CutShortIsLawful told state own size alloc script disks seed node all new journal trace
+each_cut_lawful may lawful told state own size alloc script disks seed node all new journal trace t begun once fits coherent cut few entries steps =
+    lawful_of lawful (opening_over alloc script disks all.sites) (plans_of script) journal trace (each_may_begin may told state own alloc script disks all t begun fits coherent)
+    (each_cut_traced told state own size alloc script disks (opening_over alloc script disks all.sites) seed node all new t begun (each_opening told state own alloc script disks all begun once) cut few journal trace entries steps)

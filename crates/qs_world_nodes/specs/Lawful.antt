@@ -4,6 +4,7 @@ use Rattle.std.specs.Global.{Global}
 use Rattle.qs_book_journal.specs.Merge.{IsMerged}
 use Rattle.qs_book_journal.specs.declared.entry.Entry.{Entry}
 use Rattle.qs_book_machine.specs.Lawful.{IsLawful}
+use Rattle.qs_base.specs.declared.identifiers.NodeNo.{NodeNo}
 use Rattle.qs_book_script.specs.declared.script.Script.{Script}
 use Rattle.qs_disk.specs.Disk.{DiskState}
 use Rattle.qs_node_step.specs.declared.trace.Step.{Step}
@@ -17,8 +18,10 @@ use Rattle.qs_world_nodes.specs.Openings.{SitOnce, inc_by, log_by, opening_over}
 use Rattle.qs_world_opening.specs.Coherent.{AreCoherentLogs}
 use Rattle.qs_world_opening.specs.Scripts.{Fits}
 use Rattle.qs_world_rounds.specs.Rounds.{Cast}
+use Rattle.qs_world_rounds.specs.declared.rounds.Ending.{Ending}
 use Rattle.qs_world_sites.specs.Rounds.{Rounds}
 use Rattle.qs_world_sites.specs.Seats.{HasBegun}
+use Rattle.qs_world_sites.specs.Endings.{IsCutShort, IsEnding}
 use Rattle.qs_world_sites.specs.Sites.{SitesValue}
 use Rattle.qs_world_traces.specs.Links.{observed_by}
 use Rattle.rand_pcg.specs.Lcg.{Lcg}
@@ -35,5 +38,19 @@ NodesMayBegin told state own alloc script disks all =
 abbrev pub RoundsAreLawful : {D : Type 0} → Type 0 → (D → DiskState) → (D → ℕ) → (D → ℕ) → Global → Script → List D → Lcg → ℕ → SitesValue D → SitesValue D → Lcg → List Entry → List Step → Type 0
 RoundsAreLawful told state own size alloc script disks rng n all new later journal trace =
     told → HasBegun told state own alloc script disks all → SitOnce script.seats → Fits (length disks) script → HaveCoherentLogs alloc disks all.sites → Rounds told state own size rng n all new later → FewWerePut new.sites
+    → IsMerged (journals_of (length disks) (λ k. observed_by (journal_at new.sites k) (trace_at new.sites k))) journal → IsMergedBy step_key (length disks) (trace_at new.sites) trace
+    → IsLawful (book_of (opening_over alloc script disks all.sites)) journal
+
+-- and so is what is told as the rounds of such a run end
+abbrev pub EndingsAreLawful : {D : Type 0} → Type 0 → (D → DiskState) → (D → ℕ) → (D → ℕ) → Global → Script → List D → ℕ → SitesValue D → SitesValue D → Ending → List Entry → List Step → Type 0
+EndingsAreLawful told state own size alloc script disks seed all new ending journal trace =
+    told → HasBegun told state own alloc script disks all → SitOnce script.seats → Fits (length disks) script → HaveCoherentLogs alloc disks all.sites → IsEnding told state own size script seed all new ending → FewWerePut new.sites
+    → IsMerged (journals_of (length disks) (λ k. observed_by (journal_at new.sites k) (trace_at new.sites k))) journal → IsMergedBy step_key (length disks) (trace_at new.sites) trace
+    → IsLawful (book_of (opening_over alloc script disks all.sites)) journal
+
+-- and where one was cut short
+abbrev pub CutShortIsLawful : {D : Type 0} → Type 0 → (D → DiskState) → (D → ℕ) → (D → ℕ) → Global → Script → List D → ℕ → NodeNo → SitesValue D → SitesValue D → List Entry → List Step → Type 0
+CutShortIsLawful told state own size alloc script disks seed node all new journal trace =
+    told → HasBegun told state own alloc script disks all → SitOnce script.seats → Fits (length disks) script → HaveCoherentLogs alloc disks all.sites → IsCutShort told state own size seed node all new → FewWerePut new.sites
     → IsMerged (journals_of (length disks) (λ k. observed_by (journal_at new.sites k) (trace_at new.sites k))) journal → IsMergedBy step_key (length disks) (trace_at new.sites) trace
     → IsLawful (book_of (opening_over alloc script disks all.sites)) journal
