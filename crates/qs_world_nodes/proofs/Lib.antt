@@ -18,3 +18,5 @@ pub mod Opened
 pub mod Sitting
 -- What is told is lawful.
 pub mod Histories
+-- What a stable sort leaves.
+mod MergeLemmas
