@@ -16,36 +16,46 @@ use std::thread::Threads;
 const SINK_BYTES: usize = 1_048_576;
 
 /// The bytes of each disk but the first.
-const SPARE_BYTES: u64 = 65_536;
+const OTHER_BYTES: u64 = 65_536;
 
 /// How many disks a run is given.
 const DISK_COUNT: usize = 8;
 
-/// The first disk that the last row left, by its seed, and the other disks, which no run uses.
+/// The disks that the last row left, by its seed.
 #[derive(Drop)]
 pub struct Disks {
-    left: BTreeMap<u64, MemDisk>,
-    spare: Vec<MemDisk>,
+    left: BTreeMap<u64, Vec<MemDisk>>,
 }
 
 impl Disks {
-    pub fn new(alloc: Global) -> Result<Disks, Error> {
-        let mut spare = Vec::new(alloc);
-        for other in 1..DISK_COUNT {
-            spare.push(made(MemDisk::new(alloc, SPARE_BYTES, other as u64, &[]))?)?;
-        }
-        Ok(Disks {
+    pub fn new(alloc: Global) -> Disks {
+        Disks {
             left: BTreeMap::new(alloc),
-            spare,
-        })
+        }
     }
 
-    /// The disks of a run: the first as the row says.
-    fn take(&mut self, alloc: Global, row: &Row, seed: u64) -> Result<Vec<MemDisk>, Error> {
+    /// The disks of a run: the first as the row says, and the others fresh, or as the row before left them.
+    fn take(&self, alloc: Global, row: &Row, seed: u64) -> Result<Vec<MemDisk>, Error> {
         let mut disks = Vec::new(alloc);
         disks.push(self.first(alloc, row, seed)?)?;
-        disks.append(&mut self.spare)?;
+        for place in 1..DISK_COUNT {
+            disks.push(self.other(alloc, row, seed, place)?)?;
+        }
         Ok(disks)
+    }
+
+    fn other(&self, alloc: Global, row: &Row, seed: u64, place: usize) -> Result<MemDisk, Error> {
+        if row.again {
+            let left = self.left_at(seed, place)?;
+            return made(MemDisk::from_bytes(alloc, left.bytes(), place as u64, &[]));
+        }
+        made(MemDisk::new(alloc, OTHER_BYTES, place as u64, &[]))
+    }
+
+    /// What the row before left at that place.
+    fn left_at(&self, seed: u64, place: usize) -> Result<&MemDisk, Error> {
+        let disks = self.left.get(&seed).context("no row left such a disk")?;
+        disks.get(place).context("no row left such a disk")
     }
 
     /// The first disk, with a bit turned at each place that the row names.
@@ -65,7 +75,7 @@ impl Disks {
     /// The bytes of the first disk before any is changed: zeros, or what the row before left.
     fn bytes_before(&self, alloc: Global, row: &Row, seed: u64) -> Result<Vec<u8>, Error> {
         if row.again {
-            let left = self.left.get(&seed).context("no row left such a disk")?;
+            let left = self.left_at(seed, 0)?;
             return Ok(Vec::from_slice(alloc, left.bytes())?);
         }
         Ok(vec![in alloc; 0; row.disk_bytes as usize]?)
@@ -73,26 +83,23 @@ impl Disks {
 
     /// Keeps the disks for the next row.
     fn keep(&mut self, disks: Vec<MemDisk>, seed: u64) -> Result<(), Error> {
-        let mut disks = disks;
-        if !disks.is_empty() {
-            self.left.insert(seed, disks.remove(0))?;
-        }
-        self.spare.append(&mut disks)?;
+        self.left.insert(seed, disks)?;
         Ok(())
     }
 }
 
-/// Runs a row under each of its seeds, and at each of its stops where it has any.
+/// Runs a row under each of its seeds, and with each of its numbers where it has any.
 pub fn judge<R>(rt: &R, row: &Row, disks: &mut Disks) -> Result<(), Error>
 where
     R: AllocGlobal + Print + Threads + Sync,
 {
-    if row.stops.is_empty() {
+    if row.numbers.is_empty() {
         return judge_script(rt, row, disks, row.script.as_str(), "");
     }
-    for call in row.stops.iter() {
-        let script = format!(in rt.alloc(); "{}stop 0 {call}\n", row.script.as_str())?;
-        let place = format!(in rt.alloc(); "stop {call} ")?;
+    let (front, back) = (row.numbered.0.as_str(), row.numbered.1.as_str());
+    for number in row.numbers.iter() {
+        let script = format!(in rt.alloc(); "{}{front}{number}{back}\n", row.script.as_str())?;
+        let place = format!(in rt.alloc(); "number {number} ")?;
         judge_script(rt, row, disks, script.as_str(), place.as_str())?;
     }
     Ok(())

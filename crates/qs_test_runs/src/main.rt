@@ -7,9 +7,10 @@
 //! - `seeds S ..`: the seeds, in place of those that every row has.
 //! - `disk BYTES CALL ..`: the first disk is fresh and has so many bytes; its calls with these numbers fail. Without this line
 //!   it has 65,536 bytes and fails nowhere.
-//! - `again`: the first disk is that which the row before left under the same seed.
+//! - `again`: the disks are those which the row before left under the same seed. Else all but the first are fresh, of 65,536 bytes each.
 //! - `flip AT`: a bit of the byte at that place of the first disk is turned before the run, also of a fresh one.
-//! - `stops FROM TO`: it is run once for each number from one to the other, with a line `stop 0 NUMBER` behind the script.
+//! - `each FROM TO LINE`: it is run once for each number from one to the other, with the line behind the script, in which the
+//!   number takes the place of `%`.
 //! - `source CALL`: that call of the source fails. `sink PIECE CALL`: the sink takes so many bytes a call, and that call fails.
 //! - `|TEXT`: a line of the script or history; `!TEXT`: a part of one, without a line feed; `*COUNT TEXT`: so many equal lines;
 //!   `+COUNT TEXT`: so many equal parts.
@@ -19,7 +20,7 @@
 //! - `~TEXT`: lines of the output end so, in this order; others may stand between them. Of an output that has such lines the
 //!   front alone is compared with the lines before them.
 //!
-//! A row is right where the run comes to one of its ends under each of its seeds, at each of its stops.
+//! A row is right where the run comes to one of its ends under each of its seeds, with each of its numbers.
 #![tactic(auto)]
 
 mod ends;
@@ -92,7 +93,7 @@ where
 fn main(rt: HostRuntime) -> Result<(), Error> {
     let mut rows = Rows {
         row: None,
-        disks: Disks::new(rt.alloc())?,
+        disks: Disks::new(rt.alloc()),
     };
     let read = read_all(&rt, &mut rows);
     drop(rows);

@@ -47,8 +47,10 @@ pub struct Row {
     /// The first disk is that of the row before.
     pub again: bool,
     pub flips: Vec<usize>,
-    /// The disk calls at which it stops, in turn.
-    pub stops: Vec<u64>,
+    /// The numbers with which it is run in turn.
+    pub numbers: Vec<u64>,
+    /// The line behind the script that names the number: what stands before it and behind it.
+    pub numbered: (String, String),
     pub source_fails: Vec<u64>,
     pub sink_piece: usize,
     pub sink_fails: Vec<u64>,
@@ -66,7 +68,8 @@ impl Row {
             disk_fails: Vec::new(alloc),
             again: false,
             flips: Vec::new(alloc),
-            stops: Vec::new(alloc),
+            numbers: Vec::new(alloc),
+            numbered: (String::new(alloc), String::new(alloc)),
             source_fails: Vec::new(alloc),
             sink_piece: SINK_BYTES,
             sink_fails: Vec::new(alloc),
@@ -109,6 +112,21 @@ impl Row {
         Ok(())
     }
 
+    /// Takes in with which numbers it is run, and the line that names them.
+    fn number(&mut self, alloc: Global, rest: &str) -> Result<(), Error> {
+        let (from, rest) = rest.split_once(" ").context("a range has no end")?;
+        let (to, line) = rest.split_once(" ").context("a range has no line")?;
+        let (front, back) = line
+            .split_once("%")
+            .context("a line has no place for the number")?;
+        self.numbers = range_of(alloc, from, to)?;
+        self.numbered = (
+            String::from_str(alloc, front)?,
+            String::from_str(alloc, back)?,
+        );
+        Ok(())
+    }
+
     /// Takes in a line that says over what it is run.
     fn set(&mut self, alloc: Global, line: &str) -> Result<(), Error> {
         if let Some(words) = line.strip_prefix("?") {
@@ -125,8 +143,8 @@ impl Row {
         } else if let Some(place) = line.strip_prefix("flip ") {
             self.flips
                 .push(place.parse::<usize>().context("a place is no number")?)?;
-        } else if let Some(range) = line.strip_prefix("stops ") {
-            self.stops = range_of(alloc, range)?;
+        } else if let Some(rest) = line.strip_prefix("each ") {
+            self.number(alloc, rest)?;
         } else if let Some(calls) = line.strip_prefix("source ") {
             self.source_fails = numbers_of(alloc, calls)?;
         } else if let Some(rest) = line.strip_prefix("sink ") {
@@ -167,8 +185,7 @@ fn numbers_of(alloc: Global, line: &str) -> Result<Vec<u64>, Error> {
     Ok(numbers)
 }
 
-fn range_of(alloc: Global, line: &str) -> Result<Vec<u64>, Error> {
-    let (from, to) = line.split_once(" ").context("a range has no end")?;
+fn range_of(alloc: Global, from: &str, to: &str) -> Result<Vec<u64>, Error> {
     let from = from
         .parse::<u64>()
         .context("a range begins with no number")?;

@@ -1,6 +1,7 @@
 -- What a run is once its output was given: from what it came to over the first disk.
 use Rattle.std.proofs.Common.{◌≡◌, ◌≤◌, ◌⊎◌, inl, inr, ℕ, ◌<◌, Bool, List, [], ◌∷◌, length, Option, Some, None, Ok, refl, sym, ap, subst, ◌∙◌, arith, append-nil}
 use Rattle.std.specs.Io.KnownBytes.{Appends}
+use Rattle.qs_base.specs.Causes.{Rose}
 use Rattle.qs_base.specs.declared.identifiers.NodeNo.{NodeNo}
 use Rattle.qs_disk.specs.Disk.{DiskState}
 use Rattle.qs_io.specs.Streams.{GivesPart}
@@ -21,20 +22,26 @@ use Rattle.qs_top.specs.Disks.{IsDamageOver, IsFaultOver, IsOnlyTouched, OfFirst
 use Rattle.qs_top.specs.Inner.Giving.{IsNoScript, IsGiven, IsGivenOf}
 use Rattle.qs_top.specs.Inner.Over.{IsOver, IsOutput}
 use Rattle.qs_top.specs.Run.{HasLawful, IsNothing, IsNotBegun, IsWhole, IsShort, IsRefused, RanOutOfMemory, machine_over, output_of}
-use Rattle.qs_top.specs.Statuses.{IfNot, IsEnd, IsOfRounds, Tells}
-use Rattle.qs_top.specs.Texts.{ReadWhole, OfScript}
+use Rattle.qs_top.specs.Statuses.{Gives, IfNot, IsEnd, IsOfRounds, IsOfRun, Tells}
+use Rattle.qs_top.specs.Texts.{OfScript, OfScriptOf, ReadWhole}
 use Rattle.qs_top.specs.declared.outcome.Run.{Run}
 use Rattle.qs_top.specs.declared.whole.RunMade.{RunMade}
-use Rattle.qs_top.proofs.StatusLemmas.{end_or, end_logged}
+use Rattle.qs_top.proofs.StatusLemmas.{end_gives, end_logged, end_or, rounds_of_run}
 
 -- ---- the text
 
+pub of_script_of : {l m : Option (List ℕ)} (nodes : ℕ) (script : Script) (P : Script → Type 0) → ReadWhole 1048576 l m (λ text. script_of nodes text ≡ Ok script) → P script → ReadWhole 1048576 l m (OfScriptOf nodes P)
+of_script_of nodes script P read holds = record { text = read.text; consumed = read.consumed; whole = read.whole; holds = record { script = script; read = read.holds; holds = holds } }
+
 pub of_script : {l m : Option (List ℕ)} (script : Script) (P : Script → Type 0) → ReadWhole 1048576 l m (λ text. script_of node_count text ≡ Ok script) → P script → ReadWhole 1048576 l m (OfScript P)
-of_script script P read holds = record { text = read.text; consumed = read.consumed; whole = read.whole; holds = record { script = script; read = read.holds; holds = holds } }
+of_script script P read holds = of_script_of node_count script P read holds
 
 -- a script that was read fits
+pub fit_of : {l m : Option (List ℕ)} (nodes : ℕ) (script : Script) → 1 ≤ nodes → nodes ≤ 16 → ((nodes : ℕ) (text : List ℕ) (read : Script) → ScriptFits nodes text read) → ReadWhole 1048576 l m (λ text. script_of nodes text ≡ Ok script) → Fits nodes script
+fit_of nodes script some few fits read = fits nodes read.text script some few read.holds
+
 pub fit : {l m : Option (List ℕ)} (script : Script) → ((nodes : ℕ) (text : List ℕ) (read : Script) → ScriptFits nodes text read) → ReadWhole 1048576 l m (λ text. script_of node_count text ≡ Ok script) → Fits node_count script
-fit script fits read = fits node_count read.text script (omega arith) (omega arith) read.holds
+fit script fits read = fit_of node_count script (omega arith) (omega arith) fits read
 
 pub map_both : {A B C E : Type 0} → (A → C) → (B → E) → A ⊎ B → C ⊎ E
 map_both f g (inl a) = inl (f a)
@@ -93,7 +100,7 @@ given_status faults given old new (Some bytes) before after (inl g) = inl g.stat
 given_status faults given old new (Some bytes) before after (inr g) = inr (g.status, (bytes, refl))
 
 -- these bytes were to be given, and were, where the status is an end
-given_whole : {K : Type 0} (faults : K → ℕ) (given : K → Option (List ℕ)) (old new : K) (output : Option (List ℕ)) (before after : Status) (bytes : List ℕ) → IsGivenOf faults given old new output before after → output ≡ Some bytes → IsEnd after → (after ≡ before) × Appends (given old) (given new) bytes
+pub given_whole : {K : Type 0} (faults : K → ℕ) (given : K → Option (List ℕ)) (old new : K) (output : Option (List ℕ)) (before after : Status) (bytes : List ℕ) → IsGivenOf faults given old new output before after → output ≡ Some bytes → IsEnd after → (after ≡ before) × Appends (given old) (given new) bytes
 given_whole faults given old new None before after bytes g is e = absurd (cc (is))
 given_whole faults given old new (Some other) before after bytes (inl g) is e = (g.status, subst (λ (o : List ℕ). Appends (given old) (given new) o) (some_is is) g.all)
   where
@@ -101,7 +108,7 @@ given_whole faults given old new (Some other) before after bytes (inl g) is e = 
     some_is same = cc (same)
 given_whole faults given old new (Some other) before after bytes (inr g) is e = absurd (subst IsEnd g.status e)
 
-given_part : {K : Type 0} (faults : K → ℕ) (given : K → Option (List ℕ)) (old new : K) (output : Option (List ℕ)) (before after : Status) (bytes : List ℕ) → IsGivenOf faults given old new output before after → output ≡ Some bytes → IsEnd before → after ≡ statuses.WriteFault → GivesPart (given old) (given new) bytes
+pub given_part : {K : Type 0} (faults : K → ℕ) (given : K → Option (List ℕ)) (old new : K) (output : Option (List ℕ)) (before after : Status) (bytes : List ℕ) → IsGivenOf faults given old new output before after → output ≡ Some bytes → IsEnd before → after ≡ statuses.WriteFault → GivesPart (given old) (given new) bytes
 given_part faults given old new None before after bytes g is e fault = absurd (cc (is))
 given_part faults given old new (Some other) before after bytes (inl g) is e fault = absurd (subst IsEnd (sym g.status ∙ fault) e)
 given_part faults given old new (Some other) before after bytes (inr g) is e fault = subst (λ (o : List ℕ). GivesPart (given old) (given new) o) (some_is is) g.part
@@ -109,19 +116,70 @@ given_part faults given old new (Some other) before after bytes (inr g) is e fau
     some_is : Some other ≡ Some bytes → other ≡ bytes
     some_is same = cc (same)
 
+-- whatever was made, of which nothing is to be given but at an end
+module _ {K : Type 0} (faults : K → ℕ) (given : K → Option (List ℕ)) (before after : K) (made : RunMade) (run : Run) (gave : IsGiven faults given before after made run) where
+  pub status_of_given : (run.status ≡ made.status) ⊎ ((run.status ≡ statuses.WriteFault) × ((bytes : List ℕ) × (made.output ≡ Some bytes)))
+  status_of_given = given_status faults given before after made.output made.status run.status gave.output
+
+  pub ends_given : IfNot (IsEnd made.status) (made.output ≡ None) → (bytes : List ℕ) → made.output ≡ Some bytes → IsEnd made.status
+  ends_given silent bytes is = by (end_or made.status)
+    where
+      by : IsEnd made.status ⊎ (IsEnd made.status → ⊥) → IsEnd made.status
+      by (inl e) = e
+      by (inr n) = absurd (cc (is, silent n))
+
+  -- a status that is no fault of the sink is that of what was made
+  pub status_made : (status : Status) → run.status ≡ status → (statuses.WriteFault ≡ status → ⊥) → made.status ≡ status
+  status_made status is other = by status_of_given
+    where
+      by : (run.status ≡ made.status) ⊎ ((run.status ≡ statuses.WriteFault) × ((bytes : List ℕ) × (made.output ≡ Some bytes))) → made.status ≡ status
+      by (inl same) = sym same ∙ is
+      by (inr cut) = absurd (other (sym cut.0 ∙ is))
+
+  pub empty_given : IfNot (Tells made.status) (IsNothing made.journal made.trace) → IfNot (Tells run.status) (IsNothing run.journal run.trace)
+  empty_given empty untold = by status_of_given
+    where
+      by : (run.status ≡ made.status) ⊎ ((run.status ≡ statuses.WriteFault) × ((bytes : List ℕ) × (made.output ≡ Some bytes))) → IsNothing run.journal run.trace
+      by (inl same) = let none : IsNothing made.journal made.trace = empty (λ tells. untold (subst Tells (sym same) tells)) in record { entries = gave.entries ∙ none.entries; steps = gave.steps ∙ none.steps }
+      by (inr cut) = absurd (untold (subst Tells (sym cut.0) tt))
+
+  -- only where the sink's own count rose is the status a fault of it, behind what is none
+  pub fault_given : IsOfRounds made.status → run.status ≡ statuses.WriteFault → Rose (faults before) (faults after)
+  fault_given built is = by made.output gave.output
+    where
+      never : run.status ≡ made.status → Rose (faults before) (faults after)
+      never same = absurd (subst IsOfRounds (sym same ∙ is) built)
+
+      by : (output : Option (List ℕ)) → IsGivenOf faults given before after output made.status run.status → Rose (faults before) (faults after)
+      by None g = never g.status
+      by (Some bytes) (inl g) = never g.status
+      by (Some bytes) (inr g) = g.rose
+
+  -- and else nothing was given
+  pub silent_given : IfNot (IsEnd made.status) (made.output ≡ None) → IfNot (Gives run.status) (given after ≡ given before)
+  silent_given silent not = by made.output refl gave.output
+    where
+      by : (output : Option (List ℕ)) → made.output ≡ output → IsGivenOf faults given before after output made.status run.status → given after ≡ given before
+      by None is g = g.nothing
+      by (Some bytes) is (inl g) = absurd (not (subst Gives (sym g.status) (end_gives made.status (ends_given silent bytes is))))
+      by (Some bytes) is (inr g) = absurd (not (subst Gives (sym g.status) tt))
+
+  pub built_given : IsOfRounds made.status → IsOfRun run.status
+  built_given built = by status_of_given
+    where
+      by : (run.status ≡ made.status) ⊎ ((run.status ≡ statuses.WriteFault) × ((bytes : List ℕ) × (made.output ≡ Some bytes))) → IsOfRun run.status
+      by (inl same) = subst IsOfRun (sym same) (rounds_of_run made.status built)
+      by (inr cut) = subst IsOfRun (sym cut.0) tt
+
 -- ---- the run
 
 module _ {D K : Type 0} (told : Type 0) (state : D → DiskState) (own size : D → ℕ) (seed : ℕ) (script : Script) (shown : Bool) (faults : K → ℕ) (given : K → Option (List ℕ)) (before after : K) (made : RunMade) (run : Run) (disk end : D) (over : IsOver told state own size seed script shown made disk end) (gave : IsGiven faults given before after made run) (fits : Fits node_count script) where
   status_or : (run.status ≡ made.status) ⊎ ((run.status ≡ statuses.WriteFault) × ((bytes : List ℕ) × (made.output ≡ Some bytes)))
-  status_or = given_status faults given before after made.output made.status run.status gave.output
+  status_or = status_of_given faults given before after made run gave
 
   -- what was to be given is that of an end
   ends : (bytes : List ℕ) → made.output ≡ Some bytes → IsEnd made.status
-  ends bytes is = by (end_or made.status)
-    where
-      by : IsEnd made.status ⊎ (IsEnd made.status → ⊥) → IsEnd made.status
-      by (inl e) = e
-      by (inr n) = absurd (cc (is, over.silent n))
+  ends bytes is = ends_given faults given before after made run gave over.silent bytes is
 
   told_as : (Has : Status → Type 0) (Gave : List ℕ → Type 0) → IsWhole told state own size seed script shown Has Gave made.journal made.trace disk end → IsWhole told state own size seed script shown Has Gave run.journal run.trace disk end
   told_as Has Gave w = subst (λ (entries : List Entry). IsWhole told state own size seed script shown Has Gave entries run.trace disk end) (sym gave.entries) (subst (λ (steps : List Step). IsWhole told state own size seed script shown Has Gave made.journal steps disk end) (sym gave.steps) w)
@@ -167,13 +225,8 @@ module _ {D K : Type 0} (told : Type 0) (state : D → DiskState) (own size : D 
       by (inl same) = absurd (subst IsOfRounds (sym same ∙ fault) over.built)
       by (inr cut) = part_of (over.whole fits (ends cut.1.0 cut.1.1)) (ends cut.1.0 cut.1.1)
 
-  -- a status that is no fault of the sink is that of what was made
   made_status : (status : Status) → run.status ≡ status → (statuses.WriteFault ≡ status → ⊥) → made.status ≡ status
-  made_status status is other = by status_or
-    where
-      by : (run.status ≡ made.status) ⊎ ((run.status ≡ statuses.WriteFault) × ((bytes : List ℕ) × (made.output ≡ Some bytes))) → made.status ≡ status
-      by (inl same) = sym same ∙ is
-      by (inr cut) = absurd (other (sym cut.0 ∙ is))
+  made_status status is other = status_made faults given before after made run gave status is other
 
   pub given_short : (node : NodeNo) → run.status ≡ statuses.DiskFault node → IsNotBegun told state run.journal run.trace disk end ⊎ IsShort told state own size seed script run.journal run.trace disk end
   given_short node is = map_both begun_none told_short (over.short fits node (made_status (statuses.DiskFault node) is (λ same. absurd (cc (same)))))
@@ -201,11 +254,7 @@ module _ {D K : Type 0} (told : Type 0) (state : D → DiskState) (own size : D 
   given_script line fault is = subst IsOfRounds (made_status (statuses.Script line fault) is (λ same. absurd (cc (same)))) over.built
 
   pub given_empty : IfNot (Tells run.status) (IsNothing run.journal run.trace)
-  given_empty untold = by status_or
-    where
-      by : (run.status ≡ made.status) ⊎ ((run.status ≡ statuses.WriteFault) × ((bytes : List ℕ) × (made.output ≡ Some bytes))) → IsNothing run.journal run.trace
-      by (inl same) = let none : IsNothing made.journal made.trace = over.empty (λ tells. untold (subst Tells (sym same) tells)) in record { entries = gave.entries ∙ none.entries; steps = gave.steps ∙ none.steps }
-      by (inr cut) = absurd (untold (subst Tells (sym cut.0) tt))
+  given_empty untold = empty_given faults given before after made run gave over.empty untold
 
   pub given_leaves : Leaves told state run.status disk end
   given_leaves = by status_or

@@ -17,3 +17,21 @@ mod Unopened
 -- The lines of a history that was read are few enough to be numbered.
 mod VerdictLemmas
 pub mod Courses
+-- The first disk as one of the disks of a run.
+mod Firsts
+-- What all nodes of a run tell.
+mod NodesTold
+-- What the machine opens with.
+mod NodesMachine
+-- Which end a run of many nodes came to.
+mod NodesCame
+-- What it is once its output was given.
+mod NodesGiven
+-- What it leaves.
+mod NodesLeft
+-- Its journal, and the disks that are named.
+mod NodesLawful
+-- It, by the disks of which it is and the text that was read.
+mod NodesThese
+-- How many nodes are asked for.
+mod Forms

@@ -96,7 +96,7 @@ module _ {D : Type 0} (told : Type 0) (state : D → DiskState) (own size : D �
     conforms = subst (Conforms script (machine_over last.node.opened)) (sym entries) conforms;
   }
 
-  told_lawful : IsPassed script last.node.opened (journal_of last.node) (trace_of last.node) made → HasLawfulOver told state script made.journal disk
+  told_lawful : IsPassed script (machine_over last.node.opened) (journal_of last.node) (trace_of last.node) made → HasLawfulOver told state script made.journal disk
   told_lawful passed = record {
     opened = last.node.opened;
     lawful = subst (IsLawful (machine_over last.node.opened)) (sym passed.entries) passed.conforms.lawful;
@@ -104,7 +104,7 @@ module _ {D : Type 0} (told : Type 0) (state : D → DiskState) (own size : D �
   }
 
   -- the judge refused what the node made, or memory was refused
-  over_failed : EndHolds → (((ending : Ending) × HasRun told state own size seed script disk last.node ending) ⊎ HasRunShort told state own size seed script disk last.node) → IsFailed script last.node.opened (journal_of last.node) made
+  over_failed : EndHolds → (((ending : Ending) × HasRun told state own size seed script disk last.node ending) ⊎ HasRunShort told state own size seed script disk last.node) → IsFailed script (machine_over last.node.opened) (journal_of last.node) made
       → IsOver told state own size seed script shown made disk after
   over_failed holds ran f = record {
     lawful = nothing_lawful told state script disk last.node.opened made.journal f.nothing.nothing.entries;
@@ -130,7 +130,7 @@ module _ {D : Type 0} (told : Type 0) (state : D → DiskState) (own size : D �
     built = refusal_built made.status f.refusal;
   }
 
-  over_passed : EndHolds → (ending : Ending) → IsEnding told state own size script seed first last ending → IsPassedEnd script shown ending last.node.opened (journal_of last.node) (trace_of last.node) made
+  over_passed : EndHolds → (ending : Ending) → IsEnding told state own size script seed first last ending → IsPassedEnd script shown ending (machine_over last.node.opened) (journal_of last.node) (trace_of last.node) made
       → IsOver told state own size seed script shown made disk after
   over_passed holds ending ends j = record {
     lawful = told_lawful j.passed;
@@ -160,12 +160,12 @@ module _ {D : Type 0} (told : Type 0) (state : D → DiskState) (own size : D �
       end : IsEnd made.status
       end = subst IsEnd (sym j.status) (status_ends ending.rounds ending.settled (waiting_of script (journal_of last.node)))
 
-  pub over_end : EndHolds → (ending : Ending) → IsEnding told state own size script seed first last ending → IsJudgedEnd script shown ending last.node.opened (journal_of last.node) (trace_of last.node) made
+  pub over_end : EndHolds → (ending : Ending) → IsEnding told state own size script seed first last ending → IsJudgedEnd script shown ending (machine_over last.node.opened) (journal_of last.node) (trace_of last.node) made
       → IsOver told state own size seed script shown made disk after
   over_end holds ending ends (inl passed) = over_passed holds ending ends passed
   over_end holds ending ends (inr failed) = over_failed holds (inl (ending, record { alloc = alloc; first = first; last = last; begins = begins; ends = ends; node_is = refl })) failed
 
-  over_cut : EndHolds → (node : NodeNo) → node ≡ first_node → Rose (own disk) (own after) → IsCutShort told state own size seed first last → IsPassedShort script node last.node.opened (journal_of last.node) (trace_of last.node) made
+  over_cut : EndHolds → (node : NodeNo) → node ≡ first_node → Rose (own disk) (own after) → IsCutShort told state own size seed first last → IsPassedShort script node (machine_over last.node.opened) (journal_of last.node) (trace_of last.node) made
       → IsOver told state own size seed script shown made disk after
   over_cut holds node is rose cut j = record {
     lawful = told_lawful j.passed;
@@ -189,7 +189,7 @@ module _ {D : Type 0} (told : Type 0) (state : D → DiskState) (own size : D �
     built = subst IsOfRounds (sym j.status) tt;
   }
 
-  pub over_short : EndHolds → (node : NodeNo) → node ≡ first_node → Rose (own disk) (own after) → IsCutShort told state own size seed first last → IsJudgedShort script node last.node.opened (journal_of last.node) (trace_of last.node) made
+  pub over_short : EndHolds → (node : NodeNo) → node ≡ first_node → Rose (own disk) (own after) → IsCutShort told state own size seed first last → IsJudgedShort script node (machine_over last.node.opened) (journal_of last.node) (trace_of last.node) made
       → IsOver told state own size seed script shown made disk after
   over_short holds node is rose cut (inl passed) = over_cut holds node is rose cut passed
   over_short holds node is rose cut (inr failed) = over_failed holds (inr (record { alloc = alloc; first = first; last = last; begins = begins; ends = cut; node_is = refl })) failed

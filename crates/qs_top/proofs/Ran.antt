@@ -127,14 +127,14 @@ module _ {D : Type 0} (told : Type 0) (state : D → DiskState) (own size : D �
       → (told → ending ≡ Err faults.Damaged → most_rounds < visits_of first + most_budget script)
       → ((n : NodeNo) → ending ≡ Err (faults.DiskFault n) → n ≡ first.node.links.me) → IfOk opened (λ found. found ≡ node.opened) → IsMadeOf script shown ending opened journal trace made → IsOver told state own size seed script shown made disk after
   over_ran (Ok ending) (Ok opened) ends cut out late named is j = over_end told state own size seed script shown alloc disk after first last begins room start logged left_by made (at_end ending ends) ending ends
-      (subst (λ (steps : List Step). IsJudgedEnd script shown ending last.node.opened (journal_of last.node) steps made) trace_is
-      (subst (λ (entries : List Entry). IsJudgedEnd script shown ending last.node.opened entries trace made) journal_is
-      (subst (λ (found : Opened). IsJudgedEnd script shown ending found journal trace made) (is ∙ ap (λ (cell : CellValue D). cell.opened) left.node_is) j)))
+      (subst (λ (steps : List Step). IsJudgedEnd script shown ending (machine_over last.node.opened) (journal_of last.node) steps made) trace_is
+      (subst (λ (entries : List Entry). IsJudgedEnd script shown ending (machine_over last.node.opened) entries trace made) journal_is
+      (subst (λ (found : Opened). IsJudgedEnd script shown ending (machine_over found) journal trace made) (is ∙ ap (λ (cell : CellValue D). cell.opened) left.node_is) j)))
   over_ran (Err (faults.DiskFault n)) (Ok opened) ends cut out late named is j = over_short told state own size seed script shown alloc disk after first last begins room start logged left_by made (at_cut (cut n refl)) n (named n refl ∙ begins.links.me)
       (subst (λ (d : D). Rose (own disk) (own d)) (sym after_is) (subst (λ (before : ℕ). Rose before (own (disk_of last.node.seat.node).disk)) begins.faults (cut n refl).rose)) (cut n refl)
-      (subst (λ (steps : List Step). IsJudgedShort script n last.node.opened (journal_of last.node) steps made) trace_is
-      (subst (λ (entries : List Entry). IsJudgedShort script n last.node.opened entries trace made) journal_is
-      (subst (λ (found : Opened). IsJudgedShort script n found journal trace made) (is ∙ ap (λ (cell : CellValue D). cell.opened) left.node_is) j)))
+      (subst (λ (steps : List Step). IsJudgedShort script n (machine_over last.node.opened) (journal_of last.node) steps made) trace_is
+      (subst (λ (entries : List Entry). IsJudgedShort script n (machine_over last.node.opened) entries trace made) journal_is
+      (subst (λ (found : Opened). IsJudgedShort script n (machine_over found) journal trace made) (is ∙ ap (λ (cell : CellValue D). cell.opened) left.node_is) j)))
   over_ran (Err faults.Damaged) (Ok opened) ends cut out late named is j = damaged_so j.nothing j.status (λ yes. late yes refl)
   over_ran (Err faults.NoMemory) (Ok opened) ends cut out late named is j = refused_so j.nothing j.status (ran_out (out refl)) (at_refusal (out refl))
   over_ran (Ok ending) (Err fault) ends cut out late named is j = refused_so j.nothing j.status (ran_all ending ends) (at_end_so ending ends)

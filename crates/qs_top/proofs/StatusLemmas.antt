@@ -10,7 +10,7 @@ use Rattle.qs_book_script.specs.declared.status.Waiting.{Waiting}
 use Rattle.qs_top.specs.Ends.{status_of}
 use Rattle.qs_top.specs.Verdicts.{IsRefusal}
 use Rattle.qs_top.specs.Disks.{IsLogged, IsUntold, Leaves}
-use Rattle.qs_top.specs.Statuses.{IsEnd, IsOfRounds, Tells}
+use Rattle.qs_top.specs.Statuses.{Gives, IsEnd, IsOfRounds, IsOfRun, Tells}
 
 -- a run came to its end or it did not
 pub end_or : (status : Status) → IsEnd status ⊎ (IsEnd status → ⊥)
@@ -143,3 +143,34 @@ fault_node _ = first_node
 
 pub same_node : {m n : NodeNo} → statuses.DiskFault m ≡ statuses.DiskFault n → m ≡ n
 same_node is = ap fault_node is
+
+-- something is given at an end, and what comes of the rounds is what a run comes to
+pub end_gives : (status : Status) → IsEnd status → Gives status
+end_gives statuses.Finished e = tt
+end_gives (statuses.Unfinished rounds waiting) e = tt
+end_gives statuses.Usage e = absurd e
+end_gives (statuses.Script line fault) e = absurd e
+end_gives statuses.ReadFault e = absurd e
+end_gives statuses.WriteFault e = absurd e
+end_gives (statuses.DiskFault node) e = absurd e
+end_gives (statuses.Damaged node at) e = absurd e
+end_gives statuses.NoMemory e = absurd e
+end_gives (statuses.NoRoom node need room) e = absurd e
+end_gives (statuses.Unlawful line clause) e = absurd e
+end_gives (statuses.Journal line) e = absurd e
+end_gives (statuses.LastGeneration node) e = absurd e
+
+pub rounds_of_run : (status : Status) → IsOfRounds status → IsOfRun status
+rounds_of_run statuses.Finished r = tt
+rounds_of_run (statuses.Unfinished rounds waiting) r = tt
+rounds_of_run statuses.Usage r = absurd r
+rounds_of_run (statuses.Script line fault) r = absurd r
+rounds_of_run statuses.ReadFault r = absurd r
+rounds_of_run statuses.WriteFault r = absurd r
+rounds_of_run (statuses.DiskFault node) r = tt
+rounds_of_run (statuses.Damaged node at) r = tt
+rounds_of_run statuses.NoMemory r = tt
+rounds_of_run (statuses.NoRoom node need room) r = absurd r
+rounds_of_run (statuses.Unlawful line clause) r = tt
+rounds_of_run (statuses.Journal line) r = absurd r
+rounds_of_run (statuses.LastGeneration node) r = absurd r

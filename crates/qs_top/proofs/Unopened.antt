@@ -119,7 +119,7 @@ module _ {D : Type 0} (told : Type 0) (state : D → DiskState) (own size : D �
   touched_spacious image touched bytes = λ yes coherent roomy. subst (λ (n : ℕ). IsRoomyDisk n (state after)) (sym bytes) (touched_roomy (size disk) (state disk) (state after) (image yes) (touched yes) roomy)
 
   -- the log was not opened
-  pub over_closed : Later → (told → IsImage (state disk).now (state disk).content) → (why : OpenFault) → made.status ≡ not_opened why → IsOnlyTouched told state disk after → (told → (at : ℕ) → why ≡ faults.Damaged at → IsDamaged (2 ^ 61) (state disk).content at) → (why ≡ faults.DiskFailed → Rose (own disk) (own after)) → (told → why ≡ faults.DiskFailed → MayLeaveUnraised (state disk) (state after)) → size after ≡ size disk
+  pub over_closed : Later → (told → IsImage (state disk).now (state disk).content) → (why : OpenFault) → made.status ≡ not_opened first_node why → IsOnlyTouched told state disk after → (told → (at : ℕ) → why ≡ faults.Damaged at → IsDamaged (2 ^ 61) (state disk).content at) → (why ≡ faults.DiskFailed → Rose (own disk) (own after)) → (told → why ≡ faults.DiskFailed → MayLeaveUnraised (state disk) (state after)) → size after ≡ size disk
       → IsOver told state own size seed script shown made disk after
   over_closed stay image faults.NoMemory is touched damaged failed kept bytes = over_refused (λ fits. inl touched) (λ fits. inl touched) (λ fits yes. touched_coherent stay (state disk) (state after) (image yes) (touched yes)) (λ fits. touched_spacious image touched bytes) is
   over_closed stay image faults.DiskFailed is touched damaged failed kept bytes = over_unopened (subst IsUnopened (sym is) tt) (λ fits. inl touched) (λ fits. leaves_as (statuses.DiskFault first_node) is (inl touched))

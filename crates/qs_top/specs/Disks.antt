@@ -1,5 +1,5 @@
 -- The disks of a run: what the log of the node's disk held, what a fault or a damage shows, and what is left on the disk.
-use Rattle.std.specs.Prelude.{◌≡◌, ◌⊎◌, ◌^◌, ⊤, ℕ, ◌+◌, Bool, List, [], ◌∷◌}
+use Rattle.std.specs.Prelude.{◌≡◌, ◌⊎◌, ◌≤◌, ◌<◌, ◌^◌, ℕ, ◌+◌, Bool, List, [], ◌∷◌, ◌++◌, length, Some, slice_get}
 use Rattle.qs_base.specs.Causes.{Rose}
 use Rattle.qs_base.specs.declared.identifiers.NodeNo.{NodeNo}
 use Rattle.qs_disk.specs.Disk.{DiskState, EachImage, Frame}
@@ -33,13 +33,17 @@ pub record OfFirst {D : Type 0} (P : D → D → Type 0) (old new : List D) : Ty
   pub new_is : new ≡ after ∷ rest
   pub holds : P first after
 
--- this is what the log of the content held, with the incarnation that it is raised to
-pub record IsHeldIn (script : Script) (content : List ℕ) (opened : Opened) : Type 0 where
+-- this is what the log of the content held, with the incarnation that it is raised to, for that node of a run of so many
+pub record IsHeldBy (script : Script) (nodes : ℕ) (node : NodeNo) (content : List ℕ) (opened : Opened) : Type 0 where
   pub present : Present
   pub records : List Record
   pub used : ℕ
   pub log : IsLog present records used content
-  pub opened_is : opened ≡ opened_with (setting_of script node_count first_node (present.value.inc + 1)) (recovered_of records)
+  pub opened_is : opened ≡ opened_with (setting_of script nodes node (present.value.inc + 1)) (recovered_of records)
+
+-- for the only node
+abbrev pub IsHeldIn : Script → List ℕ → Opened → Type 0
+IsHeldIn script content opened = IsHeldBy script node_count first_node content opened
 
 -- the node is the first, and the count of faults of its disk rose
 pub record IsFaultOver {D : Type 0} (faults : D → ℕ) (node : NodeNo) (disk after : D) : Type 0 where
@@ -104,6 +108,29 @@ StaysCoherent told state disk after = told → IsCoherentDisk (state disk) → I
 abbrev pub StaysRoomy : {D : Type 0} → Type 0 → (D → DiskState) → (D → ℕ) → D → D → Type 0
 StaysRoomy told state size disk after = told → IsCoherentDisk (state disk) → IsRoomyDisk (size disk) (state disk) → IsRoomyDisk (size after) (state after)
 
--- the disks are as they were, but for the first of them at most
-abbrev pub AreBesides : {D : Type 0} → List D → List D → Type 0
-AreBesides old new = (new ≡ old) ⊎ OfFirst (λ disk after. ⊤) old new
+-- ---- the disks of a run of so many nodes, the first ones
+
+-- P of the disk of that node, before and after
+pub record AtNode {D : Type 0} (nodes : ℕ) (node : NodeNo) (P : D → D → Type 0) (old new : List D) : Type 0 where
+  pub in_run : node.0 < nodes
+  pub disk : D
+  pub after : D
+  pub old_is : slice_get old node.0 ≡ Some disk
+  pub new_is : slice_get new node.0 ≡ Some after
+  pub holds : P disk after
+
+-- all others are as they were
+pub record AreOthers {D : Type 0} (nodes : ℕ) (old new : List D) : Type 0 where
+  pub count : length new ≡ length old
+  pub each : (n : ℕ) → nodes ≤ n → slice_get new n ≡ slice_get old n
+
+-- P of them, before and after; all others are as they were
+pub record OfThese {D : Type 0} (nodes : ℕ) (P : List D → List D → Type 0) (old new : List D) : Type 0 where
+  pub disks : List D
+  pub afters : List D
+  pub rest : List D
+  pub old_is : old ≡ disks ++ rest
+  pub new_is : new ≡ afters ++ rest
+  pub count : length disks ≡ nodes
+  pub count_after : length afters ≡ nodes
+  pub holds : P disks afters

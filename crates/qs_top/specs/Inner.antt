@@ -6,3 +6,7 @@ pub mod Giving
 pub mod Making
 -- What a run over one disk comes to.
 pub mod Over
+-- What a run over the disks of many nodes comes to.
+pub mod OverNodes
+-- The ends of such a run.
+pub mod CameTo

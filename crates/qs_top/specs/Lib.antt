@@ -6,6 +6,8 @@ pub mod Disks
 pub mod Inner
 -- What the top call promises of a run.
 pub mod Run
+-- What it promises of a run of many nodes.
+pub mod Nodes
 -- Statuses by how far a run came.
 pub mod Statuses
 -- The text that was read.

@@ -106,8 +106,11 @@ pub record IsNothing (journal : List Entry) (trace : List Step) : Type 0 where
 
 -- ---- how a run ended
 
+abbrev pub output_from : Script → List Entry → Bool → BookValue → List ℕ
+output_from script journal shown book = out_of script journal (book_after book journal) shown
+
 abbrev pub output_of : Script → List Entry → Bool → Opened → List ℕ
-output_of script journal shown opened = out_of script journal (book_after (machine_over opened) journal) shown
+output_of script journal shown opened = output_from script journal shown (machine_over opened)
 
 -- with all its rounds, so that it has this status, and of its output that much was given
 pub record IsWhole {D : Type 0} (told : Type 0) (state : D → DiskState) (own size : D → ℕ) (seed : ℕ) (script : Script) (shown : Bool) (Has : Status → Type 0) (Gave : List ℕ → Type 0) (journal : List Entry) (trace : List Step) (disk after : D) : Type 0 where

@@ -13,8 +13,12 @@ pub record ReadWhole (limit : ℕ) (old new : Option (List ℕ)) (P : List ℕ �
   pub whole : IsWholeOrLonger new text limit
   pub holds : P text
 
--- the text is a script that has P
-pub record OfScript (P : Script → Type 0) (text : List ℕ) : Type 0 where
+-- the text is a script of a run of so many nodes that has P
+pub record OfScriptOf (nodes : ℕ) (P : Script → Type 0) (text : List ℕ) : Type 0 where
   pub script : Script
-  pub read : script_of node_count text ≡ Ok script
+  pub read : script_of nodes text ≡ Ok script
   pub holds : P script
+
+-- of a run of one node
+abbrev pub OfScript : (Script → Type 0) → List ℕ → Type 0
+OfScript P text = OfScriptOf node_count P text

@@ -1,7 +1,7 @@
 //! What the words ask for.
 ghost use Rattle.std.specs.Prelude.{◌≡◌};
 ghost use Rattle.qs_text_script.specs.Words.{form_of};
-ghost use Rattle.qs_top.specs.Asking.{asked_in, asked_by};
+ghost use Rattle.qs_top.specs.Asking.{asked_in, asked_by, serial_run};
 
 use qs_text::{Form, read_words};
 use qs_world_rounds::NODE_COUNT;
@@ -11,6 +11,8 @@ use qs_world_rounds::NODE_COUNT;
 pub enum Asked {
     /// A run of one node in one thread.
     Serial { seed: u64, journal: bool },
+    /// A run of more than one node, and of at most eight, in one thread.
+    SerialNodes { nodes: u8, seed: u64, journal: bool },
     /// A history is to be judged.
     Check,
 }
@@ -25,17 +27,31 @@ pub fn asked_by(words: &[String]) -> Option<Asked>
     }
 }
 
-/// What a form asks for: of runs that of one node with a seed.
+/// What a form asks for: of runs those with a seed.
 fn asked_in(form: Form) -> Option<Asked>
     ensures { result ≡ asked_in form }
 {
     match form {
         Form::Run {
-            nodes: NODE_COUNT,
+            nodes,
             serial: Some(seed),
             journal,
-        } => Some(Asked::Serial { seed, journal }),
+        } => serial_run(nodes, seed, journal),
         Form::Run { .. } => None,
         Form::Check => Some(Asked::Check),
+    }
+}
+
+fn serial_run(nodes: u8, seed: u64, journal: bool) -> Option<Asked>
+    ensures { result ≡ serial_run nodes seed journal }
+{
+    match nodes {
+        NODE_COUNT => Some(Asked::Serial { seed, journal }),
+        2..=8 => Some(Asked::SerialNodes {
+            nodes,
+            seed,
+            journal,
+        }),
+        _ => None,
     }
 }

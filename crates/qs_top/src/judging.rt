@@ -1,5 +1,5 @@
 //! A run judges its own journal.
-ghost use Rattle.std.specs.Prelude.{◌≡◌, ℕ, [], ◌∷◌, Err, IfOk, IfErr};
+ghost use Rattle.std.specs.Prelude.{◌≡◌, ℕ, Err, IfOk, IfErr};
 ghost use Rattle.qs_book_conformance.specs.Conforming.{Conforms};
 ghost use Rattle.qs_book_machine.specs.Lawful.{book_after};
 ghost use Rattle.qs_book_machine.specs.Opening.{opening};
@@ -16,23 +16,23 @@ use std::alloc::Global;
 /// The clause that stands for the rules of the script, which have no numbers.
 const RULE_OF_SCRIPT: u16 = 0;
 
-/// What the reference machine and the script say after the journal, from what the log held as the node was started; else the
+/// What the reference machine and the script say after the journal, from what the logs held as the nodes were started; else the
 /// status of a run whose journal they refuse.
 #[tactic(auto, using(crate::proofs::Courses::book_of_course))]
 pub fn judged(
     alloc: Global,
     script: &Script,
-    opened: Opened,
+    opened: &[Opened],
     journal: &[Entry],
 ) -> Result<Checker, Status>
-    ensures conforms { IfOk result (λ checker. Conforms script.now (opening (opened ∷ [])) journal.now) }
-    ensures course { IfOk result (λ checker. checker ≡ course_of script.now (opening (opened ∷ [])) journal.now) }
-    ensures book { IfOk result (λ checker. checker.book ≡ book_after (opening (opened ∷ [])) journal.now) }
-    ensures refused { (line clause : ℕ) → result ≡ Err (Status.Unlawful line clause) → IsRefusedAt script.now (opening (opened ∷ [])) journal.now line clause }
+    ensures conforms { IfOk result (λ checker. Conforms script.now (opening opened.now) journal.now) }
+    ensures course { IfOk result (λ checker. checker ≡ course_of script.now (opening opened.now) journal.now) }
+    ensures book { IfOk result (λ checker. checker.book ≡ book_after (opening opened.now) journal.now) }
+    ensures refused { (line clause : ℕ) → result ≡ Err (Status.Unlawful line clause) → IsRefusedAt script.now (opening opened.now) journal.now line clause }
     ensures status { IfErr result (λ status. IsRefusal status) }
 {
     no_misfit_means_conforming();
-    let mut checker = match Checker::new(alloc, script, &[opened]) {
+    let mut checker = match Checker::new(alloc, script, opened) {
         Ok(checker) => checker,
         Err(NoMemory) => return Err(Status::NoMemory),
     };

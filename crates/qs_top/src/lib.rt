@@ -4,6 +4,7 @@
 mod asking;
 mod checking;
 mod judging;
+mod nodes;
 mod outcome;
 mod running;
 mod telling;

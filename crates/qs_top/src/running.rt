@@ -1,8 +1,9 @@
 //! The top call.
-ghost use Rattle.std.specs.Prelude.{◌≡◌, ◌≢◌, ◌↔◌, ◌≤◌, ◌⊎◌, ⊤, ℕ, Bool, List, [], Ok, Err, None, Some, length, IfOk, IfErr};
+ghost use Rattle.std.specs.Prelude.{◌≡◌, ◌≢◌, ◌↔◌, ◌≤◌, ◌⊎◌, ◌^◌, ⊤, ℕ, Bool, List, [], Ok, Err, None, Some, length, IfOk, IfErr};
 ghost use Rattle.std.specs.Io.KnownBytes.{Appends};
 ghost use Rattle.qs_base.specs.Causes.{Rose};
 ghost use Rattle.qs_base.specs.declared.identifiers.NodeNo.{NodeNo};
+ghost use Rattle.qs_log.specs.Image.{IsDamaged};
 ghost use Rattle.qs_io.specs.Streams.{TakesAtMost, GivesPart};
 ghost use Rattle.qs_text_history.specs.Journal.{IsFault};
 ghost use Rattle.qs_world_rounds.specs.Seats.{node_count};
@@ -10,17 +11,19 @@ ghost use Rattle.qs_text_script.specs.Script.{script_of};
 ghost use Rattle.qs_text_script.specs.Words.{form_of};
 ghost use Rattle.qs_text_script.specs.declared.reading.ScriptFailed.TheVariants.{Fault};
 ghost use Rattle.qs_book_script.specs.declared.status.ScriptFault.{ScriptFault};
-ghost use Rattle.qs_top.specs.Asking.{asked_by};
-ghost use Rattle.qs_top.specs.Disks.{OfFirst, IsFaultOver, IsDamageOver, IsOnlyTouched, Leaves, StaysCoherent, StaysRoomy, AreBesides};
+ghost use Rattle.qs_top.specs.Asking.{asked_by, nodes_of, IsOfMany};
+ghost use Rattle.qs_top.specs.Disks.{OfFirst, OfThese, AtNode, IsOnlyTouched, Leaves, StaysCoherent, StaysRoomy, AreOthers};
 ghost use Rattle.qs_top.specs.Inner.Giving.{IsGiven, IsGivenOf, IsNoScript};
 ghost use Rattle.qs_top.specs.Inner.Over.{IsOver};
-ghost use Rattle.qs_top.specs.Run.{HasLawful, IsNothing, IsNotBegun, IsWhole, IsShort, IsRefused, RanOutOfMemory};
+ghost use Rattle.qs_top.specs.Nodes.{HasLawfulOf, IsNotBegunOf, IsRefusedOf, IsShortOf, IsWholeOf, LeaveAll};
+ghost use Rattle.qs_top.specs.Run.{IsNothing, IsNotBegun, IsWhole, IsShort, IsRefused, RanOutOfMemory};
 ghost use Rattle.qs_top.specs.Statuses.{IfNot, IsEnd, IsPastScript, IsOfRun, Gives, Tells};
-ghost use Rattle.qs_top.specs.Texts.{ReadWhole, OfScript};
+ghost use Rattle.qs_top.specs.Texts.{ReadWhole, OfScript, OfScriptOf};
 ghost use Rattle.qs_top.specs.Verdict.{IsUnlawfulText, IsVerdict, IsOfCheck};
 
 use crate::asking::{Asked, asked_by};
 use crate::checking::check_source;
+use crate::nodes::run_over_nodes;
 use crate::outcome::Run;
 use crate::whole::{RunMade, run_over};
 use core::mem;
@@ -28,6 +31,8 @@ use qs_base::{Bytes, List};
 use qs_disk::Disk;
 use qs_io::{ReadFault, Sink, Source, give_all, read_text};
 use qs_text::{Script, ScriptFailed, Status, read_script};
+use qs_world_left::{disks_are_read, runs_follow_runs, runs_leave_standing_disks};
+use qs_world_nodes::{nodes_have_openings, rounds_are_lawful, rounds_are_runs_of_the_world};
 use qs_world_opening::scripts_fit;
 use qs_world_rounds::NODE_COUNT;
 use std::alloc::Global;
@@ -48,11 +53,11 @@ fn ended(alloc: Global, status: Status) -> Run
     }
 }
 
-/// The script that the source holds; else the status of a run without one.
-fn script_from<S: Source>(alloc: Global, source: &mut S) -> Result<Script, Status>
-    ensures read { IfOk result (λ script. ReadWhole 1048576 (S.left source.old) (S.left source.new) (λ text. script_of node_count text ≡ Ok script)) }
+/// The script of a run of so many nodes that the source holds; else the status of a run without one.
+fn script_from<S: Source>(alloc: Global, source: &mut S, nodes: u8) -> Result<Script, Status>
+    ensures read { IfOk result (λ script. ReadWhole 1048576 (S.left source.old) (S.left source.new) (λ text. script_of nodes text ≡ Ok script)) }
     ensures fault { (line : ℕ) (fault : ScriptFault) → result ≡ Err (Status.Script line fault)
-        → ReadWhole 1048576 (S.left source.old) (S.left source.new) (λ text. script_of node_count text ≡ Err (Fault line fault)) }
+        → ReadWhole 1048576 (S.left source.old) (S.left source.new) (λ text. script_of nodes text ≡ Err (Fault line fault)) }
     ensures rose { result ≡ Err Status.ReadFault → Rose (S.faults source.old) (S.faults source.new) }
     ensures none { IfErr result IsNoScript }
     ensures bound { TakesAtMost 1048577 (S.left source.old) (S.left source.new) }
@@ -62,7 +67,7 @@ fn script_from<S: Source>(alloc: Global, source: &mut S) -> Result<Script, Statu
         Err(ReadFault::Failed) => return Err(Status::ReadFault),
         Err(ReadFault::NoMemory) => return Err(Status::NoMemory),
     };
-    match read_script(alloc, text.as_slice(), NODE_COUNT) {
+    match read_script(alloc, text.as_slice(), nodes) {
         Ok(script) => Ok(script),
         Err(ScriptFailed::Fault { line, fault }) => Err(Status::Script { line, fault }),
         Err(ScriptFailed::NoMemory) => Err(Status::NoMemory),
@@ -144,14 +149,14 @@ fn run_source<S: Source, K: Sink, D: Disk>(
     disks: &mut Vec<D>,
 ) -> Run
     requires disks { 8 ≤ length disks.old.items }
-    ensures lawful { HasLawful D.told D.state result.journal disks.old.items disks.new.items }
+    ensures lawful { HasLawfulOf D.told D.state 1 result.journal disks.old.items disks.new.items }
     ensures ran { result.status ≢ Status.Usage }
     ensures read_fault { result.status ≡ Status.ReadFault → Rose (S.faults source.old) (S.faults source.new) }
     ensures write_fault { result.status ≡ Status.WriteFault → Rose (K.faults sink.old) (K.faults sink.new) }
     ensures disk_fault { (node : NodeNo) → result.status ≡ Status.DiskFault node
-        → OfFirst (IsFaultOver D.fault_count node) disks.old.items disks.new.items }
+        → AtNode 1 node (λ disk after. Rose (D.fault_count disk) (D.fault_count after)) disks.old.items disks.new.items }
     ensures damaged { (node : NodeNo) (at : ℕ) → result.status ≡ Status.Damaged node at
-        → OfFirst (IsDamageOver D.told D.state node at) disks.old.items disks.new.items }
+        → AtNode 1 node (λ disk after. D.told → IsDamaged (2 ^ 61) (D.state disk).content at) disks.old.items disks.new.items }
     ensures script { (line : ℕ) (fault : ScriptFault) → result.status ≡ Status.Script line fault
         → ReadWhole 1048576 (S.left source.old) (S.left source.new) (λ text. script_of node_count text ≡ Err (Fault line fault)) }
     ensures past_script { IsPastScript result.status
@@ -179,13 +184,13 @@ fn run_source<S: Source, K: Sink, D: Disk>(
     ensures empty { IfNot (Tells result.status) (IsNothing result.journal result.trace) }
     ensures bound { TakesAtMost 1048577 (S.left source.old) (S.left source.new) }
     ensures built { IsOfRun result.status }
-    ensures others { AreBesides disks.old.items disks.new.items }
+    ensures others { AreOthers 1 disks.old.items disks.new.items }
     ensures left { OfFirst (Leaves D.told D.state result.status) disks.old.items disks.new.items }
     ensures coherent { OfFirst (StaysCoherent D.told D.state) disks.old.items disks.new.items }
     ensures roomy { OfFirst (StaysRoomy D.told D.state D.byte_count) disks.old.items disks.new.items }
 {
     scripts_fit();
-    let script = match script_from(alloc, source) {
+    let script = match script_from(alloc, source, NODE_COUNT) {
         Ok(script) => script,
         Err(status) => return ended(alloc, status),
     };
@@ -193,13 +198,77 @@ fn run_source<S: Source, K: Sink, D: Disk>(
     give(sink, made)
 }
 
-/// What the words ask for. They are those after the program's name: `run 1 --serial SEED`, with `--journal` or without, in any
-/// order behind `run`, or `check`. A form that is not carried out yet is `Usage`.
+/// Reads a script from the source, runs it on so many nodes over the logs of the first disks, and gives the output to the
+/// sink.
+fn run_nodes<S: Source, K: Sink, D: Disk>(
+    alloc: Global,
+    nodes: u8,
+    seed: u64,
+    shown: bool,
+    source: &mut S,
+    sink: &mut K,
+    disks: &mut Vec<D>,
+) -> Run
+    requires some { 1 ≤ nodes }
+    requires few { nodes ≤ 8 }
+    requires disks { 8 ≤ length disks.old.items }
+    ensures lawful { HasLawfulOf D.told D.state nodes result.journal disks.old.items disks.new.items }
+    ensures ran { result.status ≢ Status.Usage }
+    ensures read_fault { result.status ≡ Status.ReadFault → Rose (S.faults source.old) (S.faults source.new) }
+    ensures write_fault { result.status ≡ Status.WriteFault → Rose (K.faults sink.old) (K.faults sink.new) }
+    ensures disk_fault { (node : NodeNo) → result.status ≡ Status.DiskFault node
+        → AtNode nodes node (λ disk after. Rose (D.fault_count disk) (D.fault_count after)) disks.old.items disks.new.items }
+    ensures damaged { (node : NodeNo) (at : ℕ) → result.status ≡ Status.Damaged node at
+        → AtNode nodes node (λ disk after. D.told → IsDamaged (2 ^ 61) (D.state disk).content at) disks.old.items disks.new.items }
+    ensures script { (line : ℕ) (fault : ScriptFault) → result.status ≡ Status.Script line fault
+        → ReadWhole 1048576 (S.left source.old) (S.left source.new) (λ text. script_of nodes text ≡ Err (Fault line fault)) }
+    ensures past_script { IsPastScript result.status
+        → ReadWhole 1048576 (S.left source.old) (S.left source.new) (OfScriptOf nodes (λ script. ⊤)) }
+    ensures ended { IsEnd result.status
+        → ReadWhole 1048576 (S.left source.old) (S.left source.new) (OfScriptOf nodes (λ script. OfThese nodes
+        (IsWholeOf D.told D.state D.fault_count D.byte_count seed nodes script shown (λ status. result.status ≡ status) (Appends (K.given sink.old) (K.given sink.new)) result.journal result.trace)
+        disks.old.items disks.new.items)) }
+    ensures cut_off { result.status ≡ Status.WriteFault
+        → ReadWhole 1048576 (S.left source.old) (S.left source.new) (OfScriptOf nodes (λ script. OfThese nodes
+        (IsWholeOf D.told D.state D.fault_count D.byte_count seed nodes script shown IsEnd (GivesPart (K.given sink.old) (K.given sink.new)) result.journal result.trace)
+        disks.old.items disks.new.items)) }
+    ensures cut_short { (node : NodeNo) → result.status ≡ Status.DiskFault node
+        → ReadWhole 1048576 (S.left source.old) (S.left source.new) (OfScriptOf nodes (λ script. OfThese nodes
+        (λ firsts afters. IsNotBegunOf D.told D.state D.fault_count D.byte_count node result.journal result.trace firsts afters
+        ⊎ IsShortOf D.told D.state D.fault_count D.byte_count seed nodes script node result.journal result.trace firsts afters)
+        disks.old.items disks.new.items)) }
+    ensures refused { (line clause : ℕ) → result.status ≡ Status.Unlawful line clause
+        → ReadWhole 1048576 (S.left source.old) (S.left source.new) (OfScriptOf nodes (λ script. OfThese nodes
+        (IsRefusedOf D.told D.state D.fault_count D.byte_count seed nodes script line clause) disks.old.items disks.new.items)) }
+    ensures silent { IfNot (Gives result.status) (K.given sink.new ≡ K.given sink.old) }
+    ensures empty { IfNot (Tells result.status) (IsNothing result.journal result.trace) }
+    ensures bound { TakesAtMost 1048577 (S.left source.old) (S.left source.new) }
+    ensures built { IsOfRun result.status }
+    ensures others { AreOthers nodes disks.old.items disks.new.items }
+    ensures left { OfThese nodes (LeaveAll D.told D.state nodes result.status) disks.old.items disks.new.items }
+{
+    let script = match script_from(alloc, source, nodes) {
+        Ok(script) => script,
+        Err(status) => return ended(alloc, status),
+    };
+    scripts_fit();
+    nodes_have_openings::<D>();
+    rounds_are_runs_of_the_world::<D>();
+    rounds_are_lawful::<D>();
+    disks_are_read();
+    runs_follow_runs::<D>();
+    runs_leave_standing_disks::<D>();
+    let made = run_over_nodes(alloc, disks, nodes, &script, seed, shown);
+    give(sink, made)
+}
+
+/// What the words ask for. They are those after the program's name: `run N --serial SEED`, N from 1 to 8, with `--journal` or
+/// without, in any order behind `run`, or `check`. A form that is not carried out yet is `Usage`.
 ///
-/// `run` reads a script from the source, opens the log of the first disk and raises its incarnation, and runs the script on one
-/// node over it, in rounds whose orders are drawn from the seed. It judges its own journal, and gives the output to the sink:
-/// whole on `Finished` and `Unfinished`, a front of it on `WriteFault`, and else nothing. At most 1,048,577 bytes are taken of
-/// the source. The other disks are not used. There are at least 8 disks.
+/// `run` reads a script from the source, opens the logs of the first N disks in order and raises their incarnations, and runs
+/// the script on N nodes over them, in rounds whose orders are drawn from the seed. It judges its own journal, and gives the
+/// output to the sink: whole on `Finished` and `Unfinished`, a front of it on `WriteFault`, and else nothing. At most 1,048,577
+/// bytes are taken of the source. The other disks are not used. There are at least 8 disks.
 ///
 /// A script with a fault is told the first one. `ReadFault`, `WriteFault` and `DiskFault` come only where the count of faults of
 /// the source, the sink or the disk rose in this call; `Damaged` only where a slot or a batch of the disk that was handed in is
@@ -221,20 +290,20 @@ pub fn run<R: Threads + Sync, S: Source, K: Sink, D: Disk>(
 ) -> Run
     requires disks { 8 ≤ length disks.old.items }
 
-    // The journal is a lawful run of the machine with one outcome cell for each transaction, from what the log of the first
-    // disk held, whatever the status.
-    ensures lawful { HasLawful D.told D.state result.journal disks.old.items disks.new.items }
+    // The journal is a lawful run of the machine with one outcome cell for each transaction, from what the logs of the first
+    // disks held, one for each node, whatever the status.
+    ensures lawful { HasLawfulOf D.told D.state (nodes_of (asked_by (form_of words.now))) result.journal disks.old.items disks.new.items }
 
     // Each status has its cause.
     ensures usage { (result.status ≡ Status.Usage) ↔ (asked_by (form_of words.now) ≡ None) }
     ensures read_fault { result.status ≡ Status.ReadFault → Rose (S.faults source.old) (S.faults source.new) }
     ensures write_fault { result.status ≡ Status.WriteFault → Rose (K.faults sink.old) (K.faults sink.new) }
     ensures disk_fault { (node : NodeNo) → result.status ≡ Status.DiskFault node
-        → OfFirst (IsFaultOver D.fault_count node) disks.old.items disks.new.items }
+        → AtNode (nodes_of (asked_by (form_of words.now))) node (λ disk after. Rose (D.fault_count disk) (D.fault_count after)) disks.old.items disks.new.items }
     ensures damaged { (node : NodeNo) (at : ℕ) → result.status ≡ Status.Damaged node at
-        → OfFirst (IsDamageOver D.told D.state node at) disks.old.items disks.new.items }
+        → AtNode (nodes_of (asked_by (form_of words.now))) node (λ disk after. D.told → IsDamaged (2 ^ 61) (D.state disk).content at) disks.old.items disks.new.items }
 
-    // Of a run. A script fault is the first of the text, and a disk is opened for a script alone.
+    // Of a run of one node. A script fault is the first of the text, and a disk is opened for a script alone.
     ensures script { (seed : ℕ) (shown : Bool) → asked_by (form_of words.now) ≡ Some (Asked.Serial seed shown)
         → (line : ℕ) (fault : ScriptFault) → result.status ≡ Status.Script line fault
         → ReadWhole 1048576 (S.left source.old) (S.left source.new) (λ text. script_of node_count text ≡ Err (Fault line fault)) }
@@ -287,14 +356,42 @@ pub fn run<R: Threads + Sync, S: Source, K: Sink, D: Disk>(
 
     // The disks, whatever the status: the first is as it was where it was not opened; where its log was not opened it is
     // changed at most by the raise of the incarnation, at each moment; and else each image of it has a log that goes on from what
-    // its log held. After DiskFault and NoMemory it is one of these. The others are as they were.
-    ensures others { AreBesides disks.old.items disks.new.items }
-    ensures left { asked_by (form_of words.now) ≢ Some Asked.Check → OfFirst (Leaves D.told D.state result.status) disks.old.items disks.new.items }
+    // its log held. After DiskFault and NoMemory it is one of these. Disks of no node of the run are as they were.
+    ensures others { AreOthers (nodes_of (asked_by (form_of words.now))) disks.old.items disks.new.items }
+    ensures left { asked_by (form_of words.now) ≢ Some Asked.Check → IfNot (IsOfMany (asked_by (form_of words.now))) (OfFirst (Leaves D.told D.state result.status) disks.old.items disks.new.items) }
 
     // Runs follow one another over a disk, whatever the status: where its log was coherent, it is so again; and where it
     // had room for all that is kept there, it has room again.
-    ensures coherent { OfFirst (StaysCoherent D.told D.state) disks.old.items disks.new.items }
-    ensures roomy { OfFirst (StaysRoomy D.told D.state D.byte_count) disks.old.items disks.new.items }
+    ensures coherent { IfNot (IsOfMany (asked_by (form_of words.now))) (OfFirst (StaysCoherent D.told D.state) disks.old.items disks.new.items) }
+    ensures roomy { IfNot (IsOfMany (asked_by (form_of words.now))) (OfFirst (StaysRoomy D.told D.state D.byte_count) disks.old.items disks.new.items) }
+
+    // Of a run of many nodes, the like: of their scripts, of the rounds that they made over the links between them, of what they
+    // tell, merged by stamp and node, and of what each leaves on its disk.
+    ensures nodes_script { (nodes seed : ℕ) (shown : Bool) → asked_by (form_of words.now) ≡ Some (Asked.SerialNodes nodes seed shown)
+        → (line : ℕ) (fault : ScriptFault) → result.status ≡ Status.Script line fault
+        → ReadWhole 1048576 (S.left source.old) (S.left source.new) (λ text. script_of nodes text ≡ Err (Fault line fault)) }
+    ensures nodes_past_script { (nodes seed : ℕ) (shown : Bool) → asked_by (form_of words.now) ≡ Some (Asked.SerialNodes nodes seed shown) → IsPastScript result.status
+        → ReadWhole 1048576 (S.left source.old) (S.left source.new) (OfScriptOf nodes (λ script. ⊤)) }
+    ensures nodes_ended { (nodes seed : ℕ) (shown : Bool) → asked_by (form_of words.now) ≡ Some (Asked.SerialNodes nodes seed shown) → IsEnd result.status
+        → ReadWhole 1048576 (S.left source.old) (S.left source.new) (OfScriptOf nodes (λ script. OfThese nodes
+        (IsWholeOf D.told D.state D.fault_count D.byte_count seed nodes script shown (λ status. result.status ≡ status) (Appends (K.given sink.old) (K.given sink.new)) result.journal result.trace)
+        disks.old.items disks.new.items)) }
+    ensures nodes_cut_off { (nodes seed : ℕ) (shown : Bool) → asked_by (form_of words.now) ≡ Some (Asked.SerialNodes nodes seed shown) → result.status ≡ Status.WriteFault
+        → ReadWhole 1048576 (S.left source.old) (S.left source.new) (OfScriptOf nodes (λ script. OfThese nodes
+        (IsWholeOf D.told D.state D.fault_count D.byte_count seed nodes script shown IsEnd (GivesPart (K.given sink.old) (K.given sink.new)) result.journal result.trace)
+        disks.old.items disks.new.items)) }
+    ensures nodes_cut_short { (nodes seed : ℕ) (shown : Bool) → asked_by (form_of words.now) ≡ Some (Asked.SerialNodes nodes seed shown)
+        → (node : NodeNo) → result.status ≡ Status.DiskFault node
+        → ReadWhole 1048576 (S.left source.old) (S.left source.new) (OfScriptOf nodes (λ script. OfThese nodes
+        (λ firsts afters. IsNotBegunOf D.told D.state D.fault_count D.byte_count node result.journal result.trace firsts afters
+        ⊎ IsShortOf D.told D.state D.fault_count D.byte_count seed nodes script node result.journal result.trace firsts afters)
+        disks.old.items disks.new.items)) }
+    ensures nodes_refused { (nodes seed : ℕ) (shown : Bool) → asked_by (form_of words.now) ≡ Some (Asked.SerialNodes nodes seed shown)
+        → (line clause : ℕ) → result.status ≡ Status.Unlawful line clause
+        → ReadWhole 1048576 (S.left source.old) (S.left source.new) (OfScriptOf nodes (λ script. OfThese nodes
+        (IsRefusedOf D.told D.state D.fault_count D.byte_count seed nodes script line clause) disks.old.items disks.new.items)) }
+    ensures nodes_left { (nodes seed : ℕ) (shown : Bool) → asked_by (form_of words.now) ≡ Some (Asked.SerialNodes nodes seed shown)
+        → OfThese nodes (LeaveAll D.told D.state nodes result.status) disks.old.items disks.new.items }
 
     // Of a check: the text that was read is a history, and the verdict on it is what was given; no disk is opened.
     ensures unlawful { asked_by (form_of words.now) ≡ Some Asked.Check → (line clause : ℕ) → result.status ≡ Status.Unlawful line clause
@@ -316,6 +413,13 @@ pub fn run<R: Threads + Sync, S: Source, K: Sink, D: Disk>(
         Some(Asked::Serial { seed, journal }) => {
             run_source(alloc, seed, journal, source, sink, disks)
         }
+        Some(
+            Asked::SerialNodes {
+                nodes,
+                seed,
+                journal,
+            },
+        ) => run_nodes(alloc, nodes, seed, journal, source, sink, disks),
         Some(Asked::Check) => ended(alloc, check_source(alloc, source, sink)),
         None => ended(alloc, Status::Usage),
     }

@@ -1,5 +1,5 @@
 //! What is told of a run: how it ended, and its output.
-ghost use Rattle.std.specs.Prelude.{◌≡◌, ℕ, [], ◌∷◌, Err, IfOk, IfErr};
+ghost use Rattle.std.specs.Prelude.{◌≡◌, ℕ, Err, IfOk, IfErr};
 ghost use Rattle.qs_book_conformance.specs.Conforming.{Conforms};
 ghost use Rattle.qs_book_machine.specs.Lawful.{book_after};
 ghost use Rattle.qs_book_machine.specs.Opening.{opening};
@@ -24,14 +24,14 @@ pub fn told(
     script: &Script,
     rounds: u64,
     settled: bool,
-    opened: Opened,
+    opened: &[Opened],
     journal: &List<Entry>,
     shown: bool,
 ) -> Result<(Status, Bytes), Status>
-    ensures conforms { IfOk result (λ told. Conforms script.now (opening (opened ∷ [])) journal.now) }
+    ensures conforms { IfOk result (λ told. Conforms script.now (opening opened.now) journal.now) }
     ensures status { IfOk result (λ told. told.0 ≡ status_of rounds settled (waiting_of script.now journal.now)) }
-    ensures output { IfOk result (λ told. told.1 ≡ out_of script.now journal.now (book_after (opening (opened ∷ [])) journal.now) shown) }
-    ensures refused { (line clause : ℕ) → result ≡ Err (Status.Unlawful line clause) → IsRefusedAt script.now (opening (opened ∷ [])) journal.now line clause }
+    ensures output { IfOk result (λ told. told.1 ≡ out_of script.now journal.now (book_after (opening opened.now) journal.now) shown) }
+    ensures refused { (line clause : ℕ) → result ≡ Err (Status.Unlawful line clause) → IsRefusedAt script.now (opening opened.now) journal.now line clause }
     ensures refusal { IfErr result (λ status. IsRefusal status) }
 {
     let checker = match judged(alloc, script, opened, journal.as_slice()) {

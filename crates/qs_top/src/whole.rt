@@ -1,6 +1,7 @@
 //! A script is run on one node over its disk, its journal is judged, and its output made.
 ghost use Rattle.std.specs.Prelude.{◌≡◌};
-ghost use Rattle.qs_top.specs.Inner.Making.{not_opened, IsJudgedEnd, IsJudgedShort, IsMadeOf, IsNothingMade};
+ghost use Rattle.qs_book_machine.specs.Opening.{opening};
+ghost use Rattle.qs_top.specs.Inner.Making.{not_opened, IsJudgedEnd, IsJudgedShort, IsMadeFrom, IsMadeOf, IsNothingMade};
 ghost use Rattle.qs_top.specs.Inner.Over.{IsOver};
 
 use crate::{judged, told};
@@ -28,7 +29,7 @@ pub struct RunMade {
 }
 
 /// A run that ended before it made an entry.
-fn nothing_made(alloc: Global, status: Status) -> RunMade
+pub(crate) fn nothing_made(alloc: Global, status: Status) -> RunMade
     ensures nothing { IsNothingMade result }
     ensures status { result.status ≡ status }
 {
@@ -59,7 +60,10 @@ pub fn run_over<D: Disk>(
     let mut actors = match start(alloc, script, Fused::new(disk)) {
         Ok(actors) => actors,
         Err(CellOpen { disk, why }) => {
-            return (disk.into_inner(), nothing_made(alloc, not_opened(why)));
+            return (
+                disk.into_inner(),
+                nothing_made(alloc, not_opened(NODE, why)),
+            );
         }
     };
     let ending = rounds_of(alloc, script, seed, &mut actors);
@@ -72,13 +76,13 @@ pub fn run_over<D: Disk>(
     )
 }
 
-/// The status of a run whose node's disk was not opened.
-fn not_opened(why: OpenFault) -> Status
-    ensures { result ≡ not_opened why }
+/// The status of a run whose node's log was not opened.
+pub(crate) fn not_opened(node: NodeNo, why: OpenFault) -> Status
+    ensures { result ≡ not_opened node why }
 {
     match why {
-        OpenFault::DiskFailed => Status::DiskFault { node: NODE },
-        OpenFault::Damaged { at } => Status::Damaged { node: NODE, at },
+        OpenFault::DiskFailed => Status::DiskFault { node },
+        OpenFault::Damaged { at } => Status::Damaged { node, at },
         OpenFault::NoMemory => Status::NoMemory,
     }
 }
@@ -95,9 +99,24 @@ fn made_of(
 ) -> RunMade
     ensures { IsMadeOf script.now shown ending opened journal trace result }
 {
-    let Ok(opened) = opened else {
-        return nothing_made(alloc, Status::NoMemory);
-    };
+    match opened {
+        Ok(opened) => made_from(alloc, script, shown, ending, &[opened], journal, trace),
+        Err(NoMemory) => nothing_made(alloc, Status::NoMemory),
+    }
+}
+
+/// What came of the rounds, where the machine opens with this.
+pub(crate) fn made_from(
+    alloc: Global,
+    script: &Script,
+    shown: bool,
+    ending: Result<Ending, RoundFault>,
+    opened: &[Opened],
+    journal: List<Entry>,
+    trace: List<Step>,
+) -> RunMade
+    ensures { IsMadeFrom script.now shown ending (opening opened.now) journal trace result }
+{
     match ending {
         Ok(ending) => ended(alloc, script, shown, ending, opened, journal, trace),
         Err(RoundFault::DiskFault { node }) => {
@@ -115,11 +134,11 @@ fn ended(
     script: &Script,
     shown: bool,
     ending: Ending,
-    opened: Opened,
+    opened: &[Opened],
     journal: List<Entry>,
     trace: List<Step>,
 ) -> RunMade
-    ensures { IsJudgedEnd script.now shown ending opened journal trace result }
+    ensures { IsJudgedEnd script.now shown ending (opening opened.now) journal trace result }
 {
     let Ending { rounds, settled } = ending;
     match told(alloc, script, rounds, settled, opened, &journal, shown) {
@@ -138,11 +157,11 @@ fn cut_short(
     alloc: Global,
     script: &Script,
     node: NodeNo,
-    opened: Opened,
+    opened: &[Opened],
     journal: List<Entry>,
     trace: List<Step>,
 ) -> RunMade
-    ensures { IsJudgedShort script.now node opened journal trace result }
+    ensures { IsJudgedShort script.now node (opening opened.now) journal trace result }
 {
     match judged(alloc, script, opened, journal.as_slice()) {
         Ok(_) => RunMade {

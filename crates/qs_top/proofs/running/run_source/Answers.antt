@@ -1,20 +1,23 @@
-use Rattle.std.proofs.Common.{inl, subst, sym}
+use Rattle.std.proofs.Common.{◌∙◌, ap, inl, subst, sym, Err}
+use Rattle.qs_book_script.specs.declared.status.Status.TheVariants as statuses
 use Rattle.qs_top.specs.Disks.{IsOnlyTouched, Leaves, StaysCoherent, StaysRoomy}
 use Rattle.qs_top.specs.Inner.Giving.{IsNoScript}
-use Rattle.qs_top.proofs.Given.{fit, map_both, of_script, nothing_lawful, first_alone, touched_alone, unread_leaves, given_lawful, given_ended, given_cut_off, given_short, given_disk_fault, given_out_of_memory, given_refused, given_damaged, given_script, given_empty, given_leaves}
-use Rattle.qs_top.proofs.Unopened.{nothing_opened}
+use Rattle.qs_top.proofs.Firsts.{damage_at, fault_at, lawful_first}
+use Rattle.qs_top.specs.Statuses.{IsOfRounds}
+use Rattle.qs_top.proofs.Given.{fault_given, fit, map_both, of_script, status_made, first_alone, touched_alone, unread_leaves, given_lawful, given_ended, given_cut_off, given_short, given_disk_fault, given_out_of_memory, given_refused, given_damaged, given_script, given_empty, given_leaves}
+use Rattle.qs_top.proofs.NodesLawful.{none_lawful}
 use Rattle.qs_top.proofs.running.run_source.Goals as goal
 
 -- src/running.rt:183:24
 pub returns-in-Err-clause-lawful : goal.returns-in-Err-clause-lawful
-returns-in-Err-clause-lawful g c = nothing_lawful g.D.Disk.told g.D.Disk.state nothing_opened c.ended.result.journal c.args.disks.now.items c.args.disks.now.items c.ended.ensures.nothing.entries
+returns-in-Err-clause-lawful g c = none_lawful g.D.Disk.told g.D.Disk.state 1 c.ended.result.journal c.args.disks.now.items c.args.disks.now.items c.ended.ensures.nothing.entries
 
 -- src/running.rt:137:1
 pub returns-clause-lawful : goal.returns-clause-lawful
 returns-clause-lawful g c =
     let first = c.run_first-made.ensures.over in
-    given_lawful g.D.Disk.told g.D.Disk.state g.D.Disk.fault_count g.D.Disk.byte_count c.args.seed c.in-Ok.script c.args.shown g.K.Sink.faults g.K.Sink.given c.args.sink.now c.give.new.sink c.run_first-made.result c.give.result first.first first.after first.holds c.give.ensures (fit c.in-Ok.script c.scripts_fit.ensures c.in-Ok.ensures.read)
-    c.args.disks.now.items c.run_first-made.new.disks.items first.rest first.old_is first.new_is
+    lawful_first c.args.disks.now.items c.run_first-made.new.disks.items g.D.Disk.told g.D.Disk.state c.give.result.journal (given_lawful g.D.Disk.told g.D.Disk.state g.D.Disk.fault_count g.D.Disk.byte_count c.args.seed c.in-Ok.script c.args.shown g.K.Sink.faults g.K.Sink.given c.args.sink.now c.give.new.sink c.run_first-made.result c.give.result first.first first.after first.holds c.give.ensures (fit c.in-Ok.script c.scripts_fit.ensures c.in-Ok.ensures.read)
+    c.args.disks.now.items c.run_first-made.new.disks.items first.rest first.old_is first.new_is)
 
 -- src/running.rt:137:1
 pub returns-clause-ended : goal.returns-clause-ended
@@ -60,13 +63,13 @@ returns-clause-out_of_memory g c =
 pub returns-clause-disk_fault : goal.returns-clause-disk_fault
 returns-clause-disk_fault g c =
     let first = c.run_first-made.ensures.over in
-    λ node is. record { first = first.first; after = first.after; rest = first.rest; old_is = first.old_is; new_is = first.new_is; holds = given_disk_fault g.D.Disk.told g.D.Disk.state g.D.Disk.fault_count g.D.Disk.byte_count c.args.seed c.in-Ok.script c.args.shown g.K.Sink.faults g.K.Sink.given c.args.sink.now c.give.new.sink c.run_first-made.result c.give.result first.first first.after first.holds c.give.ensures (fit c.in-Ok.script c.scripts_fit.ensures c.in-Ok.ensures.read) node is }
+    λ node is. fault_at c.args.disks.now.items c.run_first-made.new.disks.items g.D.Disk.fault_count node (record { first = first.first; after = first.after; rest = first.rest; old_is = first.old_is; new_is = first.new_is; holds = given_disk_fault g.D.Disk.told g.D.Disk.state g.D.Disk.fault_count g.D.Disk.byte_count c.args.seed c.in-Ok.script c.args.shown g.K.Sink.faults g.K.Sink.given c.args.sink.now c.give.new.sink c.run_first-made.result c.give.result first.first first.after first.holds c.give.ensures (fit c.in-Ok.script c.scripts_fit.ensures c.in-Ok.ensures.read) node is })
 
 -- src/running.rt:137:1
 pub returns-clause-damaged : goal.returns-clause-damaged
 returns-clause-damaged g c =
     let first = c.run_first-made.ensures.over in
-    λ node at is. record { first = first.first; after = first.after; rest = first.rest; old_is = first.old_is; new_is = first.new_is; holds = given_damaged g.D.Disk.told g.D.Disk.state g.D.Disk.fault_count g.D.Disk.byte_count c.args.seed c.in-Ok.script c.args.shown g.K.Sink.faults g.K.Sink.given c.args.sink.now c.give.new.sink c.run_first-made.result c.give.result first.first first.after first.holds c.give.ensures (fit c.in-Ok.script c.scripts_fit.ensures c.in-Ok.ensures.read) node at is }
+    λ node at is. damage_at c.args.disks.now.items c.run_first-made.new.disks.items g.D.Disk.told g.D.Disk.state node at (record { first = first.first; after = first.after; rest = first.rest; old_is = first.old_is; new_is = first.new_is; holds = given_damaged g.D.Disk.told g.D.Disk.state g.D.Disk.fault_count g.D.Disk.byte_count c.args.seed c.in-Ok.script c.args.shown g.K.Sink.faults g.K.Sink.given c.args.sink.now c.give.new.sink c.run_first-made.result c.give.result first.first first.after first.holds c.give.ensures (fit c.in-Ok.script c.scripts_fit.ensures c.in-Ok.ensures.read) node at is })
 
 -- src/running.rt:137:1
 pub returns-clause-script : goal.returns-clause-script
@@ -108,3 +111,21 @@ pub returns-clause-roomy : goal.returns-clause-roomy
 returns-clause-roomy g c =
     let first = c.run_first-made.ensures.over in
     record { first = first.first; after = first.after; rest = first.rest; old_is = first.old_is; new_is = first.new_is; holds = first.holds.roomy (fit c.in-Ok.script c.scripts_fit.ensures c.in-Ok.ensures.read) }
+
+pub returns-in-Err-clause-script : goal.returns-in-Err-clause-script
+returns-in-Err-clause-script g c = λ line fault is. c.in-Err.ensures.fault line fault (ap Err (sym c.ended.ensures.status ∙ is))
+
+pub returns-clause-ran : goal.returns-clause-ran
+returns-clause-ran g c =
+    let first = c.run_first-made.ensures.over in
+    λ is. subst IsOfRounds (status_made g.K.Sink.faults g.K.Sink.given c.args.sink.now c.give.new.sink c.run_first-made.result c.give.result c.give.ensures statuses.Usage is (λ same. absurd (cc same))) first.holds.built
+
+pub returns-clause-read_fault : goal.returns-clause-read_fault
+returns-clause-read_fault g c =
+    let first = c.run_first-made.ensures.over in
+    λ is. absurd (subst IsOfRounds (status_made g.K.Sink.faults g.K.Sink.given c.args.sink.now c.give.new.sink c.run_first-made.result c.give.result c.give.ensures statuses.ReadFault is (λ same. absurd (cc same))) first.holds.built)
+
+pub returns-clause-write_fault : goal.returns-clause-write_fault
+returns-clause-write_fault g c =
+    let first = c.run_first-made.ensures.over in
+    λ is. fault_given g.K.Sink.faults g.K.Sink.given c.args.sink.now c.give.new.sink c.run_first-made.result c.give.result c.give.ensures first.holds.built is

@@ -1,0 +1,152 @@
+-- What the top call promises of a run of many nodes: what its journal is, how it ended, and what is left on the disks.
+use Rattle.std.specs.Prelude.{◌≡◌, ◌⊎◌, ◌<◌, ℕ, Bool, List, [], Result, Ok, Err, get_or, length, map}
+use Rattle.qs_base.specs.declared.identifiers.NodeNo.{NodeNo}
+use Rattle.qs_book_conformance.specs.Conforming.{Conforms}
+use Rattle.qs_book_journal.specs.Merge.{IsMerged}
+use Rattle.qs_book_journal.specs.declared.entry.Entry.{Entry}
+use Rattle.qs_book_machine.specs.Book.{BookValue}
+use Rattle.qs_book_machine.specs.Lawful.{IsLawful, book_after}
+use Rattle.qs_book_machine.specs.Opening.{opening}
+use Rattle.qs_book_machine.specs.declared.opened.Opened.{Opened}
+use Rattle.qs_book_script.specs.declared.script.Script.{Script}
+use Rattle.qs_book_script.specs.declared.status.Status.{Status}
+use Rattle.qs_book_script.specs.declared.status.Status.TheVariants as statuses
+use Rattle.qs_cell.specs.Logged.{HasLog}
+use Rattle.qs_disk.specs.Disk.{DiskState, EachImage, Frame}
+use Rattle.qs_log.specs.declared.fault.OpenFault.TheVariants as open_faults
+use Rattle.qs_node_step.specs.declared.trace.Step.{Step}
+use Rattle.qs_top.specs.Disks.{IsHeldBy, IsOnlyTouched, OfThese}
+use Rattle.qs_top.specs.Ends.{status_of}
+use Rattle.qs_top.specs.Run.{IsNothing, output_from}
+use Rattle.qs_top.specs.Verdicts.{IsRefusedAt, rule_of_script}
+use Rattle.qs_world.specs.Moves.{node_no}
+use Rattle.qs_world_left.specs.Disks.{AreCoherentDisks}
+use Rattle.qs_world_left.specs.Standing.{DisksStandFor, HaveStampsLeft, up_at}
+use Rattle.qs_world_merge.specs.MergedByKey.{IsMergedBy}
+use Rattle.qs_world_merge.specs.StepMoves.{step_key}
+use Rattle.qs_world_nodes.specs.Nodes.{FewWerePut, plans_of}
+use Rattle.qs_world_nodes.specs.Openings.{opening_over}
+use Rattle.qs_world_plans.specs.Waiting.{waiting_of}
+use Rattle.qs_world_rounds.specs.Rounds.{Cast}
+use Rattle.qs_world_rounds.specs.declared.faults.RoundFault.{RoundFault}
+use Rattle.qs_world_rounds.specs.declared.faults.RoundFault.TheVariants as round_faults
+use Rattle.qs_world_rounds.specs.declared.rounds.Ending.{Ending}
+use Rattle.qs_world_serial.specs.Serial.{EachBeside, HasRun, IsNotOpened}
+use Rattle.qs_world_serial.specs.declared.serial.SiteTold.{SiteTold}
+use Rattle.qs_world_traces.specs.Traced.{IsTraced}
+
+-- ---- the journal
+
+-- the logs of these disks held this, each with the incarnation that it is raised to
+abbrev pub AreHeldBy : {D : Type 0} → (D → DiskState) → Script → ℕ → List D → List Opened → Type 0
+AreHeldBy {D} state script nodes disks opened = EachBeside (λ n (disk : D) found. IsHeldBy script nodes (node_no n) (state disk).content found) disks opened
+
+-- what the logs of a run of so many nodes held
+pub record HeldOnce {D : Type 0} (state : D → DiskState) (nodes : ℕ) (opened : List Opened) (old new : List D) : Type 0 where
+  pub script : Script
+  pub these : OfThese nodes (λ disks afters. AreHeldBy state script nodes disks opened) old new
+
+-- the entries are lawful from what the logs of the first so many disks held
+pub record HasLawfulOf {D : Type 0} (told : Type 0) (state : D → DiskState) (nodes : ℕ) (journal : List Entry) (old new : List D) : Type 0 where
+  pub opened : List Opened
+  pub lawful : IsLawful (opening opened) journal
+  pub count : 0 < length journal → length opened ≡ nodes
+  pub held : 0 < length journal → told → HeldOnce state nodes opened old new
+
+-- ---- what is told
+
+abbrev pub opened_in : SiteTold → Opened
+opened_in tells = tells.opened
+
+abbrev pub journal_in : SiteTold → List Entry
+journal_in tells = tells.journal
+
+abbrev pub trace_in : SiteTold → List Step
+trace_in tells = tells.trace
+
+-- the reference machine over what the logs held
+abbrev pub machine_of : List SiteTold → BookValue
+machine_of tells = opening (map opened_in tells)
+
+-- the entries and the steps of all nodes, by stamp and node
+pub record AreMerged (tells : List SiteTold) (journal : List Entry) (trace : List Step) : Type 0 where
+  pub entries : IsMerged (map journal_in tells) journal
+  pub steps : IsMergedBy step_key (length (map trace_in tells)) (λ n. get_or (map trace_in tells) n []) trace
+
+-- whichever image a power cut leaves of each disk, another run may begin over them; and where no node came to the last stamp each image stands for the machine after
+-- the journal
+pub record AreLasting {D : Type 0} (state : D → DiskState) (tells : List SiteTold) (journal : List Entry) (sites : List (Cast D)) (afters : List D) : Type 0 where
+  pub coherent : AreCoherentDisks (map state afters)
+  pub stands : HaveStampsLeft sites → DisksStandFor (book_after (machine_of tells) journal) (up_at sites) (map state afters)
+
+-- it is what the nodes made, and conforms to the script, from what the logs held. Where fewer than 2^63 packets were put to each link, it is a run of the world
+-- over packets from the logs that were raised, on whose links packets come by the script's lines alone; and where the logs were coherent besides, it lasts
+pub record AreTold {D : Type 0} (told : Type 0) (state : D → DiskState) (own size : D → ℕ) (script : Script) (seed nodes : ℕ) (ending : Result Ending RoundFault) (tells : List SiteTold) (disks afters : List D) (ran : HasRun told state own size script seed ending (Ok tells) disks afters) (journal : List Entry) (trace : List Step) : Type 0 where
+  pub held : told → AreHeldBy state script nodes disks (map opened_in tells)
+  pub merged : AreMerged tells journal trace
+  pub conforms : Conforms script (machine_of tells) journal
+  pub traced : told → FewWerePut ran.last.sites → IsTraced (opening_over ran.alloc script disks ran.first.sites) (plans_of script) journal trace
+  pub lasts : told → AreCoherentDisks (map state disks) → FewWerePut ran.last.sites → AreLasting state tells journal ran.last.sites afters
+
+-- ---- how a run ended
+
+-- with all its rounds, so that it has this status, and of its output that much was given
+pub record IsWholeOf {D : Type 0} (told : Type 0) (state : D → DiskState) (own size : D → ℕ) (seed nodes : ℕ) (script : Script) (shown : Bool) (Has : Status → Type 0) (Gave : List ℕ → Type 0) (journal : List Entry) (trace : List Step) (disks afters : List D) : Type 0 where
+  pub ending : Ending
+  pub tells : List SiteTold
+  pub ran : HasRun told state own size script seed (Ok ending) (Ok tells) disks afters
+  pub is_told : AreTold told state own size script seed nodes (Ok ending) tells disks afters ran journal trace
+  pub status : Has (status_of ending.rounds ending.settled (waiting_of script journal))
+  pub gave : Gave (output_from script journal shown (machine_of tells))
+
+-- with a fault of the disk of that node, as it was started again
+pub record IsShortOf {D : Type 0} (told : Type 0) (state : D → DiskState) (own size : D → ℕ) (seed nodes : ℕ) (script : Script) (node : NodeNo) (journal : List Entry) (trace : List Step) (disks afters : List D) : Type 0 where
+  pub tells : List SiteTold
+  pub ran : HasRun told state own size script seed (Err (round_faults.DiskFault node)) (Ok tells) disks afters
+  pub is_told : AreTold told state own size script seed nodes (Err (round_faults.DiskFault node)) tells disks afters ran journal trace
+
+-- the log of that node was not opened, as its disk failed: nothing is told
+pub record IsNotBegunOf {D : Type 0} (told : Type 0) (state : D → DiskState) (own size : D → ℕ) (node : NodeNo) (journal : List Entry) (trace : List Step) (disks afters : List D) : Type 0 where
+  pub nothing : IsNothing journal trace
+  pub not : IsNotOpened told state own size node.0 open_faults.DiskFailed disks afters
+
+-- the judge refused what the nodes made, at this line for this clause
+pub record IsRefusedOf {D : Type 0} (told : Type 0) (state : D → DiskState) (own size : D → ℕ) (seed nodes : ℕ) (script : Script) (line clause : ℕ) (disks afters : List D) : Type 0 where
+  pub ending : Result Ending RoundFault
+  pub tells : List SiteTold
+  pub ran : HasRun told state own size script seed ending (Ok tells) disks afters
+  pub journal : List Entry
+  pub trace : List Step
+  pub merged : AreMerged tells journal trace
+  pub held : told → AreHeldBy state script nodes disks (map opened_in tells)
+  pub refused : IsRefusedAt script (machine_of tells) journal line clause
+  pub by_script : told → AreCoherentDisks (map state disks) → FewWerePut ran.last.sites → clause ≡ rule_of_script  -- then each entry is a lawful step
+
+-- ---- what is left on the disks
+
+-- each image has a log that goes on from what the log of that node's content held
+pub record GoesOnFromOf (nodes : ℕ) (node : NodeNo) (content : List ℕ) (frame : Frame) : Type 0 where
+  pub script : Script
+  pub opened : Opened
+  pub held : IsHeldBy script nodes node content opened
+  pub each : EachImage (HasLog opened) frame
+
+-- nothing that the log held is lost
+abbrev pub IsLoggedOf : {D : Type 0} → Type 0 → (D → DiskState) → ℕ → ℕ → D → D → Type 0
+IsLoggedOf told state nodes n disk after = told → GoesOnFromOf nodes (node_no n) (state disk).content (state after).now
+
+-- a run with this status leaves this on the disk of its node n: what it was handed in where no disk was opened; that, but for the raise, where a log was
+-- not opened; and a log that goes on from its own where all nodes began
+abbrev pub LeavesOf : {D : Type 0} → Type 0 → (D → DiskState) → ℕ → Status → ℕ → D → D → Type 0
+LeavesOf told state nodes (statuses.Damaged node at) n disk after = IsOnlyTouched told state disk after
+LeavesOf told state nodes (statuses.DiskFault node) n disk after = IsOnlyTouched told state disk after ⊎ IsLoggedOf told state nodes n disk after
+LeavesOf told state nodes statuses.NoMemory n disk after = IsOnlyTouched told state disk after ⊎ IsLoggedOf told state nodes n disk after
+LeavesOf told state nodes statuses.Finished n disk after = IsLoggedOf told state nodes n disk after
+LeavesOf told state nodes (statuses.Unfinished rounds waiting) n disk after = IsLoggedOf told state nodes n disk after
+LeavesOf told state nodes statuses.WriteFault n disk after = IsLoggedOf told state nodes n disk after
+LeavesOf told state nodes (statuses.Unlawful line clause) n disk after = IsLoggedOf told state nodes n disk after
+LeavesOf told state nodes status n disk after = after ≡ disk
+
+-- so on each
+abbrev pub LeaveAll : {D : Type 0} → Type 0 → (D → DiskState) → ℕ → Status → List D → List D → Type 0
+LeaveAll told state nodes status disks afters = EachBeside (LeavesOf told state nodes status) disks afters
