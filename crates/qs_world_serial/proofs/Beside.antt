@@ -1,5 +1,5 @@
 -- What stands beside one another, place by place, and lists that end in one item.
-use Rattle.std.proofs.Common.{◌≡◌, ◌∙◌, ◌+◌, ◌<◌, ap, refl, subst, sym, ℕ, zero, suc, List, [], ◌∷◌, ◌++◌, length, arith}
+use Rattle.std.proofs.Common.{◌≡◌, ◌∙◌, ◌+◌, ap, refl, subst, sym, ℕ, zero, suc, List, [], ◌∷◌, ◌++◌, length, arith}
 use Rattle.std.proofs.lemmas.List.{append_cancel_right, length-append}
 use Rattle.std.specs.Prelude.{Some, slice_get}
 use Rattle.qs_world_serial.specs.Serial.{EachBeside}

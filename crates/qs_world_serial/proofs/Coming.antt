@@ -1,7 +1,7 @@
 -- What comes of the places behind some sites: from that of those behind one site more, as that leaves its disk.
-use Rattle.std.proofs.Common.{◌≡◌, ◌∙◌, ◌+◌, ap, append_assoc, refl, subst, sym, inl, ℕ, zero, suc, List, [], ◌∷◌, ◌++◌, length, map, arith}
+use Rattle.std.proofs.Common.{◌≡◌, ◌∙◌, ◌+◌, ap, append_assoc, refl, subst, sym, inl, ℕ, suc, List, [], ◌∷◌, ◌++◌, length, map, arith}
 use Rattle.std.proofs.lemmas.List.{append-nil}
-use Rattle.std.specs.Prelude.{Some, Result, Ok, Err, IfOk, slice_get}
+use Rattle.std.specs.Prelude.{Result, Ok, Err, IfOk}
 use Rattle.qs_base.specs.declared.identifiers.NodeNo.{NodeNo}
 use Rattle.qs_base.specs.declared.memory.NoMemory.{NoMemory}
 use Rattle.qs_book_script.specs.declared.script.Script.{Script}

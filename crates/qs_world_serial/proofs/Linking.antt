@@ -1,5 +1,5 @@
 -- The links of all nodes, while some have begun and others have not.
-use Rattle.std.proofs.Common.{◌≡◌, ◌≢◌, ◌∙◌, ◌+◌, ◌≤◌, ap, append_assoc, refl, subst, sym, ℕ, zero, suc, List, [], ◌∷◌, ◌++◌, length, map, get_or, arith}
+use Rattle.std.proofs.Common.{◌≡◌, ◌∙◌, ◌+◌, ◌≤◌, ap, append_assoc, refl, subst, sym, ℕ, List, [], ◌∷◌, ◌++◌, length, map, get_or, arith}
 use Rattle.std.proofs.lemmas.List.{append-nil, length-append, length-map, map-append}
 use Rattle.std.proofs.lemmas.Option.{slice_get-map}
 use Rattle.std.specs.Option.{option_map}

@@ -8,7 +8,6 @@ use Rattle.qs_base.specs.declared.identifiers.NodeNo.{NodeNo}
 use Rattle.qs_book_script.specs.declared.script.Script.{Script}
 use Rattle.qs_disk.specs.Disk.{DiskState}
 use Rattle.qs_world_plans.specs.Order.{drawn_order, places_below, seeded, shuffled}
-use Rattle.qs_world_rounds.specs.Rounds.{Cast}
 use Rattle.qs_world_rounds.specs.declared.rounds.Ending.{Ending}
 use Rattle.qs_world_sites.proofs.Staying.{each_on}
 use Rattle.qs_world_sites.proofs.Visiting.{late_on, risen_on, rises_on}

@@ -30,7 +30,7 @@ use Rattle.qs_world_serial.specs.declared.serial.SerialRun.TheVariants as runs
 use Rattle.qs_world_serial.specs.declared.serial.SiteTold.{SiteTold}
 use Rattle.qs_world_sites.specs.Late.{IsLate}
 use Rattle.qs_world_sites.specs.Seats.{HasBegun, is_seat_of, nodes_below, turn_at, turns_below, turns_of}
-use Rattle.qs_world_sites.specs.Sites.{SitesValue, count_of}
+use Rattle.qs_world_sites.specs.Sites.{count_of}
 use Rattle.qs_world_sites.specs.declared.turn.Turn.{Turn}
 
 -- ---- how many actors there are

@@ -1,5 +1,5 @@
 //! A script is run over disks, in one thread.
-ghost use Rattle.std.specs.Prelude.{◌≡◌, ◌≤◌, ◌++◌, ◌∷◌, [], length, map, vec_capacity, IfOk};
+ghost use Rattle.std.specs.Prelude.{◌≡◌, ◌≤◌, [], length, vec_capacity, IfOk};
 ghost use Rattle.qs_world_serial.specs.Behind.{AreAllLinks};
 ghost use Rattle.qs_world_serial.specs.Serial.{IsRun};
 ghost use Rattle.qs_world_sites.specs.Seats.{turns_of};
