@@ -19,7 +19,7 @@ use std::alloc::Global;
 /// What a serial run came to.
 #[derive(Drop)]
 pub enum SerialRun {
-    /// The log of that node was not opened.
+    /// The log of that node was not opened, for its disk or a damage; where it is for want of memory, that is told alone.
     NotOpened {
         node: NodeNo,
         why: OpenFault,
@@ -46,9 +46,9 @@ pub struct SiteTold {
 /// 2^61, and raises its incarnation; then they make rounds whose orders the seed draws, up to an end, as `rounds_of` tells; and each disk is
 /// in its place again.
 ///
-/// `NotOpened` comes where the log of a node was not opened: `DiskFailed` only where its disk's own count of faults rose, and `Damaged` with
-/// the place of a damage that its content has. `NoMemory` comes where memory was refused before each node had begun. Either way no round
-/// was made, and each disk is changed at most by the raise.
+/// `NotOpened` comes where the log of a node was not opened: with `DiskFailed` only where its disk's own count of faults rose, and over
+/// a disk that tells it with `Damaged` only at a damage of its content. `NoMemory` comes where memory was refused before each node had
+/// begun. Either way no round was made, and each disk is changed at most by the raise.
 pub fn run_serial<D: Disk>(alloc: Global, script: &Script, seed: u64, disks: &mut [D]) -> SerialRun
     requires some { 1 ≤ length disks.old }
     requires few { length disks.old ≤ 8 }
