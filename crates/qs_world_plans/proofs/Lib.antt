@@ -1,1 +1,3 @@
 pub mod Shuffles
+-- The rounds that a script has.
+pub mod Budgets

@@ -9,5 +9,5 @@ mod waits;
 
 pub use order::Orders;
 pub use plan::{NODE, NODE_COUNT, commands_of, crashes_of, points_of, setting_of, stops_of};
-pub use spending::budget;
+pub use spending::{MOST_DISK_CRASHES, budget, budget_of, disk_crashes};
 pub use waits::waiting_of;

@@ -10,7 +10,7 @@ use qs_book_script::Script;
 const ROUNDS_EACH: u64 = 4_096;
 
 /// The faults of disks that are counted.
-const MOST_DISK_CRASHES: usize = 64;
+pub const MOST_DISK_CRASHES: usize = 64;
 
 /// How many rounds a run of the script has, whose journal is this so far. Numbers end at 64 bits.
 pub fn budget(script: &Script, journal: &[Entry]) -> u64
@@ -23,7 +23,8 @@ pub fn budget(script: &Script, journal: &[Entry]) -> u64
     )
 }
 
-fn budget_of(commands: usize, faults: usize, crashes: usize) -> u64
+/// How many rounds a run has that has so many commands and lines of faults, and so many faults of disks so far. Numbers end at 64 bits.
+pub fn budget_of(commands: usize, faults: usize, crashes: usize) -> u64
     ensures { result ≡ budget_of commands faults crashes }
 {
     let each = ROUNDS_EACH.saturating_mul((commands as u64).saturating_add(1));
@@ -34,7 +35,7 @@ fn budget_of(commands: usize, faults: usize, crashes: usize) -> u64
 }
 
 /// How often a fault of a disk stopped its node, as far as it is counted.
-fn disk_crashes(journal: &[Entry]) -> usize
+pub fn disk_crashes(journal: &[Entry]) -> usize
     ensures { result ≡ disk_crashes journal.now }
 {
     count(journal).min(MOST_DISK_CRASHES)

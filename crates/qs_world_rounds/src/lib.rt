@@ -12,4 +12,4 @@ pub use actors::{Actors, RoundEnd};
 pub use faults::RoundFault;
 pub use qs_world_plans::{NODE, NODE_COUNT};
 pub use rounds::{Ending, rounds_of};
-pub use seating::{start, start_at};
+pub use seating::{sits_at, start, start_at};

@@ -160,7 +160,8 @@ fn seat_if(
     Ok(())
 }
 
-fn sits_at(seats: &[Seat], node: NodeNo, client: ClientNo) -> bool
+/// Whether a line gives the client a seat at the node.
+pub fn sits_at(seats: &[Seat], node: NodeNo, client: ClientNo) -> bool
     ensures { result ≡ sits_at node client seats.now }
 {
     seats

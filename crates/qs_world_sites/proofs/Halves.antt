@@ -13,12 +13,12 @@ use Rattle.qs_world_sites.specs.Sites.{AreLinked, links_of}
 module _ {A : Type 0} where
   -- ---- what stands at a place
 
-  get_front : (xs ys : List A) (i : ℕ) → i < length xs → slice_get (xs ++ ys) i ≡ slice_get xs i
+  pub get_front : (xs ys : List A) (i : ℕ) → i < length xs → slice_get (xs ++ ys) i ≡ slice_get xs i
   get_front [] ys i less = absurd (omega (arith, less))
   get_front (x ∷ xs) ys zero less = refl
   get_front (x ∷ xs) ys (suc i) less = get_front xs ys i (omega (arith, less))
 
-  get_back : (xs ys : List A) → slice_get (xs ++ ys) (length xs) ≡ slice_get ys 0
+  pub get_back : (xs ys : List A) → slice_get (xs ++ ys) (length xs) ≡ slice_get ys 0
   get_back [] ys = refl
   get_back (x ∷ xs) ys = get_back xs ys
 

@@ -8,3 +8,10 @@ pub mod Halves
 pub mod Further
 -- The visit of one actor.
 pub mod Visiting
+-- What is planned for a link.
+pub mod Planning
+-- The ends of nodes, as one node more comes in, and the links over them.
+pub mod Joining
+pub mod Over
+-- The turn of a client.
+pub mod Turned

@@ -12,3 +12,5 @@ pub mod Late
 pub mod Endings
 -- The sites as a run begins.
 pub mod Seats
+-- Within the making of their links.
+pub mod Linking
