@@ -1,0 +1,6 @@
+-- What a run of packets leaves.
+pub mod Packets
+-- Many disks, and whichever image a power cut leaves of each.
+pub mod Disks
+-- What a run of many nodes leaves on them.
+pub mod Left
