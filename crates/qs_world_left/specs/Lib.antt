@@ -4,3 +4,5 @@ pub mod Packets
 pub mod Disks
 -- What a run of many nodes leaves on them.
 pub mod Left
+-- What the logs of those images stand for.
+pub mod Standing
