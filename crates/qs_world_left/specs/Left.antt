@@ -7,7 +7,7 @@ use Rattle.qs_disk.specs.Disk.{DiskState, IsImage}
 use Rattle.qs_link.specs.declared.outgoing.LinkFault.{LinkFault}
 use Rattle.qs_world.specs.Openings.{IsOpening}
 use Rattle.qs_world.specs.World.{Opening}
-use Rattle.qs_world_left.specs.Disks.{AreCoherentDisks, AreCoherentImages, LeaveCoherent, content_at}
+use Rattle.qs_world_left.specs.Disks.{AreCoherentDisks, AreCoherentImages, HaveLogs, LeaveCoherent, content_at, disks_of}
 use Rattle.qs_world_nodes.specs.Lawful.{HaveCoherentLogs}
 use Rattle.qs_world_nodes.specs.Nodes.{AreSitesIn, FewWerePut}
 use Rattle.qs_world_nodes.specs.Openings.{SitOnce}
@@ -25,6 +25,10 @@ use Rattle.rand_pcg.specs.Lcg.{Lcg}
 -- each link got fewer than 2^63 packets, as its end can count
 abbrev pub SitesLeaveCoherent : {D : Type 0} → Type 0 → (D → DiskState) → Opening → (ℕ → ℕ → List LinkFault) → List (Cast D) → Type 0
 SitesLeaveCoherent told state o plans sites = told → IsOpening o → AreSitesIn told state o plans sites → FewWerePut sites → LeaveCoherent state sites
+
+-- each image has a log
+abbrev pub SitesLeaveLogs : {D : Type 0} → Type 0 → (D → DiskState) → Opening → (ℕ → ℕ → List LinkFault) → List (Cast D) → Type 0
+SitesLeaveLogs told state o plans sites = told → AreSitesIn told state o plans sites → HaveLogs (disks_of state sites)
 
 -- ---- of a run that has begun with a script that fits, over logs that are coherent once they are raised
 

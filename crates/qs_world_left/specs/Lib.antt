@@ -6,3 +6,5 @@ pub mod Disks
 pub mod Left
 -- What the logs of those images stand for.
 pub mod Standing
+-- Disks that were only touched.
+pub mod Touched
