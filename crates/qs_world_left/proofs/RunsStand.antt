@@ -149,4 +149,4 @@ module _ (o : Opening) (moves : List packets.Move) (world : PacketWorld) (opens 
       (stands (within o) (over world r.channels) n stamp inc joined_over order (subst (λ (k : ℕ). k < inc) (sym (ap (λ (f : ℕ → ℕ). f n) r.shown.shows.inc)) later) (world.network.up n) (ap (λ (f : ℕ → Bool). f n) r.shown.shows.up))
 
 pub each_run_stands : EachRunStands
-each_run_stands o moves world n stamp inc opens run _ order later = stands_over o moves world opens run n stamp inc order later
+each_run_stands o moves world n stamp inc opens run order later = stands_over o moves world opens run n stamp inc order later

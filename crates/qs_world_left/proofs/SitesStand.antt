@@ -134,7 +134,7 @@ module _ {D : Type 0} (told : Type 0) (state : D → DiskState) (o : Opening) (p
   chosen_stands journal entries = subst (λ (l : List Record). StandsFor (book_after (book_of o) journal) k (up_at sites k) (present.value.inc + 1) l) (ap (λ (h : Host). h.log) same.host ∙ sym its.log_is)
       (subst (λ (b : Bool). StandsFor (book_after (book_of o) journal) k b (present.value.inc + 1) (one.world.hosts k).log) (same.network.up ∙ its.up_is)
       (subst (λ (l : List Entry). StandsFor (book_after (book_of o) l) k (one.world.network.up k) (present.value.inc + 1) (one.world.hosts k).log) (one.journal journal entries)
-      (each_run_stands o (untimed one.moves) one.world k last_stamp (present.value.inc + 1) opens one.run in_world order (subst (λ (i : ℕ). i < present.value.inc + 1) (sym same.network.inc) its.later))))
+      (each_run_stands o (untimed one.moves) one.world k last_stamp (present.value.inc + 1) opens one.run order (subst (λ (i : ℕ). i < present.value.inc + 1) (sym same.network.inc) its.later))))
 
 pub each_sites_stand : {D : Type 0} (told : Type 0) (state : D → DiskState) (o : Opening) (plans : ℕ → ℕ → List LinkFault) (sites : List (Cast D)) (journal : List Entry) → SitesLeaveStanding told state o plans sites journal
 each_sites_stand told state o plans sites journal t opens are few early entries k disk of_k image at present records used log =

@@ -74,9 +74,9 @@ pub record StandsFor (book : BookValue) (n : ℕ) (up : Bool) (inc : ℕ) (recor
   pub restarts : Restarts (book_after book (stop_entries n up stamp)) n stamp inc records
   pub kept : KeepsContents up (slice_get book.nodes n) restarts.state
 
--- the log of each node of a run of packets stands for the machine after its journal
+-- the log of each node of a run of packets stands for the machine after its journal, at each stamp that is in order
 abbrev pub EachRunStands : Type 0
-EachRunStands = (o : Opening) (moves : List Move) (world : PacketWorld) (n stamp inc : ℕ) → IsOpening o → Run (start o) moves world → n < world.size → is_in_order world n stamp ≡ true → world.network.inc n < inc
+EachRunStands = (o : Opening) (moves : List Move) (world : PacketWorld) (n stamp inc : ℕ) → IsOpening o → Run (start o) moves world → is_in_order world n stamp ≡ true → world.network.inc n < inc
     → StandsFor (book_after (book_of o) world.journal) n (world.network.up n) inc (world.hosts n).log
 
 -- ---- disks
