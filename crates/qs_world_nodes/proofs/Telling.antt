@@ -59,7 +59,7 @@ module _ {D : Type 0} (told : Type 0) (state : D → DiskState) (o : Opening) (p
         (each_keeps o.size plans (post_at other sites) (are.links other) few_posts n m low_n low_m apart))
 
   -- where there are two nodes there is a post
-  keep : FewWerePut sites → KeepPlans o.size plans (trace_at sites)
+  pub keep : FewWerePut sites → KeepPlans o.size plans (trace_at sites)
   keep few n m low_n low_m apart = by (found sites n (omega (arith, low_n, are.count)))
     where
       by : (a : Cast D) × (slice_get sites n ≡ Some a) → IsTakenByPlan (plans m n) (put_to n (trace_at sites m)) (took_from m (trace_at sites n))

@@ -1,0 +1,36 @@
+//! What the logs that a run leaves stand for.
+ghost use Rattle.std.specs.Prelude.{ℕ, List};
+ghost use Rattle.std.specs.Global.{Global};
+ghost use Rattle.qs_base.specs.declared.identifiers.NodeNo.{NodeNo};
+ghost use Rattle.qs_book_journal.specs.declared.entry.Entry.{Entry};
+ghost use Rattle.qs_book_script.specs.declared.script.Script.{Script};
+ghost use Rattle.qs_link.specs.declared.outgoing.LinkFault.{LinkFault};
+ghost use Rattle.qs_world.specs.World.{Opening};
+ghost use Rattle.qs_world_left.specs.Standing.{CutShortLeavesStanding, EachRunStands, EndingsLeaveStanding, RoundsLeaveStanding, SitesLeaveStanding};
+ghost use Rattle.qs_world_rounds.specs.Rounds.{Cast};
+ghost use Rattle.qs_world_rounds.specs.declared.rounds.Ending.{Ending};
+ghost use Rattle.qs_world_sites.specs.Sites.{SitesValue};
+ghost use Rattle.rand_pcg.specs.Lcg.{Lcg};
+
+use qs_disk::Disk;
+use qs_world_opening::what_fits_may_begin;
+
+/// The log of each node of a run of packets stands for the machine after its journal: the node may stop where it is up, and restart over it in a later
+/// incarnation, and the machine has of it then what the log says.
+pub fn packet_runs_leave_standing_logs()
+    ensures { EachRunStands }
+{}
+
+/// Whichever image a power cut leaves of the disk of a node of a run, its log stands for the machine after all that the cells tell, merged, whether the node is
+/// up or down. Each link got fewer than 2^63 packets, and no node has come to its last stamp.
+pub fn runs_leave_standing_disks<D: Disk>()
+    ensures sites { (o : Opening) (plans : ℕ → ℕ → List LinkFault) (sites : List (Cast D)) (journal : List Entry) → SitesLeaveStanding D.told D.state o plans sites journal }
+    ensures rounds { (alloc : Global) (script : Script) (disks : List D) (rng later : Lcg) (n : ℕ) (all new : SitesValue D) (journal : List Entry)
+        → RoundsLeaveStanding D.told D.state D.fault_count D.byte_count alloc script disks rng n all new later journal }
+    ensures ends { (alloc : Global) (script : Script) (disks : List D) (seed : ℕ) (all new : SitesValue D) (ending : Ending) (journal : List Entry)
+        → EndingsLeaveStanding D.told D.state D.fault_count D.byte_count alloc script disks seed all new ending journal }
+    ensures cut { (alloc : Global) (script : Script) (disks : List D) (seed : ℕ) (node : NodeNo) (all new : SitesValue D) (journal : List Entry)
+        → CutShortLeavesStanding D.told D.state D.fault_count D.byte_count alloc script disks seed node all new journal }
+{
+    what_fits_may_begin();
+}
