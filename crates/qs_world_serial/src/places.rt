@@ -45,6 +45,7 @@ struct Rest<'s, 'p, D: Disk> {
     script: &'s Script,
     seating: Seating<D>,
     run: SerialRun,
+    // (last, and moved out last: the proof does not know else what became of them)
     places: &'p mut [D],
 }
 
