@@ -45,11 +45,8 @@ impl Disks {
     }
 
     fn other(&self, alloc: Global, row: &Row, seed: u64, place: usize) -> Result<MemDisk, Error> {
-        if row.again {
-            let left = self.left_at(seed, place)?;
-            return made(MemDisk::from_bytes(alloc, left.bytes(), place as u64, &[]));
-        }
-        made(MemDisk::new(alloc, OTHER_BYTES, place as u64, &[]))
+        let bytes = self.bytes_before(alloc, row, seed, place)?;
+        disk_over(alloc, bytes.as_slice(), place as u64, &[])
     }
 
     /// What the row before left at that place.
@@ -60,25 +57,33 @@ impl Disks {
 
     /// The first disk, with a bit turned at each place that the row names.
     fn first(&self, alloc: Global, row: &Row, seed: u64) -> Result<MemDisk, Error> {
-        let mut bytes = self.bytes_before(alloc, row, seed)?;
+        let mut bytes = self.bytes_before(alloc, row, seed, 0)?;
         for place in row.flips.iter() {
             if let Some(byte) = bytes.get_mut(*place) {
                 *byte ^= 1;
             }
         }
-        if !is_size(bytes.len() as u64) {
-            bail!("no disk has so many bytes");
-        }
-        made(MemDisk::from_bytes(alloc, bytes.as_slice(), seed, row.disk_fails.as_slice()))
+        disk_over(alloc, bytes.as_slice(), seed, row.disk_fails.as_slice())
     }
 
-    /// The bytes of the first disk before any is changed: zeros, or what the row before left.
-    fn bytes_before(&self, alloc: Global, row: &Row, seed: u64) -> Result<Vec<u8>, Error> {
+    /// The bytes of a disk before any is changed: zeros, or what the row before left there.
+    fn bytes_before(
+        &self,
+        alloc: Global,
+        row: &Row,
+        seed: u64,
+        place: usize,
+    ) -> Result<Vec<u8>, Error> {
         if row.again {
-            let left = self.left_at(seed, 0)?;
+            let left = self.left_at(seed, place)?;
             return Ok(Vec::from_slice(alloc, left.bytes())?);
         }
-        Ok(vec![in alloc; 0; row.disk_bytes as usize]?)
+        let count = if place == 0 {
+            row.disk_bytes
+        } else {
+            OTHER_BYTES
+        };
+        Ok(vec![in alloc; 0; count as usize]?)
     }
 
     /// Keeps the disks for the next row.
@@ -86,6 +91,14 @@ impl Disks {
         self.left.insert(seed, disks)?;
         Ok(())
     }
+}
+
+/// A disk with these bytes, whose calls with these numbers fail.
+fn disk_over(alloc: Global, bytes: &[u8], seed: u64, fails: &[u64]) -> Result<MemDisk, Error> {
+    if !is_size(bytes.len() as u64) {
+        bail!("no disk has so many bytes");
+    }
+    made(MemDisk::from_bytes(alloc, bytes, seed, fails))
 }
 
 /// Runs a row under each of its seeds, and with each of its numbers where it has any.
