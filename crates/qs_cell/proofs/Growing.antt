@@ -13,7 +13,7 @@ use Rattle.qs_cell_chronicle.specs.Chronicle.{Told, is_last, is_last_past, stamp
 use Rattle.qs_cell_chronicle.specs.Occasions.{stamp_in}
 use Rattle.qs_cell_chronicle.specs.declared.occasion.Occasion.{Occasion}
 use Rattle.qs_link.specs.declared.ends.NodeEnds.{NodeEnds}
-use Rattle.qs_cell.specs.Cell.{IsOutcome, begun, begun_past, stepped, out_of}
+use Rattle.qs_cell.specs.Cell.{IsOutcome, begun, begun_past, stepped, labels_of, out_of}
 use Rattle.qs_cell.specs.Restart.{IsRestarted}
 use Rattle.qs_cell.specs.State.{Up, IsSeenAs, state_of, state_after, carried_of, StartsAgain}
 use Rattle.qs_cell.specs.Visits.{Seat, MakesIn, TakesTurn, Turns, IsBroken, TurnsAll, TurnsSome, Grows, entries_in, due, left_by}
@@ -76,7 +76,7 @@ made_by own size occasion old (outcomes.Followed stopped answers) is =
     (ap (λ (s : Seen). s.told.journal) is.seen))
   where
     whole : Seen
-    whole = stepped occasion old.carried.setting.inc (out_of size occasion old) is.put (seen old.carried)
+    whole = stepped occasion old.carried.setting.inc (labels_of size occasion old) (out_of size occasion old) is.put (seen old.carried)
 made_by own size occasion old (outcomes.Replaced stopped) is = past_same (stamp_in occasion) old.carried.chronicle.told stopped.carried.chronicle.told.journal _ (ap (λ (t : Told). t.journal) is.told)
 made_by own size occasion old (outcomes.CutOff stopped) is = past_same (stamp_in occasion) old.carried.chronicle.told stopped.carried.chronicle.told.journal _ (ap (λ (t : Told). t.journal) is.told)
 

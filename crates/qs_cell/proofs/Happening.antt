@@ -1,6 +1,6 @@
 -- What an event does with the log and leaves on the disk, by its stages.
 use Rattle.std.proofs.Common.{◌≡◌, ◌⊎◌, ◌∙◌, ◌-◌, ◌^◌, ap, subst, sym, refl, inl, inr, ℕ, Bool, true, false, List, ◌++◌}
-use Rattle.std.specs.Prelude.{◌↔◌, None, Some, if◌then◌else◌}
+use Rattle.std.specs.Prelude.{◌↔◌, None, if◌then◌else◌}
 use Rattle.std.specs.List.{list_any}
 use Rattle.qs_base.specs.Causes.{Rose}
 use Rattle.qs_base.specs.declared.memory.GrowFault.{GrowFault}
@@ -8,6 +8,7 @@ use Rattle.qs_base.specs.declared.memory.GrowFault.TheVariants as grow_faults
 use Rattle.qs_base.specs.declared.memory.GrowFault.TheVariants.{Last}
 use Rattle.qs_cell_peers.specs.Sessions.{LacksNumber, SessionsValue}
 use Rattle.qs_cell_peers.specs.Steps.{Sends}
+use Rattle.qs_node_kept.specs.declared.kept.KeptLabel.{KeptLabel}
 use Rattle.qs_packet.specs.declared.packet.Packet.{Packet}
 use Rattle.qs_disk.specs.Disk.{DiskState}
 use Rattle.qs_disk.specs.Fuse.{FusedValue, GoesOn, fused_count}
@@ -21,18 +22,18 @@ use Rattle.qs_book_journal.specs.declared.entry.Act.{Act}
 use Rattle.qs_book_journal.specs.declared.entry.CrashCause.{CrashCause}
 use Rattle.qs_book_journal.specs.declared.entry.CrashCause.TheVariants as causes
 use Rattle.qs_log.specs.Log.{LogValue, Stands}
-use Rattle.qs_cell_chronicle.specs.Points.{stops_before}
+use Rattle.qs_cell_chronicle.specs.Points.{spent, stops_before}
 use Rattle.qs_cell_chronicle.specs.declared.points.Watched.{Watched}
 use Rattle.qs_node_step.specs.State.{NodeValue}
 use Rattle.qs_node_step.specs.Step.{accept}
 use Rattle.qs_slot.specs.Slot.{SayTheSame}
 use Rattle.qs_node_step.specs.declared.event.Effects.{Effects}
-use Rattle.qs_cell_chronicle.specs.Carried.{Seen, seen}
+use Rattle.qs_cell_chronicle.specs.Carried.{seen}
 use Rattle.qs_cell_chronicle.specs.Chronicle.{crashed}
 use Rattle.qs_cell_chronicle.specs.Occasions.{did_of, event_of, taken}
 use Rattle.qs_cell_chronicle.specs.declared.carried.Carried.{Carried}
 use Rattle.qs_cell_chronicle.specs.declared.occasion.Occasion.{Occasion}
-use Rattle.qs_cell.specs.Cell.{begun, ticks, unsent_cause, IsAsPlanned, IsPastLast, IsSent, IsUnnumbered, IfStands, IsCutOff, IsFaulted, IsRefused, StandsAfter, disk_after, fault_cause, held_back, ordered, planned, planned_after, out_of, IsUnplanned}
+use Rattle.qs_cell.specs.Cell.{begun, ticks, unsent_cause, IsAsPlanned, IsOutcome, IsPastLast, IsSent, IsUnnumbered, IfStands, IsCutOff, IsFaulted, IsRefused, StandsAfter, disk_after, fault_cause, held_back, is_forestalled, labels_of, may_make, ordered, planned_after, planned_for, out_of, spent_after, IsUnplanned}
 use Rattle.qs_cell.specs.Within.{HasBegun, HasCrashed, IsWorkedOut, HasStepped, running_with}
 use Rattle.qs_cell.specs.Outcomes.{Outcome, outcome_of, stopped_of}
 use Rattle.qs_cell.specs.Outcomes as outcomes
@@ -65,14 +66,50 @@ disk_of_log {D} left mid old is same = is ∙ ap (λ (l : LogValue (FusedValue D
 
 -- ---- the step is worked out
 
-pub unplanned_by : (occasion : Occasion) (may : Bool) (out out_as : Effects) (s : Seen) (entries : List Act) (points : List Watched) (stops : Bool) → may ≡ true → ordered occasion s ≡ None → out ≡ out_as → entries ≡ out.entries
-    → points ≡ s.points → stops ≡ list_any (stops_before entries) points → stops ≡ false → planned occasion may out_as s ≡ None
-unplanned_by occasion may out out_as s entries points stops may_is none same is_entries is_points is false_is =
-    ap (planned_after may out_as s) none ∙ (ap (λ (b : Bool). held_back b (list_any (stops_before out_as.entries) s.points)) may_is ∙ ap (λ (b : Bool). held_back true b) never)
-  where
-    never : list_any (stops_before out_as.entries) s.points ≡ false
-    never = sym (ap (λ (es : List Act). list_any (stops_before es) s.points) (is_entries ∙ ap (λ (e : Effects). e.entries) same))
-        ∙ sym (ap (list_any (stops_before entries)) is_points) ∙ sym is ∙ false_is
+-- whether a line stops the node in place of it, by what the node keeps then
+pub stops_as : {D F X : Type 0} (size : ℕ) (occasion : Occasion) (old : Running D F X) (labels : List KeptLabel) (out : Effects) (entries : List Act) (points : List Watched) (stops : Bool)
+    → labels ≡ labels_of size occasion old → out ≡ out_of size occasion old → entries ≡ out.entries → points ≡ old.carried.points.items
+    → stops ≡ list_any (stops_before labels entries) points → stops ≡ is_forestalled size occasion old
+stops_as size occasion old labels out entries points stops met same is_entries is_points is =
+    is ∙ (ap (list_any (stops_before labels entries)) is_points
+    ∙ (ap (λ (es : List Act). list_any (stops_before labels es) old.carried.points.items) (is_entries ∙ ap (λ (e : Effects). e.entries) same)
+    ∙ ap (λ (ls : List KeptLabel). list_any (stops_before ls (out_of size occasion old).entries) old.carried.points.items) met))
+
+-- what is to stand in place of an event that may be made
+pub planned_by : {D F X : Type 0} (size : ℕ) (occasion : Occasion) (old : Running D F X) (stops : Bool)
+    → may_make old.host.node occasion ≡ true → ordered occasion (seen old.carried) ≡ None → is_forestalled size occasion old ≡ stops
+    → planned_for size occasion old ≡ held_back true stops
+planned_by size occasion old stops may none is =
+    ap (planned_after (may_make old.host.node occasion) (is_forestalled size occasion old)) none
+    ∙ (ap (λ (b : Bool). held_back b (is_forestalled size occasion old)) may ∙ ap (held_back true) is)
+
+-- and what becomes of the lines where one does
+pub spent_as : {D F X : Type 0} (size : ℕ) (occasion : Occasion) (old : Running D F X) (labels : List KeptLabel) (out : Effects) (entries : List Act) (points : List Watched)
+    → labels ≡ labels_of size occasion old → out ≡ out_of size occasion old → entries ≡ out.entries → points ≡ old.carried.points.items
+    → may_make old.host.node occasion ≡ true → ordered occasion (seen old.carried) ≡ None
+    → spent labels entries points ≡ spent_after (may_make old.host.node occasion) (labels_of size occasion old) (out_of size occasion old) (seen old.carried) (ordered occasion (seen old.carried))
+spent_as size occasion old labels out entries points met same is_entries is_points may none =
+    ap (spent labels entries) is_points
+    ∙ (ap (λ (es : List Act). spent labels es old.carried.points.items) (is_entries ∙ ap (λ (e : Effects). e.entries) same)
+    ∙ (ap (λ (ls : List KeptLabel). spent ls (out_of size occasion old).entries old.carried.points.items) met
+    ∙ sym (ap (spent_after (may_make old.host.node occasion) (labels_of size occasion old) (out_of size occasion old) (seen old.carried)) none
+    ∙ ap (λ (b : Bool). if b then spent (labels_of size occasion old) (out_of size occasion old).entries old.carried.points.items else old.carried.points.items) may)))
+
+-- a crash stands in place of it
+pub replaced_by : {D F X : Type 0} (own : D → ℕ) (size : ℕ) (occasion : Occasion) (old : Running D F X) (host : HostValue (FusedValue D)) (sessions : SessionsValue) (mid carried : Carried) (cause : CrashCause) (fate : Fate)
+    → host.log ≡ old.host.log → host.node.kept.saved ≡ old.host.node.kept.saved → HasCrashed (did_of occasion) cause mid carried → mid.chronicle.told ≡ begun occasion old.carried.chronicle.told
+    → mid.crashes ≡ old.carried.crashes → mid.setting ≡ old.carried.setting → fate ≡ fates.Replaced cause
+    → (cause ≡ causes.Memory) ⊎ (IsAsPlanned size occasion old (stopped_of cause false (running_with {D = D} {F = F} {X = X} host sessions carried)) ⊎ IsUnnumbered size occasion old (stopped_of cause false (running_with {D = D} {F = F} {X = X} host sessions carried)))
+    → IsOutcome own size occasion old (outcome_of fate (running_with host sessions carried))
+replaced_by {D} own size occasion old host sessions mid carried cause fate log saved crash told crashes setting is why = rw is (record {
+  disk = ap (λ (l : LogValue (FusedValue D)). l.disk) log;
+  kept = saved;
+  told = crash.told ∙ ap (crashed (did_of occasion) cause) told;
+  crashes = crash.crashes ∙ crashes;
+  setting = crash.setting ∙ setting;
+  full = refl;
+  why = why;
+})
 
 pub begun_on : (occasion : Occasion) (old mid new : Carried) → HasBegun occasion old mid → new.chronicle.told ≡ mid.chronicle.told → new.commands ≡ mid.commands
     → new.crashes ≡ mid.crashes → new.points.items ≡ mid.points.items → new.setting ≡ mid.setting → HasBegun occasion old new

@@ -1,5 +1,5 @@
 -- What stands of a node after a packet came to it.
-use Rattle.std.proofs.Common.{◌≡◌, ◌∙◌, ap, subst, sym, refl, ℕ, Bool, true, false, List}
+use Rattle.std.proofs.Common.{◌≡◌, ◌∙◌, ap, subst, sym, refl, ℕ, List}
 use Rattle.std.specs.Prelude.{Option, []}
 use Rattle.qs_book_journal.specs.declared.entry.CrashCause.{CrashCause}
 use Rattle.qs_disk.specs.Disk.{DiskState}
@@ -11,13 +11,12 @@ use Rattle.qs_ops.specs.declared.no_server.NoServer.{NoServer}
 use Rattle.qs_packet.specs.declared.packet.Packet.{Packet}
 use Rattle.qs_node_step.specs.declared.event.ClientAnswer.{ClientAnswer}
 use Rattle.qs_cell_chronicle.specs.Carried.{Seen}
-use Rattle.qs_cell_chronicle.specs.Chronicle.{Told, is_last_past, stamped_past}
+use Rattle.qs_cell_chronicle.specs.Chronicle.{Told}
 use Rattle.qs_cell_chronicle.specs.declared.occasion.Occasion.{Occasion}
 use Rattle.qs_cell_chronicle.specs.declared.occasion.Occasion.TheVariants as occasions
 use Rattle.qs_cell_peers.specs.declared.heard.Heard.{Heard}
 use Rattle.qs_cell_peers.specs.declared.heard.Heard.TheVariants as heards
 use Rattle.qs_cell.specs.Asides.{IsAsideOutcome, aside_outcome}
-use Rattle.qs_cell.specs.Cell.{begun_past}
 use Rattle.qs_cell.specs.Hearing.{HandsUp, HasTakenIn, SetsAside, TakesIn}
 use Rattle.qs_cell.specs.Logged.{GoesOn, IsLogged, StandsWithin}
 use Rattle.qs_cell.specs.Outcomes.{Outcome}

@@ -1,5 +1,5 @@
 -- The turn of a node's packets: where the node is down, where none was carried, and where one is taken in.
-use Rattle.std.proofs.Common.{◌≡◌, ◌∙◌, ◌↔◌, ◌<◌, ◌+◌, ap, subst, sym, refl, inl, inr, ℕ, suc, Bool, true, false, List, [], ◌∷◌, length, arith}
+use Rattle.std.proofs.Common.{◌≡◌, ◌∙◌, ◌↔◌, ◌<◌, ◌+◌, ap, subst, sym, refl, inr, ℕ, suc, Bool, true, false, List, [], arith}
 use Rattle.std.specs.Prelude.{Option, Some, None, Result, Ok, ◌==◌, is_some, not}
 use Rattle.qs_base.specs.declared.memory.NoMemory.{NoMemory}
 use Rattle.qs_disk.specs.Disk.{DiskState}
@@ -9,12 +9,14 @@ use Rattle.qs_packet.specs.declared.packet.Packet.{Packet}
 use Rattle.qs_node_step.specs.declared.event.ClientAnswer.{ClientAnswer}
 use Rattle.qs_cell_peers.specs.Links.{IsSameNode, LinksValue, SameInto, SameOut, carried_from, into_of, is_peer_of}
 use Rattle.qs_cell_peers.specs.Peers.{is_peer}
-use Rattle.qs_cell.specs.Hearing.{BreaksBelow, BreaksFrom, BreaksHearing, HasTaken, Hears, HearsBelow, HearsFrom, HearsIn, HearsTimes, Post, TakesIn}
+use Rattle.qs_cell_peers.specs.declared.heard.Heard.{Heard}
+use Rattle.qs_cell.specs.Hearing.{BreaksBelow, BreaksFrom, BreaksHearing, HandsUp, HasTaken, Hears, HearsBelow, HearsFrom, HearsIn, HearsTimes, Post, TakesIn}
 use Rattle.qs_cell.specs.State.{cause_of}
 use Rattle.qs_cell.specs.Visits as visits
 use Rattle.qs_cell.specs.Visits.{all_delivered}
 use Rattle.qs_cell.specs.declared.state.CellState.{CellState}
 use Rattle.qs_cell.specs.declared.state.CellState.TheVariants as states
+use Rattle.qs_cell.specs.declared.stopped.Stopped.{Stopped}
 
 -- ---- whose turn it is
 
@@ -85,9 +87,13 @@ module _ {D : Type 0} (told : Type 0) (state : D → DiskState) (own size : D �
         by (states.Up running) is it = (Some packet, (left, (has, (refl, (answers, (it, is_ends))))))
         by (states.Down stopped) is it = absurd (let no : true ≡ false = is in cc no)
 
-  pub hearing_breaks : (old new : Post D) (ready : CellState D) (packet : Packet) (answers : List ClientAnswer) → visits.IsSameNode old.seat.node ready
-      → TakesIn told state own size packet ready new.seat.node answers → BreaksHearing told state own size old new
-  hearing_breaks old new ready packet answers same takes = inr (ready, (same, (packet, (answers, takes))))
+  pub hearing_breaks : (m : ℕ) (old new : Post D) (ready : CellState D) (packet : Packet) (answers : List ClientAnswer) → visits.IsSameNode old.seat.node ready → HasTaken m (Some packet) old.links new.links
+      → TakesIn told state own size packet ready new.seat.node answers → BreaksHearing told state own size m old new
+  hearing_breaks m old new ready packet answers same has takes = inr (ready, (same, (packet, (has, (answers, takes)))))
+
+  -- a node that is down takes nothing in
+  pub stays_down : (packet : Packet) (stopped : Stopped D) (new : CellState D) (answers : List ClientAnswer) → TakesIn told state own size packet (states.Down stopped) new answers → new ≡ states.Down stopped
+  stays_down packet stopped new answers t = (subst (λ (h : Heard). HandsUp told state own size h packet t.mid new answers) t.takes.1 t.hands).0 ∙ t.takes.0
 
   -- ---- one turn more
 
@@ -102,7 +108,7 @@ module _ {D : Type 0} (told : Type 0) (state : D → DiskState) (own size : D �
 
   -- ---- memory was refused in the next one
 
-  pub from_breaks : (m count all : ℕ) (old mid new : Post D) → all ≡ carried_from old.links m → count < all → HearsTimes told state own size m count old mid → BreaksHearing told state own size mid new
+  pub from_breaks : (m count all : ℕ) (old mid new : Post D) → all ≡ carried_from old.links m → count < all → HearsTimes told state own size m count old mid → BreaksHearing told state own size m mid new
       → BreaksFrom told state own size m old new
   from_breaks m count all old mid new is less before broken = record { count = count; few = subst (λ n. count < n) is less; mid = mid; heard = before; breaks = broken }
 

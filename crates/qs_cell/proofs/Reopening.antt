@@ -17,11 +17,11 @@ use Rattle.qs_slot.proofs.Limits.{stand_below}
 use Rattle.qs_slot.specs.Slot.{StandBelow}
 use Rattle.qs_node_step.specs.declared.event.ClientAnswer.{ClientAnswer}
 use Rattle.qs_cell_chronicle.specs.Carried.{Seen, seen}
-use Rattle.qs_cell_chronicle.specs.Chronicle.{Told, counted, in_round, is_last, is_last_past, numbered, stamped, stamped_past}
+use Rattle.qs_cell_chronicle.specs.Chronicle.{Told, counted, in_round, is_last, is_last_past, numbered, stamped}
 use Rattle.qs_cell_chronicle.specs.declared.carried.Carried.{Carried}
 use Rattle.qs_cell_chronicle.specs.Occasions.{stamp_in}
 use Rattle.qs_cell_chronicle.specs.declared.occasion.Occasion.{Occasion}
-use Rattle.qs_cell.specs.Cell.{IsOutcome, begun, begun_past, out_of, stepped}
+use Rattle.qs_cell.specs.Cell.{IsOutcome, begun, begun_past, labels_of, out_of, stepped}
 use Rattle.qs_cell.specs.Logged.{IsLogged, StandsWithin, limit_after, most_rounds}
 use Rattle.qs_cell.specs.Outcomes.{Outcome}
 use Rattle.qs_cell.specs.Outcomes as outcomes
@@ -83,7 +83,7 @@ outcome_rounds : {D : Type 0} (own : D → ℕ) (size : ℕ) (occasion : Occasio
     → rounds_of (state_of outcome) ≡ old.carried.chronicle.told.rounds
 outcome_rounds own size occasion old (outcomes.Whole running answers) is = ap (λ (s : Seen). s.told.rounds) is.seen ∙ rounds_begun occasion old.carried.chronicle.told
 outcome_rounds own size occasion old (outcomes.Followed stopped answers) is =
-    ap (λ (s : Seen). s.told.rounds) is.seen ∙ rounds_stamped (stepped occasion old.carried.setting.inc (out_of size occasion old) is.put (seen old.carried)).told
+    ap (λ (s : Seen). s.told.rounds) is.seen ∙ rounds_stamped (stepped occasion old.carried.setting.inc (labels_of size occasion old) (out_of size occasion old) is.put (seen old.carried)).told
     ∙ rounds_begun occasion old.carried.chronicle.told
 outcome_rounds own size occasion old (outcomes.Replaced stopped) is = ap (λ (t : Told). t.rounds) is.told ∙ rounds_begun occasion old.carried.chronicle.told
 outcome_rounds own size occasion old (outcomes.CutOff stopped) is = ap (λ (t : Told). t.rounds) is.told ∙ rounds_begun occasion old.carried.chronicle.told

@@ -1,9 +1,8 @@
 -- A whole visit: what it is made of, and that it only adds to the journal.
-use Rattle.std.proofs.Common.{◌≡◌, ◌∙◌, ◌<◌, ap, subst, sym, refl, inl, inr, ℕ, zero, suc, List, drop, length}
+use Rattle.std.proofs.Common.{◌≡◌, ◌∙◌, ap, subst, sym, refl, inl, inr, ℕ, zero, suc, List, drop, length}
 use Rattle.std.specs.Prelude.{Option, Some, None}
 use Rattle.std.specs.List.{flat_map}
 use Rattle.qs_disk.specs.Disk.{DiskState}
-use Rattle.qs_node_step.specs.declared.trace.Step.{Step}
 use Rattle.qs_packet.specs.declared.packet.Packet.{Packet}
 use Rattle.qs_cell_peers.specs.Links.{HasPut, HasPutSome, LinksValue, carried_from, puts_of}
 use Rattle.qs_cell.specs.Hearing.{BreaksBelow, BreaksFrom, BreaksHearing, Hears, HearsBelow, HearsIf, HearsIn, HearsTimes, Post}
@@ -43,13 +42,13 @@ module _ {D : Type 0} (told : Type 0) (state : D → DiskState) (own size : D �
   below_grows (suc m) old new is = grows_on (entries_in old.seat.node) (entries_in is.0.seat.node) (entries_in new.seat.node) (below_grows m old is.0 is.1.0)
       (times_grow m (carried_from is.0.links m) is.0 new is.1.1)
 
-  broken_grows : (old new : Post D) → BreaksHearing told state own size old new → Grows (entries_in old.seat.node) (entries_in new.seat.node)
-  broken_grows old new (inl same) = entries_same old.seat.node new.seat.node (seen_same (λ s. s) old.seat.node new.seat.node (λ s. refl) same)
-  broken_grows old new (inr it) = grows_on (entries_in old.seat.node) (entries_in it.0) (entries_in new.seat.node)
-      (entries_same old.seat.node it.0 (seen_same (λ s. s) old.seat.node it.0 (λ s. refl) it.1.0)) (taken_grows told state own size it.1.1.0 it.0 new.seat.node it.1.1.1.0 it.1.1.1.1)
+  broken_grows : (m : ℕ) (old new : Post D) → BreaksHearing told state own size m old new → Grows (entries_in old.seat.node) (entries_in new.seat.node)
+  broken_grows m old new (inl same) = entries_same old.seat.node new.seat.node (seen_same (λ s. s) old.seat.node new.seat.node (λ s. refl) same)
+  broken_grows m old new (inr it) = grows_on (entries_in old.seat.node) (entries_in it.0) (entries_in new.seat.node)
+      (entries_same old.seat.node it.0 (seen_same (λ s. s) old.seat.node it.0 (λ s. refl) it.1.0)) (taken_grows told state own size it.1.1.0 it.0 new.seat.node it.1.1.1.1.0 it.1.1.1.1.1)
 
   from_breaks : (m : ℕ) (old new : Post D) → BreaksFrom told state own size m old new → Grows (entries_in old.seat.node) (entries_in new.seat.node)
-  from_breaks m old new it = grows_on (entries_in old.seat.node) (entries_in it.mid.seat.node) (entries_in new.seat.node) (times_grow m it.count old it.mid it.heard) (broken_grows it.mid new it.breaks)
+  from_breaks m old new it = grows_on (entries_in old.seat.node) (entries_in it.mid.seat.node) (entries_in new.seat.node) (times_grow m it.count old it.mid it.heard) (broken_grows m it.mid new it.breaks)
 
   below_breaks : (nodes : ℕ) (old new : Post D) → BreaksBelow told state own size nodes old new → Grows (entries_in old.seat.node) (entries_in new.seat.node)
   below_breaks nodes old new it = grows_on (entries_in old.seat.node) (entries_in it.mid.seat.node) (entries_in new.seat.node) (below_grows it.at old it.mid it.heard) (from_breaks it.at it.mid new it.breaks)

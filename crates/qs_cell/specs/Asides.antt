@@ -1,5 +1,5 @@
 -- A packet that changes its session at most: it is an event all the same, with its number, its stamp and its step.
-use Rattle.std.specs.Prelude.{◌≡◌, false, [], Option, None, Some, List}
+use Rattle.std.specs.Prelude.{◌≡◌, false, [], Option, None, Some}
 use Rattle.qs_book_journal.specs.declared.entry.CrashCause.{CrashCause}
 use Rattle.qs_cell_chronicle.specs.Carried.{Seen, seen}
 use Rattle.qs_cell_chronicle.specs.Chronicle.{noted, crashed}

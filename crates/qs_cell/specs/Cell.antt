@@ -9,12 +9,13 @@ use Rattle.qs_cell_peers.specs.Steps.{Sends}
 use Rattle.qs_disk.specs.Disk.{DiskState}
 use Rattle.qs_disk.specs.Fuse.{FusedValue, GoesOn, fused_count}
 use Rattle.qs_engage.specs.Engage.{last_number}
-use Rattle.qs_node_host.specs.Host.{effects_at, node_after, log_after, IsLogAfter}
+use Rattle.qs_node_host.specs.Host.{effects_at, worked_node, node_after, log_after, IsLogAfter}
 use Rattle.qs_node_host.specs.Roomy.{LacksRoom}
 use Rattle.qs_book_journal.specs.declared.entry.CrashCause.{CrashCause}
 use Rattle.qs_book_journal.specs.declared.entry.CrashCause.TheVariants as causes
 use Rattle.qs_log.specs.Log.{LogValue, Stands}
 use Rattle.qs_book_machine.specs.Clauses.{is_crash}
+use Rattle.qs_node_kept.specs.declared.kept.KeptLabel.{KeptLabel}
 use Rattle.qs_packet.specs.declared.packet.Packet.{Packet}
 use Rattle.qs_node_step.specs.Counted.{is_all_counted}
 use Rattle.qs_node_step.specs.State.{NodeValue}
@@ -42,12 +43,12 @@ begun_past other told = stamped_past other (numbered told)
 abbrev pub begun : Occasion → Told → Told
 begun occasion told = begun_past (stamp_in occasion) told
 
--- the step stands whole, and puts these packets to the links
-abbrev pub stepped : Occasion → ℕ → Effects → List Packet → Seen → Seen
-stepped occasion inc out put s = record s {
+-- the step stands whole, and puts these packets to the links; the node has met these labels then
+abbrev pub stepped : Occasion → ℕ → List KeptLabel → Effects → List Packet → Seen → Seen
+stepped occasion inc labels out put s = record s {
   told = noted (did_of occasion) put out.entries None (begun occasion s.told);
   commands = answered out.answers (taken occasion inc s.commands);
-  points = map (after_entries out.entries) s.points;
+  points = map (after_entries labels out.entries) s.points;
 }
 
 -- ---- why it is not made
@@ -74,17 +75,17 @@ may_make node (occasions.Restarted packet old) = true
 abbrev pub held_back : Bool → Bool → Option CrashCause
 held_back may stops = if may then (if stops then Some causes.Plan else None) else Some (causes.Last last_number)
 
-abbrev pub planned_after : Bool → Effects → Seen → Option CrashCause → Option CrashCause
-planned_after may out s (Some cause) = Some cause
-planned_after may out s None = held_back may (list_any (stops_before out.entries) s.points)
+abbrev pub planned_after : Bool → Bool → Option CrashCause → Option CrashCause
+planned_after may stops (Some cause) = Some cause
+planned_after may stops None = held_back may stops
 
-abbrev pub planned : Occasion → Bool → Effects → Seen → Option CrashCause
-planned occasion may out s = planned_after may out s (ordered occasion s)
+abbrev pub planned : Occasion → Bool → Bool → Seen → Option CrashCause
+planned occasion may stops s = planned_after may stops (ordered occasion s)
 
 -- that line stops the node once
-abbrev pub spent_after : Bool → Effects → Seen → Option CrashCause → List Watched
-spent_after may out s (Some cause) = s.points
-spent_after may out s None = if may then spent out.entries s.points else s.points
+abbrev pub spent_after : Bool → List KeptLabel → Effects → Seen → Option CrashCause → List Watched
+spent_after may labels out s (Some cause) = s.points
+spent_after may labels out s None = if may then spent labels out.entries s.points else s.points
 
 -- a fault of the disk is by plan where the fuse before it tripped, and else the disk's own, whose count of faults rose or stands at its last value;
 -- where neither count tells it, as that of trips stands at its last value, the fuse tripped
@@ -98,13 +99,23 @@ fault_cause own before now =
 abbrev pub out_of : {D F X : Type 0} → ℕ → Occasion → Running D F X → Effects
 out_of size occasion old = effects_at size old.host (event_of occasion)
 
+-- the labels that the node has met once it is worked out
+abbrev pub labels_of : {D F X : Type 0} → ℕ → Occasion → Running D F X → List KeptLabel
+labels_of size occasion old = (worked_node size old.host (event_of occasion)).kept.now.labels
+
+-- a line stops the node in place of it, or right behind it
+abbrev pub is_forestalled : {D F X : Type 0} → ℕ → Occasion → Running D F X → Bool
+is_forestalled size occasion old = list_any (stops_before (labels_of size occasion old) (out_of size occasion old).entries) old.carried.points.items
+
+abbrev pub is_followed : {D F X : Type 0} → ℕ → Occasion → Running D F X → Bool
+is_followed size occasion old = list_any (stops_after (labels_of size occasion old) (out_of size occasion old).entries) old.carried.points.items
+
+abbrev pub planned_for : {D F X : Type 0} → ℕ → Occasion → Running D F X → Option CrashCause
+planned_for size occasion old = planned occasion (may_make old.host.node occasion) (is_forestalled size occasion old) (seen old.carried)
+
 -- no crash is to stand in place of it
 abbrev pub IsUnplanned : {D F X : Type 0} → ℕ → Occasion → Running D F X → Type 0
-IsUnplanned size occasion old = planned occasion (may_make old.host.node occasion) (out_of size occasion old) (seen old.carried) ≡ None
-
--- a line stops the node right behind it
-abbrev pub is_followed : {D F X : Type 0} → ℕ → Occasion → Running D F X → Bool
-is_followed size occasion old = list_any (stops_after (out_of size occasion old).entries) old.carried.points.items
+IsUnplanned size occasion old = planned_for size occasion old ≡ None
 
 -- ---- what it sends
 
@@ -138,7 +149,7 @@ pub record IsWhole {D F X : Type 0} (size : ℕ) (occasion : Occasion) (old new 
   pub node : new.host.node ≡ node_after size old.host (event_of occasion)
   pub log : IsLogAfter (out_of size occasion old) old.host.log new.host.log
   pub answers : said ≡ (out_of size occasion old).answers
-  pub seen : seen new.carried ≡ stepped occasion old.carried.setting.inc (out_of size occasion old) put (seen old.carried)
+  pub seen : seen new.carried ≡ stepped occasion old.carried.setting.inc (labels_of size occasion old) (out_of size occasion old) put (seen old.carried)
   pub setting : new.carried.setting ≡ old.carried.setting
   pub unplanned : IsUnplanned size occasion old
   pub numbered : IsPastLast size occasion old → ⊥
@@ -157,7 +168,7 @@ pub record IsFollowed {D F X : Type 0} (size : ℕ) (occasion : Occasion) (old :
   pub kept : new.kept ≡ (node_after size old.host (event_of occasion)).kept.saved
   pub answers : said ≡ (out_of size occasion old).answers
   pub cause : new.cause ≡ causes.Plan
-  pub seen : seen new.carried ≡ stopped_behind (stepped occasion old.carried.setting.inc (out_of size occasion old) put (seen old.carried))
+  pub seen : seen new.carried ≡ stopped_behind (stepped occasion old.carried.setting.inc (labels_of size occasion old) (out_of size occasion old) put (seen old.carried))
   pub setting : new.carried.setting ≡ old.carried.setting
   pub unplanned : IsUnplanned size occasion old
   pub numbered : IsPastLast size occasion old → ⊥
@@ -167,9 +178,9 @@ pub record IsFollowed {D F X : Type 0} (size : ℕ) (occasion : Occasion) (old :
 
 -- as the script has it, or the last value of the stamp or of a count
 pub record IsAsPlanned {D F X : Type 0} (size : ℕ) (occasion : Occasion) (old : Running D F X) (new : Stopped D) : Type 0 where
-  pub cause : planned occasion (may_make old.host.node occasion) (out_of size occasion old) (seen old.carried) ≡ Some new.cause
+  pub cause : planned_for size occasion old ≡ Some new.cause
   pub commands : new.carried.commands ≡ taken occasion old.carried.setting.inc old.carried.commands
-  pub points : new.carried.points.items ≡ spent_after (may_make old.host.node occasion) (out_of size occasion old) (seen old.carried) (ordered occasion (seen old.carried))
+  pub points : new.carried.points.items ≡ spent_after (may_make old.host.node occasion) (labels_of size occasion old) (out_of size occasion old) (seen old.carried) (ordered occasion (seen old.carried))
 
 -- as a message has no number left, of which the session tells its last value
 pub record IsUnnumbered {D F X : Type 0} (size : ℕ) (occasion : Occasion) (old : Running D F X) (new : Stopped D) : Type 0 where

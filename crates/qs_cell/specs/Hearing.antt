@@ -103,12 +103,13 @@ HearsBelow told state own size (suc m) old new = (mid : Post _) × (HearsBelow t
 
 -- ---- memory was refused
 
--- within a turn: the node is as it was but for room, and a packet may be lost; or the packet was taken in
-abbrev pub BreaksHearing : {D : Type 0} → Type 0 → (D → DiskState) → (D → ℕ) → (D → ℕ) → Post D → Post D → Type 0
-BreaksHearing told state own size old new =
+-- within a turn of node m: the node is as it was but for room, and a packet may be lost; or the next one of those that were carried from there was taken in
+abbrev pub BreaksHearing : {D : Type 0} → Type 0 → (D → DiskState) → (D → ℕ) → (D → ℕ) → ℕ → Post D → Post D → Type 0
+BreaksHearing told state own size m old new =
     visits.IsSameNode old.seat.node new.seat.node
     ⊎ ((ready : CellState _) × (visits.IsSameNode old.seat.node ready
-    × ((packet : Packet) × ((answers : List ClientAnswer) × TakesIn told state own size packet ready new.seat.node answers))))
+    × ((packet : Packet) × (HasTaken m (Some packet) old.links new.links
+    × ((answers : List ClientAnswer) × TakesIn told state own size packet ready new.seat.node answers)))))
 
 -- the turns before it were taken
 pub record BreaksFrom {D : Type 0} (told : Type 0) (state : D → DiskState) (own size : D → ℕ) (m : ℕ) (old new : Post D) : Type 0 where
@@ -116,7 +117,7 @@ pub record BreaksFrom {D : Type 0} (told : Type 0) (state : D → DiskState) (ow
   pub few : count < carried_from old.links m
   pub mid : Post D
   pub heard : HearsTimes told state own size m count old mid
-  pub breaks : BreaksHearing told state own size mid new
+  pub breaks : BreaksHearing told state own size m mid new
 
 pub record BreaksBelow {D : Type 0} (told : Type 0) (state : D → DiskState) (own size : D → ℕ) (nodes : ℕ) (old new : Post D) : Type 0 where
   pub at : ℕ

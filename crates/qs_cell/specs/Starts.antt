@@ -1,5 +1,5 @@
 -- The start of a cell: its node begins with what the log of its disk says.
-use Rattle.std.specs.Prelude.{◌≡◌, ℕ, false, List, [], map, None, Result, Ok, Err}
+use Rattle.std.specs.Prelude.{◌≡◌, ℕ, false, List, [], map, Result, Ok, Err}
 use Rattle.std.specs.Global.{Global}
 use Rattle.qs_base.specs.declared.identifiers.NodeNo.{NodeNo}
 use Rattle.qs_cell_peers.specs.Links.{LinksValue}
@@ -64,7 +64,7 @@ trace_of cell = (carried_of cell.seat.node).chronicle.told.trace
 
 -- a line of the script of which no entry has come
 abbrev pub watched_of : Point → Watched
-watched_of point = record { point = point; tid = None; passed = false }
+watched_of point = record { point = point; passed = false }
 
 abbrev pub seen_first : NodeNo → List ℕ → List Point → Seen
 seen_first node crashes points = record { told = new_told node; commands = []; crashes = crashes; points = map watched_of points }

@@ -211,7 +211,7 @@ impl<D: Disk> NodeCell<D> {
     fn hear_next(&mut self, from: usize) -> Result<(), NoMemory>
         requires { is_peer_of self.old.links from ≡ true }
         ensures hears { OnOk result (Hears D.told D.state D.fault_count D.byte_count from (post_of self.old) (post_of self.new)) }
-        ensures breaks { OnErr result (BreaksHearing D.told D.state D.fault_count D.byte_count (post_of self.old) (post_of self.new)) }
+        ensures breaks { OnErr result (BreaksHearing D.told D.state D.fault_count D.byte_count from (post_of self.old) (post_of self.new)) }
         ensures linked { StayLinked self.old.links self.new.links }
         ensures opened { self.new.opened ≡ self.old.opened }
         ensures faults { self.new.faults ≡ self.old.faults }

@@ -36,6 +36,7 @@ use qs_cell_chronicle::{
 use qs_cell_peers::Sessions;
 use qs_disk::{Disk, Fused};
 use qs_node_host::{Host, HostFault};
+use qs_node_kept::Keeping;
 use qs_node_step::{ClientAnswer, Did, Effects};
 use qs_ops::Server;
 use qs_packet::Packet;
@@ -226,8 +227,12 @@ fn worked_out<D: Disk, F: Server, X: Server>(
     let Ok(out) = work_out(host, &occasion) else {
         return replaced(carried, occasion, CrashCause::Memory);
     };
-    if any_stops_before(out.entries.as_slice(), carried.points.as_slice()) {
-        spend(&mut carried.points, out.entries.as_slice());
+    if any_stops_before(
+        host.kept(),
+        out.entries.as_slice(),
+        carried.points.as_slice(),
+    ) {
+        spend(&mut carried.points, host.kept(), out.entries.as_slice());
         return replaced(carried, occasion, CrashCause::Plan);
     }
     let put = match send(sessions, carried.chronicle.stamp(), &occasion, &out) {
@@ -400,8 +405,9 @@ fn whole<D: Disk, F: Server, X: Server>(
         entries,
         ..
     } = out;
-    let stops = any_stops_after(entries.as_slice(), carried.points.as_slice());
-    note(carried, occasion, answers.as_slice(), put, entries);
+    let kept = host.kept();
+    let stops = any_stops_after(kept, entries.as_slice(), carried.points.as_slice());
+    note(carried, kept, occasion, answers.as_slice(), put, entries);
     if stops {
         carried.chronicle.next_stamp();
         carried.chronicle.note_crash(Did::Nothing, CrashCause::Plan);
@@ -413,6 +419,7 @@ fn whole<D: Disk, F: Server, X: Server>(
 /// What is carried takes a whole step in.
 fn note(
     carried: &mut Carried,
+    kept: &Keeping,
     occasion: Occasion,
     answers: &[ClientAnswer],
     put: List<Packet>,
@@ -424,10 +431,10 @@ fn note(
     ensures room { HasRoom 1 1 carried.new.chronicle }
     ensures commands { carried.new.commands ≡ answered answers.now carried.old.commands }
     ensures crashes { carried.new.crashes ≡ carried.old.crashes }
-    ensures points { carried.new.points.items ≡ map (after_entries entries) carried.old.points.items }
+    ensures points { carried.new.points.items ≡ map (after_entries kept.now.now.labels entries) carried.old.points.items }
     ensures setting { carried.new.setting ≡ carried.old.setting }
 {
-    pass(&mut carried.points, entries.as_slice());
+    pass(&mut carried.points, kept, entries.as_slice());
     answer_all(&mut carried.commands, answers);
     carried.chronicle.note(occasion.into_did(), put, entries);
 }

@@ -145,7 +145,6 @@ fn watch(alloc: Global, points: List<Point>) -> Result<Vec<Watched>, NoMemory>
     for point in points.into_vec() {
         watched.push(Watched {
             point,
-            tid: None,
             passed: false,
         })?;
     }

@@ -166,6 +166,13 @@ impl<F: Server, X: Server> Node<F, X> {
         &self.work.node.setting
     }
 
+    /// What it keeps for its clients.
+    pub fn kept(&self) -> &Keeping
+        ensures { result.now ≡ self.now.kept }
+    {
+        &self.work.node.kept
+    }
+
     /// Whether some queue of this node has an item.
     pub fn queued(&self) -> bool
         ensures { result ≡ ipc.queued self.now.queues }

@@ -25,7 +25,7 @@ use qs_base::{NoMemory, ServerNo};
 use qs_disk::Disk;
 use qs_log::Log;
 use qs_node::{Node, NodeOpen};
-use qs_node_kept::Kept;
+use qs_node_kept::{Keeping, Kept};
 use qs_node_room::Unended;
 use qs_node_step::{Effects, Event, Setting};
 use qs_ops::{Changes, Server};
@@ -201,6 +201,13 @@ impl<D: Disk, F: Server, X: Server> Host<D, F, X> {
         ensures { result.now ≡ self.now.node.setting }
     {
         self.node.setting()
+    }
+
+    /// What the node keeps for its clients.
+    pub fn kept(&self) -> &Keeping
+        ensures { result.now ≡ self.now.node.kept }
+    {
+        self.node.kept()
     }
 
     /// Whether some queue of the node has an item.

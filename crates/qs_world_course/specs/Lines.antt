@@ -5,7 +5,6 @@
 use Rattle.std.specs.Prelude.{◌≡◌, ⊤, ℕ, ◌≤◌, ◌<◌, ◌+◌, Bool, true, not, ◌&&◌, List, [], ◌∷◌, Some, slice_get, if◌then◌else◌}
 use Rattle.std.specs.List.{list_any}
 use Rattle.qs_book_journal.specs.declared.entry.Act.{Act}
-use Rattle.qs_book_machine.specs.Book.{find_label}
 use Rattle.qs_book_conformance.specs.Begun.{mark_of}
 use Rattle.qs_book_conformance.specs.Course.{CourseValue}
 use Rattle.qs_book_conformance.specs.Crashes.{has_line}
@@ -13,6 +12,7 @@ use Rattle.qs_book_conformance.specs.Effects.{has_mark}
 use Rattle.qs_book_conformance.specs.declared.values.NodeCourse.{NodeCourse}
 use Rattle.qs_cell_chronicle.specs.Points.{spent, stops_before}
 use Rattle.qs_cell_chronicle.specs.declared.points.Watched.{Watched}
+use Rattle.qs_node_kept.specs.declared.kept.KeptLabel.{KeptLabel}
 
 abbrev pub one_if : Bool → ℕ
 one_if b = if b then 1 else 0
@@ -33,9 +33,8 @@ abbrev pub past : CourseValue → ℕ → List Watched → ℕ
 past course n [] = 0
 past course n (w ∷ ws) = one_if (is_past course n w) + past course n ws
 
--- each line: its transaction is the one that its label began, and an entry that stands came after the crash before it
+-- each line: an entry that stands came after the crash before it
 pub record HoldsPoint (course : CourseValue) (n : ℕ) (w : Watched) : Type 0 where
-  pub tid : w.tid ≡ find_label course.book w.point.label
   pub before : is_past course n w ≡ true → w.passed ≡ true
   pub after : w.point.after ≡ true → has_mark course (mark_of (record { 0 = n }) w.point) ≡ not w.passed
 
@@ -60,9 +59,9 @@ PlanHasLine = (course : CourseValue) (n used total : ℕ) (ws : List Watched) (n
 -- and in front of an entry that a line names, by which that line is used
 
 abbrev pub BeforeHasLine : Type 0
-BeforeHasLine = (course : CourseValue) (n used total : ℕ) (ws : List Watched) (node : NodeCourse) (entries : List Act) → HoldsStops course n used total ws node
-    → fired (spent entries ws) ≡ fired ws + 1 → has_line node ≡ true
+BeforeHasLine = (course : CourseValue) (n used total : ℕ) (ws : List Watched) (node : NodeCourse) (labels : List KeptLabel) (entries : List Act) → HoldsStops course n used total ws node
+    → fired (spent labels entries ws) ≡ fired ws + 1 → has_line node ≡ true
 
 abbrev pub SpentIsFired : Type 0
-SpentIsFired = (entries : List Act) (ws : List Watched) → list_any (stops_before entries) ws ≡ true
-    → (fired (spent entries ws) ≡ fired ws + 1) × (befores (spent entries ws) ≡ befores ws)
+SpentIsFired = (labels : List KeptLabel) (entries : List Act) (ws : List Watched) → list_any (stops_before labels entries) ws ≡ true
+    → (fired (spent labels entries ws) ≡ fired ws + 1) × (befores (spent labels entries ws) ≡ befores ws)

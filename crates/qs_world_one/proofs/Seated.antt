@@ -2,7 +2,7 @@
 use Rattle.std.proofs.Common.{◌≡◌, ◌⊎◌, ◌∙◌, ap, inl, inr, refl, subst, sym, ℕ, ◌==◌, Bool, true, false, List, Option, Some, None, arith}
 use Rattle.std.proofs.lemmas.Bool.Decides.{nat_tests}
 use Rattle.std.specs.Global.{Global}
-use Rattle.qs_cell.specs.Cell.{IsAsPlanned, IsCutOff, IsFollowed, IsReplaced, IsUnnumbered, IsUnplanned, IsWhole, may_make, out_of}
+use Rattle.qs_cell.specs.Cell.{IsAsPlanned, IsCutOff, IsFollowed, IsReplaced, IsUnnumbered, IsUnplanned, IsWhole, is_forestalled, may_make, out_of}
 use Rattle.qs_cell.specs.Restart.{IsStillDown, inc_of}
 use Rattle.qs_cell.specs.State.{Up}
 use Rattle.qs_cell.specs.Visits.{all_delivered}
@@ -101,7 +101,7 @@ module _ {D : Type 0} (size : ℕ) (source : From) (occasion : Occasion) (old : 
     comes = it.comes;
     served = ap (λ (h : Host). may_serve h.node (source_of occasion)) seat.node.host
         ∙ (serves_as occasion old.host.node
-        ∙ may_be_made (may_make old.host.node occasion) (is_last_past (stamp_in occasion) old.carried.chronicle.told) (is_replaced (counted old.carried.chronicle.told.events) old.carried.crashes) (out_of size occasion old) (seen old.carried) unplanned);
+        ∙ may_be_made (may_make old.host.node occasion) (is_forestalled size occasion old) (is_last_past (stamp_in occasion) old.carried.chronicle.told) (is_replaced (counted old.carried.chronicle.told.events) old.carried.crashes) unplanned);
   }
 
   -- each is answered who has a command in hand, and what waits on is in hand

@@ -55,16 +55,16 @@ pub next_round : (told : Told) → IsNext told (stamped (in_round told))
 next_round told = let next : IsNext (in_round told) (stamped (in_round told)) = next_stamped (in_round told) in record { node = next.node; journal = next.journal; later = next.later; within = next.within }
 
 -- no crash stands in place of an event: its stamp was not the last
-pub not_last : (may at_last replaced : Bool) (out : Effects) (s : Seen) → planned_after may out s (why_not at_last replaced) ≡ None → at_last ≡ false
-not_last may true replaced out s e = absurd (cc e)
-not_last may false replaced out s e = refl
+pub not_last : (may stops at_last replaced : Bool) → planned_after may stops (why_not at_last replaced) ≡ None → at_last ≡ false
+not_last may stops true replaced e = absurd (cc e)
+not_last may stops false replaced e = refl
 
 -- and no count was to rise past its last value
-pub may_be_made : (may at_last replaced : Bool) (out : Effects) (s : Seen) → planned_after may out s (why_not at_last replaced) ≡ None → may ≡ true
-may_be_made may true replaced out s e = absurd (cc e)
-may_be_made may false true out s e = absurd (cc e)
-may_be_made true false false out s e = refl
-may_be_made false false false out s e = absurd (cc e)
+pub may_be_made : (may stops at_last replaced : Bool) → planned_after may stops (why_not at_last replaced) ≡ None → may ≡ true
+may_be_made may stops true replaced e = absurd (cc e)
+may_be_made may stops false true e = absurd (cc e)
+may_be_made true stops false false e = refl
+may_be_made false stops false false e = absurd (cc e)
 
 pub rises : (occasion : Occasion) (told : Told) → is_last_past (stamp_in occasion) told ≡ false → told.stamp < (begun occasion told).stamp
 rises occasion told e = rw e (past told.stamp (stamp_in occasion))

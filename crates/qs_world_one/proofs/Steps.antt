@@ -1,6 +1,6 @@
 -- A whole step of a node is a step of the world of one node that shows it, and a stop right behind it is a move of its own.
 use Rattle.std.proofs.Common.{◌≡◌, ◌∙◌, ap, refl, subst, sym, ℕ, ◌≤◌, Bool, true, false, List, ◌++◌, None}
-use Rattle.qs_cell.specs.Cell.{IsUnplanned, IsWhole, begun, may_make, out_of}
+use Rattle.qs_cell.specs.Cell.{IsUnplanned, IsWhole, begun, is_forestalled, may_make, out_of}
 use Rattle.qs_cell.specs.declared.running.Running.{Running}
 use Rattle.qs_session_channels.specs.Channels.{Channels}
 use Rattle.qs_cell_chronicle.specs.Carried.{Seen, is_replaced, seen}
@@ -41,7 +41,7 @@ nothing_taken world (occasions.Restarted packet old) own = absurd own
 -- a step that is to be made has a later stamp
 pub step_rises : {D F X : Type 0} (size : ℕ) (occasion : Occasion) (old : Running D F X) → IsUnplanned size occasion old → is_last_past (stamp_in occasion) old.carried.chronicle.told ≡ false
 step_rises size occasion old unplanned =
-    not_last (may_make old.host.node occasion) (is_last_past (stamp_in occasion) old.carried.chronicle.told) (is_replaced (counted old.carried.chronicle.told.events) old.carried.crashes) (out_of size occasion old) (seen old.carried) unplanned
+    not_last (may_make old.host.node occasion) (is_forestalled size occasion old) (is_last_past (stamp_in occasion) old.carried.chronicle.told) (is_replaced (counted old.carried.chronicle.told.events) old.carried.crashes) unplanned
 
 module _ {D F X : Type 0} (size : ℕ) (occasion : Occasion) (old : Running D F X) (world : World) (shows : ShowsUp old world) (comes : Comes occasion world) (unplanned : IsUnplanned size occasion old) where
   abbrev told : Told

@@ -1,7 +1,7 @@
 -- Where a node stops, in place of a step, within one or right behind one, the world of one node that shows it stops it with the same stamp.
 use Rattle.std.proofs.Common.{◌≡◌, ◌⊎◌, ◌∙◌, ap, inl, inr, refl, subst, sym, ℕ, ◌+◌, ◌≤◌, ◌==◌, ◌&&◌, Bool, true, false, List, [], ◌∷◌, ◌++◌, Some, None, if◌then◌else◌}
 use Rattle.std.specs.List.{list_any}
-use Rattle.qs_cell.specs.Cell.{IsAsPlanned, IsFaulted, IsRefused, IsUnnumbered, begun, may_make, out_of, planned_after, stepped, why_not}
+use Rattle.qs_cell.specs.Cell.{IsAsPlanned, IsFaulted, IsRefused, IsUnnumbered, begun, is_forestalled, labels_of, may_make, out_of, planned_after, stepped, why_not}
 use Rattle.qs_cell.specs.declared.running.Running.{Running}
 use Rattle.qs_cell.specs.declared.stopped.Stopped.{Stopped}
 use Rattle.qs_cell_chronicle.specs.Carried.{Seen, is_replaced, seen}
@@ -88,27 +88,24 @@ runs_up old world shows = record {
 -- ---- in place of a step
 
 -- what the script or a last value asks for is a cause that histories have
-why_crash : (may at_last replaced : Bool) (out : Effects) (s : Seen) (cause : CrashCause) → planned_after may out s (why_not at_last replaced) ≡ Some cause → is_crash cause ≡ true
-why_crash may true replaced out s cause e = subst (λ (c : CrashCause). is_crash c ≡ true) (one e) refl
+why_crash : (may stops at_last replaced : Bool) (cause : CrashCause) → planned_after may stops (why_not at_last replaced) ≡ Some cause → is_crash cause ≡ true
+why_crash may stops true replaced cause e = subst (λ (c : CrashCause). is_crash c ≡ true) (one e) refl
   where
     one : Some (causes.Last last_stamp) ≡ Some cause → causes.Last last_stamp ≡ cause
     one same = cc same
-why_crash may false true out s cause e = subst (λ (c : CrashCause). is_crash c ≡ true) (one e) refl
+why_crash may stops false true cause e = subst (λ (c : CrashCause). is_crash c ≡ true) (one e) refl
   where
     one : Some causes.Plan ≡ Some cause → causes.Plan ≡ cause
     one same = cc same
-why_crash false false false out s cause e = subst (λ (c : CrashCause). is_crash c ≡ true) (one e) refl
+why_crash false stops false false cause e = subst (λ (c : CrashCause). is_crash c ≡ true) (one e) refl
   where
     one : Some (causes.Last last_number) ≡ Some cause → causes.Last last_number ≡ cause
     one same = cc same
-why_crash true false false out s cause e = by (list_any (stops_before out.entries) s.points) e
+why_crash true true false false cause e = subst (λ (c : CrashCause). is_crash c ≡ true) (one e) refl
   where
-    by : (b : Bool) → (if b then Some causes.Plan else None) ≡ Some cause → is_crash cause ≡ true
-    by true same = subst (λ (c : CrashCause). is_crash c ≡ true) (one same) refl
-      where
-        one : Some causes.Plan ≡ Some cause → causes.Plan ≡ cause
-        one is = cc is
-    by false same = absurd (cc same)
+    one : Some causes.Plan ≡ Some cause → causes.Plan ≡ cause
+    one same = cc same
+why_crash true false false false cause e = absurd (cc e)
 
 pub each_replaced : {D F X : Type 0} (size : ℕ) (occasion : Occasion) (old : Running D F X) (new : Stopped D) (world : World) → ReplacedMoves size occasion old new world
 each_replaced size occasion old new world is shows = record {
@@ -129,7 +126,8 @@ each_replaced size occasion old new world is shows = record {
     crash : (new.cause ≡ causes.Memory) ⊎ (IsAsPlanned size occasion old new ⊎ IsUnnumbered size occasion old new) → is_crash new.cause ≡ true
     crash (inl memory) = rw memory refl
     crash (inr (inr unnumbered)) = subst (λ (c : CrashCause). is_crash c ≡ true) (sym unnumbered.cause) refl
-    crash (inr (inl as_planned)) = why_crash (may_make old.host.node occasion) (is_last_past (stamp_in occasion) told) (is_replaced (counted told.events) old.carried.crashes) (out_of size occasion old) (seen old.carried) new.cause as_planned.cause
+    crash (inr (inl as_planned)) = why_crash (may_make old.host.node occasion) (is_forestalled size occasion old)
+        (is_last_past (stamp_in occasion) told) (is_replaced (counted told.events) old.carried.crashes) new.cause as_planned.cause
 
 -- ---- within a step
 
@@ -186,7 +184,7 @@ each_followed size occasion old new said world is shows comes = record {
     mid_world = steps.after size occasion old world shows comes is.unplanned
 
     mid : Told
-    mid = (stepped occasion old.carried.setting.inc (out_of size occasion old) is.put (seen old.carried)).told
+    mid = (stepped occasion old.carried.setting.inc (labels_of size occasion old) (out_of size occasion old) is.put (seen old.carried)).told
 
     forced : List Record
     forced = (log_after (out_of size occasion old) old.host.log).forced

@@ -1,7 +1,7 @@
 -- An event of a cell that shows in a world: what it makes of the node is a step there.
 use Rattle.std.proofs.Common.{◌≡◌, ◌∙◌, ap, refl, subst, sym, ℕ, ◌≤◌, ◌<◌, Bool, true, List, [], ◌++◌, None, Some, map, if◌then◌else◌}
 use Rattle.std.specs.List.{filter}
-use Rattle.qs_cell.specs.Cell.{IsSent, IsUnplanned, begun, may_make, out_of, ticks}
+use Rattle.qs_cell.specs.Cell.{IsSent, IsUnplanned, begun, is_forestalled, may_make, out_of, ticks}
 use Rattle.qs_cell.specs.declared.running.Running.{Running}
 use Rattle.qs_cell_chronicle.specs.Carried.{is_replaced, seen}
 use Rattle.qs_cell_chronicle.specs.Chronicle.{Told, counted, is_last_past, last_stamp, noted}
@@ -123,7 +123,7 @@ module _ {D F X : Type 0} (o : Opening) (n size : ℕ) (occasion : Occasion) (se
 
     pub above : IsAbove told.stamp (stamp_in occasion) next.stamp
     above = rises (stamp_in occasion) told
-        (not_last (may_make old.host.node occasion) (is_last_past (stamp_in occasion) told) (is_replaced (counted told.events) old.carried.crashes) out (seen old.carried) unplanned)
+        (not_last (may_make old.host.node occasion) (is_forestalled size occasion (with_sessions sessions old)) (is_last_past (stamp_in occasion) told) (is_replaced (counted told.events) old.carried.crashes) unplanned)
 
     pub event_is : world_event world n next.stamp (source_of occasion) ≡ Some (event_of occasion)
     event_is = it.comes next.stamp above.past
@@ -131,7 +131,7 @@ module _ {D F X : Type 0} (o : Opening) (n size : ℕ) (occasion : Occasion) (se
     pub serves : may_serve (world.hosts n).node (source_of occasion) ≡ true
     serves = ap (λ (x : NodeValue). may_serve x (source_of occasion)) node_is
         ∙ (serves_as occasion old.host.node
-        ∙ may_be_made (may_make old.host.node occasion) (is_last_past (stamp_in occasion) told) (is_replaced (counted told.events) old.carried.crashes) out (seen old.carried) unplanned)
+        ∙ may_be_made (may_make old.host.node occasion) (is_forestalled size occasion (with_sessions sessions old)) (is_last_past (stamp_in occasion) told) (is_replaced (counted told.events) old.carried.crashes) unplanned)
 
     -- the node has made the step, and its sessions have sent
     pub record CellStepped (put : List Packet) (left : SessionsValue) : Type 0 where

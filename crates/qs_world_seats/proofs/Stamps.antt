@@ -90,20 +90,20 @@ rises other told e = by (is_last_past other told) e
     }
 
 -- no crash stands in place of an event: its stamp was not the last
-pub not_last : (may at_last replaced : Bool) (out : Effects) (s : Seen) → planned_after may out s (why_not at_last replaced) ≡ None → at_last ≡ false
-not_last may true replaced out s e = absurd (cc e)
-not_last may false replaced out s e = refl
+pub not_last : (may stops at_last replaced : Bool) → planned_after may stops (why_not at_last replaced) ≡ None → at_last ≡ false
+not_last may stops true replaced e = absurd (cc e)
+not_last may stops false replaced e = refl
 
 pub not_last_aside : (at_last replaced : Bool) → why_not at_last replaced ≡ None → at_last ≡ false
 not_last_aside true replaced e = absurd (cc e)
 not_last_aside false replaced e = refl
 
 -- and no count was to rise past its last value
-pub may_be_made : (may at_last replaced : Bool) (out : Effects) (s : Seen) → planned_after may out s (why_not at_last replaced) ≡ None → may ≡ true
-may_be_made may true replaced out s e = absurd (cc e)
-may_be_made may false true out s e = absurd (cc e)
-may_be_made true false false out s e = refl
-may_be_made false false false out s e = absurd (cc e)
+pub may_be_made : (may stops at_last replaced : Bool) → planned_after may stops (why_not at_last replaced) ≡ None → may ≡ true
+may_be_made may stops true replaced e = absurd (cc e)
+may_be_made may stops false true e = absurd (cc e)
+may_be_made true stops false false e = refl
+may_be_made false stops false false e = absurd (cc e)
 
 -- ---- what is told with one more step
 

@@ -6,7 +6,7 @@ use Rattle.qs_book_journal.specs.declared.entry.Act.TheVariants as acts
 use Rattle.qs_book_journal.specs.declared.entry.CrashCause.{CrashCause}
 use Rattle.qs_book_journal.specs.declared.entry.CrashCause.TheVariants as causes
 use Rattle.qs_book_machine.specs.Clauses.{is_crash}
-use Rattle.qs_cell.specs.Cell.{IsAsPlanned, IsFaulted, IsRefused, IsUnnumbered, may_make, out_of, planned_after, why_not}
+use Rattle.qs_cell.specs.Cell.{IsAsPlanned, IsFaulted, IsRefused, IsUnnumbered, is_forestalled, may_make, out_of, planned_after, why_not}
 use Rattle.qs_cell.specs.declared.running.Running.{Running}
 use Rattle.qs_cell.specs.declared.stopped.Stopped.{Stopped}
 use Rattle.qs_cell_chronicle.specs.Carried.{Seen, is_replaced, seen}
@@ -190,9 +190,9 @@ held_crash true true cause e = subst (λ (c : CrashCause). is_crash c ≡ true) 
     one same = cc same
 held_crash true false cause e = absurd (cc e)
 
-planned_crash : (may : Bool) (why : Option CrashCause) (out : Effects) (s : Seen) (cause : CrashCause) → ((c : CrashCause) → why ≡ Some c → is_crash c ≡ true) → planned_after may out s why ≡ Some cause → is_crash cause ≡ true
-planned_crash may None out s cause ordered e = held_crash may (list_any (stops_before out.entries) s.points) cause e
-planned_crash may (Some why) out s cause ordered e = ordered cause e
+planned_crash : (may stops : Bool) (why : Option CrashCause) (cause : CrashCause) → ((c : CrashCause) → why ≡ Some c → is_crash c ≡ true) → planned_after may stops why ≡ Some cause → is_crash cause ≡ true
+planned_crash may stops None cause ordered e = held_crash may stops cause e
+planned_crash may stops (Some why) cause ordered e = ordered cause e
 
 pub each_replaced : {D F X : Type 0} (o : Opening) (n size : ℕ) (occasion : Occasion) (sessions : SessionsValue) (old : Running D F X) (new : Stopped D) (world : PacketWorld) → ReplacedGoesOn o n size occasion sessions old new world
 each_replaced o n size occasion sessions old new world stands is =
@@ -202,8 +202,8 @@ each_replaced o n size occasion sessions old new world stands is =
     crash : (new.cause ≡ causes.Memory) ⊎ (IsAsPlanned size occasion (with_sessions sessions old) new ⊎ IsUnnumbered size occasion (with_sessions sessions old) new) → is_crash new.cause ≡ true
     crash (inl memory) = rw memory refl
     crash (inr (inr unnumbered)) = subst (λ (c : CrashCause). is_crash c ≡ true) (sym unnumbered.cause) refl
-    crash (inr (inl as_planned)) = planned_crash (may_make old.host.node occasion)
-        (why_not (is_last_past (stamp_in occasion) old.carried.chronicle.told) (is_replaced (counted old.carried.chronicle.told.events) old.carried.crashes)) (out_of size occasion old) (seen old.carried) new.cause
+    crash (inr (inl as_planned)) = planned_crash (may_make old.host.node occasion) (is_forestalled size occasion (with_sessions sessions old))
+        (why_not (is_last_past (stamp_in occasion) old.carried.chronicle.told) (is_replaced (counted old.carried.chronicle.told.events) old.carried.crashes)) new.cause
         (why_crash (is_last_past (stamp_in occasion) old.carried.chronicle.told) (is_replaced (counted old.carried.chronicle.told.events) old.carried.crashes)) as_planned.cause
 
 -- ---- within a step

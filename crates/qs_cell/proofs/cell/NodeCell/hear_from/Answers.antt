@@ -1,5 +1,4 @@
-use Rattle.std.proofs.Common.{◌≡◌, ◌∙◌, ap, arith, refl, subst, ℕ}
-use Rattle.qs_cell.specs.Hearing.{HearsTimes}
+use Rattle.std.proofs.Common.{◌∙◌, ap, refl}
 use Rattle.qs_cell.specs.Starts.{post_of}
 use Rattle.qs_cell_peers.specs.Links.{carried_from}
 use Rattle.qs_cell.proofs.HearingTurns.{from_breaks, peer_by, peer_still, times_more}

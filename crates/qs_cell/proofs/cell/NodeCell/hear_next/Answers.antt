@@ -106,5 +106,8 @@ returns-clause-breaks g c =
     let before : Post g.row.D.Denot = record { seat = record { node = c.self.inside.state; ends = c.self.inside.ends.items }; links = c.self.inside.links } in
     let after : Post g.row.D.Denot = record { seat = record { node = c.hear-answers.new.self; ends = c.deliver_all.new.ends.items }; links = c.take_carried.new.self } in
     on_err_all c.deliver_all.result
-    (subst (λ (old : Post g.row.D.Denot). BreaksHearing g.D.Disk.told g.D.Disk.state g.D.Disk.fault_count g.D.Disk.byte_count old after) (ap (λ cell. post_of cell) c.self.view_is)
-    (hearing_breaks g.D.Disk.told g.D.Disk.state g.D.Disk.fault_count g.D.Disk.byte_count before after c.make_room.new.self c.in-Some.packet c.hear-answers.result c.make_room.ensures.same c.hear-answers.ensures.takes))
+    (subst (λ (old : Post g.row.D.Denot). BreaksHearing g.D.Disk.told g.D.Disk.state g.D.Disk.fault_count g.D.Disk.byte_count c.args.from old after) (ap (λ cell. post_of cell) c.self.view_is)
+    (hearing_breaks g.D.Disk.told g.D.Disk.state g.D.Disk.fault_count g.D.Disk.byte_count c.args.from before after c.make_room.new.self c.in-Some.packet c.hear-answers.result c.make_room.ensures.same
+    (has_taken c.args.from c.take_carried.result (Some c.in-Some.packet) c.self.inside.links c.take_carried.new.self (c.in_ok-packet.was ∙ ap Ok c.in-Some.is) c.take_carried.ensures.same c.take_carried.ensures.out
+    c.take_carried.ensures.others c.take_carried.ensures.took c.take_carried.ensures.ring c.take_carried.ensures.none)
+    c.hear-answers.ensures.takes))

@@ -1,5 +1,3 @@
-use Rattle.std.proofs.Common.{◌∙◌, subst, sym}
-use Rattle.qs_cell.specs.State.{LogStands}
 use Rattle.qs_cell.proofs.Hearing.{heard_stands}
 use Rattle.qs_cell.proofs.state.CellState.hear.Goals as goal
 
