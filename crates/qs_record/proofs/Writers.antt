@@ -1,8 +1,8 @@
 -- What writers that run one after the other add.
-use Rattle.std.proofs.Common.{◌≡◌, ℕ, List, [], ◌∷◌, ◌++◌, length, take, map, get_or, ◌<◌, ◌+◌, subst, true, Result, OnOk, refl, ap, ◌∙◌, sym, append_assoc, append-nil}
+use Rattle.std.proofs.Common.{◌≡◌, ℕ, List, [], ◌∷◌, ◌++◌, length, take, map, get_or, ◌<◌, ◌+◌, subst, true, Result, OnOk, OnErr, refl, ap, ◌∙◌, sym, append_assoc, append-nil}
 use Rattle.std.proofs.Math.Seq.{take-append_seam}
 use Rattle.std.proofs.lemmas.List.{take_more, map-append}
-use Rattle.std.proofs.lemmas.Result.{on_ok_weaker}
+use Rattle.std.proofs.lemmas.Result.{on_ok_weaker, on_err_weaker}
 use Rattle.qs_base.specs.declared.identifiers.NodeNo.{NodeNo}
 use Rattle.qs_base.specs.declared.identifiers.ServerNo.{ServerNo}
 use Rattle.qs_base.specs.declared.identifiers.Tid.{Tid}
@@ -30,6 +30,9 @@ adds_grows p = record { part = p.part; added = p.added }
 
 pub field_grows : {f : Field} {a b : List ℕ} → Appends f a b → Grows a b
 field_grows p = record { part = p.part; added = p.added }
+
+pub behind_grows : {E : Type 0} (result : Result (Unit {0}) E) {P : List ℕ → Type 0} (a b c : List ℕ) → Adds P a b → OnErr result (Grows b c) → OnErr result (Grows a c)
+behind_grows result a b c p q = on_err_weaker result (grows_more a b c (adds_grows p)) q
 
 -- what stood before is its front
 pub grown_front : (a b : List ℕ) → Grows a b → take (length a) b ≡ a

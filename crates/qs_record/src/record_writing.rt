@@ -37,7 +37,6 @@ pub fn length(rec: &Record) -> u64
 }
 
 // Adds a record, or a front of it where memory is refused.
-#[tactic(auto, using(crate::proofs::Writers::commit_added, crate::proofs::Writers::prepare_added))]
 fn add_record(out: &mut List<u8>, rec: &Record) -> Result<(), NoMemory>
     requires { IsRecord rec.now }
     ensures ok { OnOk result (Adds (SpellsRecord rec.now) out.old out.new) }
