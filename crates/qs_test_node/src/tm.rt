@@ -31,16 +31,25 @@ fn files_at(node: NodeNo) -> Member {
 #[test]
 fn a_transaction_needs_room(rt: HostRuntime) -> Result<(), Fail> {
     let mut manager = Manager::new(rt.alloc(), HOME, 1, 0, 128);
-    let full = BeginFault::LogFull {
-        need: 128,
-        room: 72,
-    };
-    assert!(rt; manager.begin(ClientNo(0), 72) == Err(full));
-    assert!(rt; manager.begin(ClientNo(0), 128) == Ok(FIRST));
-    let is_right = needs(&mut manager);
+    let is_right = begins_with_room(&mut manager);
     drop(manager);
     assert!(rt; is_right?);
     Ok(())
+}
+
+fn begins_with_room(manager: &mut Manager) -> Result<bool, Fail>
+    requires extra { manager.old.extra ≤ 8 }
+    requires keep { manager.old.keep ≤ 144 }
+{
+    let is_full = matches!(
+        manager.begin(ClientNo(0), 72),
+        Err(BeginFault::LogFull {
+            need: 128,
+            room: 72
+        })
+    );
+    let has_begun = manager.begin(ClientNo(0), 128).ok() == Some(FIRST);
+    Ok(is_full && has_begun && needs(manager)?)
 }
 
 // What its Commit needs, with node 1 to be told.
@@ -55,7 +64,7 @@ fn needs(manager: &mut Manager) -> Result<bool, Fail>
 
 // A request goes to node 1, one is served here, and the owner asks for the commit.
 fn is_asked(manager: &mut Manager) -> Result<bool, Fail> {
-    let is_sent = manager.begin(ClientNo(0), 128) == Ok(FIRST)
+    let is_sent = manager.begin(ClientNo(0), 128).ok() == Some(FIRST)
         && manager.sent(FIRST, OTHER) == Some(1);
     let request = Outstanding {
         issuer: ServerNo(32),

@@ -21,7 +21,7 @@ const LAST_NUMBER: u32 = 4_294_967_295;
 const COMMIT_FRAME: u64 = 41 + 15;
 
 /// Why no transaction can begin.
-#[derive(Clone, Copy, PartialEq, Eq)]
+#[derive(Clone, Copy)]
 pub enum BeginFault {
     /// The log has no room for its records: `need` bytes are to be kept free for them, and `room` are.
     LogFull { need: u64, room: u64 },
@@ -450,10 +450,11 @@ impl Manager {
         ensures { IfOk result (λ made. made ≡ decision tid outcome self.now) }
     {
         match self.known.get(&tid) {
-            Some(part) => Ok(Decision {
-                rec: part.record_of(self.alloc, tid, outcome)?,
-                tell: part.tell_of(outcome).listed(self.alloc)?,
-            }),
+            Some(part) => {
+                let tell = part.tell_of(outcome).listed(self.alloc)?;
+                let rec = part.record_of(self.alloc, tid, outcome)?;
+                Ok(Decision { rec, tell })
+            }
             None => Ok(Decision {
                 rec: None,
                 tell: List::new(self.alloc),
