@@ -19,27 +19,35 @@ struct Node {
 
 impl Node {
     fn takes(&mut self) -> Option<u32> {
-        self.commands.take().map(|line| line.line)
+        let line = self.commands.take()?;
+        let number = line.line;
+        drop(line);
+        Some(number)
     }
 
     fn answer(&mut self, line: u32) {
         let answer = Answer::Done;
-        let _put = self.answers.put(LineAnswer { line, answer });
+        drop(self.answers.put(LineAnswer { line, answer }));
         self.answers.push_all();
+    }
+}
+
+fn line_of(line: u32, label: Bytes, command: Command) -> ScriptLine {
+    ScriptLine {
+        client: ClientNo(0),
+        line,
+        label,
+        command,
     }
 }
 
 // A begin at line 2 and a commit at line 3.
 fn lines(alloc: Global) -> Result<List<ScriptLine>, NoMemory> {
     let mut lines = List::new(alloc);
-    for (line, command) in [(2, Command::Begin), (3, Command::Commit)] {
-        lines.push(ScriptLine {
-            client: ClientNo(0),
-            line,
-            label: Bytes::from_slice(alloc, b"a")?,
-            command,
-        })?;
-    }
+    let label = Bytes::from_slice(alloc, b"a")?;
+    lines.push(line_of(2, label, Command::Begin))?;
+    let label = Bytes::from_slice(alloc, b"a")?;
+    lines.push(line_of(3, label, Command::Commit))?;
     Ok(lines)
 }
 
@@ -107,7 +115,7 @@ fn visits_on(client: &mut ClientCell, node: &mut Node) -> Result<bool, NoMemory>
 {
     let has_sent = client.visit()?;
     let answer = Answer::Done;
-    let _put = node.answers.put(LineAnswer { line: 2, answer });
+    drop(node.answers.put(LineAnswer { line: 2, answer }));
     let is_answered = carry(&mut node.answers, client.answers())? == 1;
     let has_gone_on = client.visit()? && client.at() == Some(3);
     let has_come = carry(client.commands(), &mut node.commands)? == 2;
