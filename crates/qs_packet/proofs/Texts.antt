@@ -4,7 +4,7 @@ use Rattle.std.proofs.lemmas.List.{map-append}
 use Rattle.std.proofs.lemmas.List.Elements.{All-append, All-from_recursion}
 use Rattle.qs_codec.specs.declared.fault.CodecFault.{CodecFault}
 use Rattle.qs_codec.specs.Grammar.{Text, Word, Spells}
-use Rattle.qs_codec.specs.Reading.{Reading, text_at}
+use Rattle.qs_codec.specs.Reading.{Reading, Reads, text_at}
 use Rattle.qs_ops.specs.Spelled.{IsText}
 use Rattle.qs_packet.specs.Grammar.{AWord, AText, Texts, SpellsPart}
 use Rattle.qs_packet.specs.Reading.{TakesPart, TakesTexts, texts_behind}
@@ -86,3 +86,8 @@ texts_taken limit count (Ok texts) a b c below counted behind =
           (takes_joined (Spells (Word (length texts))) (SpellsAll (map Text texts)) a b c head behind.taken);
     }
 texts_taken limit count (Err e) a b c below counted behind = tt
+
+-- a text that fits was taken
+pub text_taken : (limit : ℕ) {text : List ℕ} {a b : Reading} → length text ≤ limit → Reads (Text text) a b → TakesPart (AText limit text) a b
+text_taken limit fits r =
+    record { taken = record { part = r.part; spelled = (record { fits = fits; each = r.spelled.each }, r.spelled); whole = r.whole; moved = r.moved } }

@@ -69,18 +69,14 @@ pub(crate) fn take_cause(source: &mut Source<'_>) -> Result<Cause, RecordFault>
 }
 
 // The fields of a cause behind its tag, which stood at that place.
-#[tactic(auto, using(crate::proofs::Messages::asked_taken, crate::proofs::Messages::voted_taken, crate::proofs::Messages::gone_taken, crate::proofs::Messages::home_taken, crate::proofs::Messages::room_taken, crate::proofs::Messages::old_taken), unfolding(crate::specs::Reading::cause_behind, crate::specs::Reading::voted_at, crate::specs::Reading::gone_at, crate::specs::Reading::home_at, crate::specs::Reading::old_at, crate::specs::Reading::two_numbers_at))]
+#[tactic(auto, using(crate::proofs::Messages::asked_taken, crate::proofs::Messages::gone_taken, crate::proofs::Messages::home_taken, crate::proofs::Messages::room_taken, crate::proofs::Messages::old_taken), unfolding(crate::specs::Reading::cause_behind, crate::specs::Reading::gone_at, crate::specs::Reading::home_at, crate::specs::Reading::old_at, crate::specs::Reading::two_numbers_at))]
 fn cause_behind(source: &mut Source<'_>, at: u64, tag: u8) -> Result<Cause, RecordFault>
     ensures exact { FindsIfRoom result source.new (cause_behind at tag source.old) }
     ensures value { IfOk result (λ cause. TakesBehind tag (cause_parts cause) source.old source.new) }
 {
     match tag {
         tag::ASKED => Ok(Cause::Asked),
-        tag::VOTED => {
-            let member = source.member()?;
-            let reason = take_reason(source)?;
-            Ok(Cause::Voted { member, reason })
-        }
+        tag::VOTED => take_voted(source),
         tag::GONE => {
             let node = source.node()?;
             let inc = source.number()?;
@@ -101,6 +97,17 @@ fn cause_behind(source: &mut Source<'_>, at: u64, tag: u8) -> Result<Cause, Reco
         }
         _ => Err(bad_tag(at, tag)),
     }
+}
+
+// The fields of a cause that was voted.
+#[tactic(auto, using(crate::proofs::Messages::voted_taken), unfolding(crate::specs::Reading::voted_at))]
+fn take_voted(source: &mut Source<'_>) -> Result<Cause, RecordFault>
+    ensures exact { FindsIfRoom result source.new (voted_at source.old) }
+    ensures value { IfOk result (λ cause. TakesBehind 2 (cause_parts cause) source.old source.new) }
+{
+    let member = source.member()?;
+    let reason = take_reason(source)?;
+    Ok(Cause::Voted { member, reason })
 }
 
 // A reason.

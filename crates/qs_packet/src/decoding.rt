@@ -33,6 +33,7 @@ pub fn decode_packet(alloc: Global, bytes: &[u8]) -> Result<Packet, PacketFault>
     let mut source = Source::new(alloc, bytes);
     let packet = take_packet(&mut source)?;
     if source.left() > 0 {
+        drop(packet);
         return Err(PacketFault::Trailing { at: source.place() });
     }
     Ok(packet)
