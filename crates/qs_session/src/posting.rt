@@ -14,7 +14,6 @@ use qs_base::{GrowFault, List, NoMemory, Stamp};
 use qs_packet::{Message, Packet};
 
 /// Sends a message: the packet to put on the link, where one goes, has a spelling.
-#[tactic(auto, using(crate::proofs::Posts::post_spelled, crate::proofs::Spelling::spelled_packet))]
 pub fn post(
     session: &mut Session,
     message: Message,

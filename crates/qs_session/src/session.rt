@@ -82,16 +82,23 @@ impl Session {
     {
         let before = self.acked + self.kept.len() as u64;
         if before == LAST {
+            discard(message);
             return Err(GrowFault::Last { value: LAST });
         }
         if self.known == 0 {
             push(&mut self.kept, message)?;
             return Ok(None);
         }
-        let copy = message.copy()?;
-        push(&mut self.kept, copy)?;
-        self.owed = false;
-        Ok(Some(self.packet(self.known, before + 1, stamp, message)))
+        match push_copy(&mut self.kept, &message) {
+            Ok(()) => {
+                self.owed = false;
+                Ok(Some(self.packet(self.known, before + 1, stamp, message)))
+            }
+            Err(NoMemory) => {
+                discard(message);
+                Err(GrowFault::NoMemory)
+            }
+        }
     }
 
     /// Takes a packet from the peer to this node, and answers the first that holds of it: see `Taken`.
@@ -258,6 +265,14 @@ fn push(kept: &mut VecDeque<Message>, message: Message) -> Result<(), NoMemory>
 {
     kept.push_back(message)?;
     Ok(())
+}
+
+fn push_copy(kept: &mut VecDeque<Message>, message: &Message) -> Result<(), NoMemory>
+    ensures ok { OnOk result (kept.new.items ≡ kept.old.items ++ message.now ∷ []) }
+    ensures err { OnErr result (kept.new.items ≡ kept.old.items) }
+{
+    let copy = message.copy()?;
+    push(kept, copy)
 }
 
 /// Drops the first messages, and says how many.
