@@ -1,6 +1,6 @@
 //! The acts that words spell.
-ghost use Rattle.std.specs.Prelude.{◌≡◌, IfOk, map};
-ghost use Rattle.qs_text_history.specs.Inner.Acts.{begin_of, counted_of, ending_of, learn_of, ask_of, loan_of, yield_of, tick_of, crash_act, issue_of, serve_of, serve_with, answer_with, voted, refusal_act, ballot_act, vote_of, committed, aborted, decide_of, answer_act, member_act, short_act, either, act_of, entry_of, entry_with};
+ghost use Rattle.std.specs.Prelude.{◌≡◌, Some, IfOk, map};
+ghost use Rattle.qs_text_history.specs.Inner.Acts.{begin_of, counted_of, ending_of, learn_of, ask_of, loan_of, yield_of, tick_of, crash_act, issue_of, serve_of, serve_with, answer_with, voted, refusal_act, ballot_act, vote_of, committed, aborted, decide_of, answer_act, member_act, short_act, act_of, entry_of, entry_with};
 ghost use Rattle.qs_text_history.specs.Inner.Begun.{holder_by};
 ghost use Rattle.qs_text_history.specs.Inner.Lifts.{lift5};
 
@@ -30,16 +30,17 @@ pub fn entry_of(
     let [stamp, node, act @ ..] = words else {
         return Ok(None);
     };
+    let (Some(stamp), Some(node)) = (u64_of(*stamp), u8_of(*node)) else {
+        return Ok(None);
+    };
     let act = act_of(alloc, begun, act)?;
-    Ok(entry_with(u64_of(*stamp), u8_of(*node), act))
+    Ok(entry_with(stamp, node, act))
 }
 
 /// The entry of these.
-fn entry_with(stamp: Option<u64>, node: Option<u8>, act: Option<Act>) -> Option<Entry>
-    ensures { result ≡ entry_with stamp node act }
+fn entry_with(stamp: u64, node: u8, act: Option<Act>) -> Option<Entry>
+    ensures { result ≡ entry_with (Some stamp) (Some node) act }
 {
-    let stamp = stamp?;
-    let node = node?;
     let act = act?;
     Some(Entry {
         stamp,
@@ -59,18 +60,9 @@ fn act_of(alloc: Global, begun: &BegunLabels, words: &[&[u8]]) -> Result<Option<
     if is(*word, "answer") {
         return answer_act(alloc, begun, rest);
     }
-    let act = short_act(alloc, *word, rest)?;
-    let other = member_act(alloc, *word, rest)?;
-    Ok(either(act, other))
-}
-
-/// The one, or else the other.
-fn either(act: Option<Act>, other: Option<Act>) -> Option<Act>
-    ensures { result ≡ either act other }
-{
-    match act {
-        Some(act) => Some(act),
-        None => other,
+    match short_act(alloc, *word, rest)? {
+        Some(act) => Ok(Some(act)),
+        None => member_act(alloc, *word, rest),
     }
 }
 
@@ -264,30 +256,22 @@ fn issue_of(alloc: Global, words: &[&[u8]]) -> Result<Option<Act>, NoMemory>
     let [tid, issuer, member, number, op @ ..] = words else {
         return Ok(None);
     };
-    let op = op_of(alloc, op)?;
-    Ok(issue_with(
+    let (Some(tid), Some(issuer), Some(member), Some(number)) = (
         tid_of(*tid),
         member_of(*issuer),
         member_of(*member),
         u32_of(*number),
-        op,
-    ))
+    ) else {
+        return Ok(None);
+    };
+    let op = op_of(alloc, op)?;
+    Ok(issue_with(tid, issuer, member, number, op))
 }
 
 /// The issue of these.
-fn issue_with(
-    tid: Option<Tid>,
-    issuer: Option<Member>,
-    member: Option<Member>,
-    number: Option<u32>,
-    op: Option<Op>,
-) -> Option<Act>
-    ensures { result ≡ lift5 Act.Issue tid issuer member number op }
+fn issue_with(tid: Tid, issuer: Member, member: Member, number: u32, op: Option<Op>) -> Option<Act>
+    ensures { result ≡ lift5 Act.Issue (Some tid) (Some issuer) (Some member) (Some number) op }
 {
-    let tid = tid?;
-    let issuer = issuer?;
-    let member = member?;
-    let number = number?;
     let op = op?;
     Some(Act::Issue {
         tid,
@@ -306,30 +290,22 @@ fn serve_of(alloc: Global, words: &[&[u8]]) -> Result<Option<Act>, NoMemory>
     let [tid, member, from, number, reply @ ..] = words else {
         return Ok(None);
     };
-    let reply = reply_of(alloc, reply)?;
-    Ok(serve_with(
+    let (Some(tid), Some(member), Some(from), Some(number)) = (
         tid_of(*tid),
         member_of(*member),
         u8_of(*from),
         u32_of(*number),
-        reply,
-    ))
+    ) else {
+        return Ok(None);
+    };
+    let reply = reply_of(alloc, reply)?;
+    Ok(serve_with(tid, member, from, number, reply))
 }
 
 /// The serve of these.
-fn serve_with(
-    tid: Option<Tid>,
-    member: Option<Member>,
-    from: Option<u8>,
-    number: Option<u32>,
-    reply: Option<Reply>,
-) -> Option<Act>
-    ensures { result ≡ serve_with tid member from number reply }
+fn serve_with(tid: Tid, member: Member, from: u8, number: u32, reply: Option<Reply>) -> Option<Act>
+    ensures { result ≡ serve_with (Some tid) (Some member) (Some from) (Some number) reply }
 {
-    let tid = tid?;
-    let member = member?;
-    let from = from?;
-    let number = number?;
     let reply = reply?;
     Some(Act::Serve {
         tid,
@@ -392,10 +368,11 @@ fn refusal_act(
 fn voted(tid: &[u8], member: &[u8], vote: Option<Vote>, covers: &[u8]) -> Option<Act>
     ensures { result ≡ voted tid.now member.now vote covers.now }
 {
-    let tid = tid_of(tid)?;
-    let member = member_of(member)?;
+    let (Some(tid), Some(member), Some(covers)) = (tid_of(tid), member_of(member), u32_of(covers))
+    else {
+        return None;
+    };
     let vote = vote?;
-    let covers = u32_of(covers)?;
     Some(Act::Vote {
         tid,
         member,
@@ -458,16 +435,17 @@ fn answer_act(alloc: Global, begun: &BegunLabels, words: &[&[u8]]) -> Result<Opt
     let [client, line, answer @ ..] = words else {
         return Ok(None);
     };
+    let (Some(client), Some(line)) = (u8_of(*client), u32_of(*line)) else {
+        return Ok(None);
+    };
     let answer = answer_of(alloc, begun, answer)?;
-    Ok(answer_with(u8_of(*client), u32_of(*line), answer))
+    Ok(answer_with(client, line, answer))
 }
 
 /// The answer of these.
-fn answer_with(client: Option<u8>, line: Option<u32>, answer: Option<Answer>) -> Option<Act>
-    ensures { result ≡ answer_with client line answer }
+fn answer_with(client: u8, line: u32, answer: Option<Answer>) -> Option<Act>
+    ensures { result ≡ answer_with (Some client) (Some line) answer }
 {
-    let client = client?;
-    let line = line?;
     let answer = answer?;
     Some(Act::Answer {
         client: ClientNo(client),

@@ -1,5 +1,5 @@
 //! What a restart found, as words spell it.
-ghost use Rattle.std.specs.Prelude.{◌≡◌, ◌≤◌, IfOk, map, take, drop, length};
+ghost use Rattle.std.specs.Prelude.{◌≡◌, ◌≤◌, Some, IfOk, map, take, drop, length};
 ghost use Rattle.std.specs.List.{position};
 ghost use Rattle.qs_text_history.specs.Inner.Acts.{restart_of, restart_with, all_of, done_place};
 ghost use Rattle.qs_text_history.specs.Inner.Words.{found_of, done_of, is_done};
@@ -18,17 +18,19 @@ pub fn restart_of(alloc: Global, words: &[&[u8]]) -> Result<Option<Act>, NoMemor
     let [inc, found @ ..] = words else {
         return Ok(None);
     };
+    let Some(inc) = u64_of(*inc) else {
+        return Ok(None);
+    };
     let (pend, done) = split(found);
     let pend = all_found(alloc, pend)?;
     let done = all_done(alloc, done)?;
-    Ok(restart_with(u64_of(*inc), pend, done))
+    Ok(restart_with(inc, pend, done))
 }
 
 /// The restart of these.
-fn restart_with(inc: Option<u64>, pend: Option<List<Found>>, done: Option<List<Tid>>) -> Option<Act>
-    ensures { result ≡ restart_with inc pend done }
+fn restart_with(inc: u64, pend: Option<List<Found>>, done: Option<List<Tid>>) -> Option<Act>
+    ensures { result ≡ restart_with (Some inc) pend done }
 {
-    let inc = inc?;
     let pend = pend?;
     let done = done?;
     Some(Act::Restart { inc, pend, done })
