@@ -4,6 +4,8 @@ ghost use Rattle.std.specs.Option.{option_copied, option_to_list};
 ghost use Rattle.qs_base.specs.declared.identifiers.Tid.{Tid};
 ghost use Rattle.qs_text_history.specs.Begun.{begun_as, begins_by, or_else};
 ghost use Rattle.qs_text_history.specs.Inner.Begun.{label_in, tid_in, holder_by};
+ghost use Rattle.qs_text_history.specs.Inner.Said.{said_of};
+ghost use Rattle.qs_text_history.specs.Inner.Words.{words_of};
 ghost use Rattle.qs_text_history.specs.Inner.Reader.{reading_of, Knows, taken, read_line, after_line};
 ghost use Rattle.qs_text_history.specs.Reading.{at_start, may_follow, may_go_on, current_may, rises, rises_above, read_after, gone_on, current_after, opening, is_open, opened_of};
 
@@ -51,15 +53,23 @@ impl HistoryReader {
         ensures read { IfOk result (λ taken. read_line (holder_by self.old.begun) (reading_of self.old) line.now ≡ after_line taken (reading_of self.new)) }
         ensures knows { Knows self.old.begun self.old.entries → IfOk result (λ taken. taken ≡ true → Knows self.new.begun self.new.entries) }
     {
-        let words = words_of(alloc, line)?;
-        let Some(said) = said_of(alloc, &self.begun, words.as_slice())? else {
+        let Some(said) = self.said_by(alloc, line)? else {
             return Ok(false);
         };
         if !self.allows(&said) {
+            drop(said);
             return Ok(false);
         }
         self.take(alloc, said)?;
         Ok(true)
+    }
+
+    /// What a line says here.
+    fn said_by(&self, alloc: Global, line: &[u8]) -> Result<Option<Said>, NoMemory>
+        ensures { IfOk result (λ said. said ≡ said_of (holder_by self.now.begun) (words_of line.now)) }
+    {
+        let words = words_of(alloc, line)?;
+        said_of(alloc, &self.begun, words.as_slice())
     }
 
     /// Whether each node was read.
@@ -98,12 +108,26 @@ impl HistoryReader {
                 self.current = Some(opening(alloc, inc, format));
                 Ok(())
             }
-            Said::Line { entry } => {
-                close(&mut self.done, &mut self.current)?;
-                note_begin(&mut self.begun, &entry.act)?;
-                self.entries.push(entry)
-            }
+            Said::Line { entry } => self.take_entry(entry),
             other => go_on(&mut self.current, other),
+        }
+    }
+
+    /// Takes in an entry that may stand next.
+    fn take_entry(&mut self, entry: Entry) -> Result<(), NoMemory>
+        ensures read { OnOk result (reading_of self.new ≡ read_after (reading_of self.old) (Said.Line entry)) }
+        ensures knows { Knows self.old.begun self.old.entries → OnOk result (Knows self.new.begun self.new.entries) }
+    {
+        if let Err(refused) = close(&mut self.done, &mut self.current) {
+            drop(entry);
+            return Err(refused);
+        }
+        match note_begin(&mut self.begun, &entry.act) {
+            Ok(()) => self.entries.push(entry),
+            Err(refused) => {
+                drop(entry);
+                Err(refused)
+            }
         }
     }
 }
@@ -194,7 +218,10 @@ fn go_on(current: &mut Option<Opened>, said: Said) -> Result<(), NoMemory>
 {
     match current.as_mut() {
         Some(node) => add(node, said),
-        None => Ok(()),
+        None => {
+            drop(said);
+            Ok(())
+        }
     }
 }
 
@@ -207,7 +234,10 @@ fn add(node: &mut Opened, said: Said) -> Result<(), NoMemory>
         Said::Note { text } => node.audit.push(text),
         Said::Item { text } => node.extra.push(text),
         Said::Commit { tid } => node.committed.push(tid),
-        _ => Ok(()),
+        other => {
+            drop(other);
+            Ok(())
+        }
     }
 }
 

@@ -5,7 +5,7 @@ ghost use Rattle.qs_book_machine.specs.declared.opened.Opened.{Opened};
 ghost use Rattle.qs_book_script.specs.Lines.{lines_of};
 ghost use Rattle.qs_text_history.specs.Journal.{IsFault, IsJournal, opening_lines};
 ghost use Rattle.qs_text_history.specs.Inner.Read.{IsRead};
-ghost use Rattle.qs_text_history.specs.Inner.Reader.{reading_of};
+ghost use Rattle.qs_text_history.specs.Inner.Reader.{reading_of, Knows};
 ghost use Rattle.qs_text_history.specs.Reading.{at_start, opened_of, Reads};
 
 use crate::journal::Journal;
@@ -62,9 +62,9 @@ fn read_whole(alloc: Global, text: &[u8]) -> Result<Journal, JournalFailed>
 {
     let read = read_lines(alloc, text)?;
     if !read.reader.is_open() {
-        return Err(JournalFailed::Fault {
-            line: read.count + 1,
-        });
+        let line = read.count + 1;
+        drop(read);
+        return Err(JournalFailed::Fault { line });
     }
     let journal = finish(read)?;
     Ok(journal)
@@ -78,14 +78,20 @@ fn finish(read: ReadLines) -> Result<Journal, NoMemory>
     ensures entries { IfOk result (λ journal. journal.entries ≡ read.reader.entries) }
     ensures first { IfOk result (λ journal. journal.first + length read.reader.entries ≡ read.count + 1) }
 {
-    let ReadLines { reader, count } = read;
+    let ReadLines { mut reader, count } = read;
+    if let Err(refused) = close(&mut reader.done, &mut reader.current) {
+        drop(reader);
+        return Err(refused);
+    }
     let HistoryReader {
-        mut done,
-        mut current,
+        done,
+        current,
         entries,
+        begun,
         ..
     } = reader;
-    close(&mut done, &mut current)?;
+    drop(current);
+    drop(begun);
     let first = count - entries.len() as u32 + 1;
     Ok(Journal {
         opened: done,
@@ -113,6 +119,27 @@ pub fn read_lines(alloc: Global, text: &[u8]) -> Result<ReadLines, JournalFailed
     ensures fault { (line : ℕ) → IsErrOf result (JournalFailed.Fault line) → IsFault text.now line }
 {
     let mut reader = HistoryReader::new(alloc);
+    match read_on(alloc, &mut reader, text) {
+        Ok(count) => Ok(ReadLines { reader, count }),
+        Err(failed) => {
+            drop(reader);
+            Err(failed)
+        }
+    }
+}
+
+/// Reads them with a reader that read nothing, and tells how many there are. It owns nothing, as
+/// what a function owns is let go at each place where it may fail.
+fn read_on(alloc: Global, reader: &mut HistoryReader, text: &[u8]) -> Result<u32, JournalFailed>
+    requires start { reading_of reader.old ≡ at_start }
+    requires knows { Knows reader.old.begun reader.old.entries }
+    ensures reads { OnOk result (Reads at_start (lines_of text.now) (reading_of reader.new)) }
+    ensures count { IfOk result (λ count. count ≡ length (lines_of text.now)) }
+    ensures entries { IfOk result (λ count. length reader.new.entries ≤ count) }
+    ensures few { IfOk result (λ count. count ≤ 67108864) }
+    ensures limit { OnOk result (length text.now ≤ 67108864) }
+    ensures fault { (line : ℕ) → IsErrOf result (JournalFailed.Fault line) → IsFault text.now line }
+{
     let mut rest = text;
     let mut count: u32 = 0;
     while !rest.is_empty() {
@@ -127,5 +154,5 @@ pub fn read_lines(alloc: Global, text: &[u8]) -> Result<ReadLines, JournalFailed
         count += 1;
         rest = after;
     }
-    Ok(ReadLines { reader, count })
+    Ok(count)
 }

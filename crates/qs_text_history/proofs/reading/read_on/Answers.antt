@@ -4,7 +4,7 @@ use Rattle.qs_text_history.specs.Inner.Reader.{reading_of}
 use Rattle.qs_text_history.specs.Reading.{at_start, Follows}
 use Rattle.qs_text_history.proofs.FollowLemmas.{follows_each, reads_more}
 use Rattle.qs_text_history.proofs.LoopLemmas.{follows_taken, none_follows, entries_follow, whole_more, span_more, fault_stops, fault_past}
-use Rattle.qs_text_history.proofs.reading.read_lines.Goals as goal
+use Rattle.qs_text_history.proofs.reading.read_on.Goals as goal
 
 pub returns-then-text-after-gt-HISTORY_LIMIT-clause-fault : goal.returns-then-text-after-gt-HISTORY_LIMIT-clause-fault
 returns-then-text-after-gt-HISTORY_LIMIT-clause-fault c = λ line e.

@@ -4,7 +4,7 @@ use Rattle.qs_text_history.specs.Journal.{span}
 use Rattle.qs_text_history.specs.Inner.Reader.{reading_of, Knows}
 use Rattle.qs_text_history.specs.Reading.{at_start, Reads}
 use Rattle.qs_text_history.specs.Spelled.{Each, IsEntry}
-use Rattle.qs_text_history.proofs.reading.read_lines.Given as goal
+use Rattle.qs_text_history.proofs.reading.read_on.Given as goal
 
 abbrev pub invariant-loop-rest : goal.invariant-loop-rest
 invariant-loop-rest l = record {
