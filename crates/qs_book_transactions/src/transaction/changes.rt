@@ -1,16 +1,16 @@
 //! What a transaction becomes by votes, loans, answers and outcomes.
 ghost use Rattle.std.specs.Prelude.{◌≡◌, OnOk, OnErr};
 ghost use Rattle.std.specs.BTreeMap.{is_at};
-ghost use Rattle.qs_book_machine.specs.Transaction.{changed_value, link_cmp, node_cmp, with_counted, with_reached};
+ghost use Rattle.qs_book_machine.specs.Transaction.{changed_value, life_cmp, link_cmp, node_cmp, with_counted, with_reached, starts_after, refusals_after, voted_part};
 
 use crate::cells::cell_of;
 use crate::part::{ended_part, found_part, learnt_part, made_part, voted_part, yielded_part};
 use crate::sending::{heard_by, with_counted, with_reached};
 use crate::transaction::Transaction;
-use qs_base::{Copied, Member, NoMemory, NodeNo, Outcome};
+use qs_base::{Copied, List, Member, NoMemory, NodeNo, Outcome};
 use qs_book_machine::{Life, Link, Part, Peer, Refusal, Sent, Start};
 use qs_ops::{Cause, Vote};
-use std::collections::BTreeMap;
+use std::collections::{BTreeMap, BTreeSet};
 
 impl Transaction {
     ghost use Rattle.qs_book_machine.specs.Transaction.{asked_at, decided_at, counted, heard, voted, lent, given_back, learnt, with_learnt, ended, found_at};
@@ -56,20 +56,9 @@ impl Transaction {
         ensures err { OnErr result (self.new ≡ self.old) }
     {
         let life = Life { member, inc };
-        match vote {
-            Vote::ReadOnly => {
-                let served = self.part(member, inc).served;
-                self.starts.insert(Start { life, served })?;
-            }
-            Vote::Abort { reason } => {
-                let reason = reason.copy()?;
-                self.refusals.push(Refusal { member, reason })?;
-            }
-            Vote::Volatile | Vote::Recoverable => {}
-        }
-        if let Some(part) = self.parts.get_mut(&life) {
-            *part = voted_part(*part, vote);
-        }
+        let served = self.part(member, inc).served;
+        keep_vote(&mut self.starts, &mut self.refusals, life, served, vote)?;
+        vote_in(&mut self.parts, life, vote);
         Ok(())
     }
 
@@ -155,6 +144,42 @@ impl Transaction {
         self.parts
             .insert(Life { member, inc }, found_part(covers, changes))?;
         Ok(())
+    }
+}
+
+/// Keeps from where counts may begin anew, and a vote against commit. After a refusal both are as
+/// they were.
+fn keep_vote(
+    starts: &mut BTreeSet<Start>,
+    refusals: &mut List<Refusal>,
+    life: Life,
+    served: u64,
+    vote: &Vote,
+) -> Result<(), NoMemory>
+    ensures starts { OnOk result (starts.new.keys ≡ starts_after vote.now life served starts.old.keys) }
+    ensures refusals { OnOk result (refusals.new ≡ refusals_after vote.now life.member refusals.old) }
+    ensures starts_err { OnErr result (starts.new.keys ≡ starts.old.keys) }
+    ensures refusals_err { OnErr result (refusals.new ≡ refusals.old) }
+{
+    match vote {
+        Vote::ReadOnly => {
+            starts.insert(Start { life, served })?;
+        }
+        Vote::Abort { reason } => {
+            let (member, reason) = (life.member, reason.copy()?);
+            refusals.push(Refusal { member, reason })?;
+        }
+        Vote::Volatile | Vote::Recoverable => {}
+    }
+    Ok(())
+}
+
+/// What a member did in an incarnation, if anything, stands before its vote.
+fn vote_in(parts: &mut BTreeMap<Life, Part>, life: Life, vote: &Vote)
+    ensures { parts.new.entries ≡ changed_value (is_at (life_cmp life)) (voted_part vote.now) parts.old.entries }
+{
+    if let Some(part) = parts.get_mut(&life) {
+        *part = voted_part(*part, vote);
     }
 }
 

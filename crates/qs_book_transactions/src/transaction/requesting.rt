@@ -1,5 +1,5 @@
 //! Requests of a transaction: issued, and served.
-ghost use Rattle.std.specs.Prelude.{◌≡◌, ◌++◌, ◌∷◌, [], OnOk, OnErr, if◌then◌else◌};
+ghost use Rattle.std.specs.Prelude.{◌≡◌, ◌++◌, ◌∷◌, [], OnOk, OnErr, IfOk, if◌then◌else◌};
 ghost use Rattle.std.specs.Option.{option_copied};
 ghost use Rattle.std.specs.List.{find};
 ghost use Rattle.std.specs.BTreeMap.{insert_entry, is_at};
@@ -10,14 +10,14 @@ use crate::requests::Requests;
 use crate::sending::{note_of, reached_by, sent_more};
 use crate::transaction::Transaction;
 use qs_base::{Member, NoMemory, NodeNo};
-use qs_book_machine::{Life, Noted, Part, Peer, Request, RequestNo, Sent};
+use qs_book_machine::{Life, Link, Noted, Part, Peer, Request, RequestNo, Sent};
 use qs_ops::class_of;
 use std::alloc::Global;
 use std::collections::btree_map::Entry;
 use std::collections::{BTreeMap, BTreeSet};
 
 impl Transaction {
-    ghost use Rattle.qs_book_machine.specs.Transaction.{issued, served_in, with_request};
+    ghost use Rattle.qs_book_machine.specs.Transaction.{issued, served_in, with_request, sent_more, sent_on, reached_by, peer_of};
 
     /// The issue of a request on a link under a number, at that place in the history; the member's
     /// node is in incarnation `peer_inc`. After a refusal, which comes for want of memory or a count
@@ -32,9 +32,29 @@ impl Transaction {
         ensures ok { OnOk result (self.new ≡ issued at request peer_inc place self.old) }
         ensures err { OnErr result (self.new ≡ self.old) }
     {
-        let sent = sent_more(&request, self.sent.get(&at.link).copied())?;
-        let peer = reached_by(&request, peer_inc, self.peer(at.link.to))?;
-        self.put_request(at, request, sent, peer, place)
+        match self.towards(at.link, &request, peer_inc) {
+            Ok((sent, peer)) => self.put_request(at, request, sent, peer, place),
+            Err(refused) => {
+                drop(request);
+                Err(refused)
+            }
+        }
+    }
+
+    /// What is sent on the link, and what is open towards its end, in that incarnation, once the
+    /// request went over it. Want of memory stands for a count at its end.
+    fn towards(
+        &self,
+        link: Link,
+        request: &Request,
+        peer_inc: u64,
+    ) -> Result<(Sent, Peer), NoMemory>
+        ensures sent { IfOk result (λ next. next.0 ≡ sent_more request.now (sent_on self.now link)) }
+        ensures peer { IfOk result (λ next. next.1 ≡ reached_by request.now peer_inc (peer_of self.now link.to)) }
+    {
+        let sent = sent_more(request, self.sent.get(&link).copied())?;
+        let peer = reached_by(request, peer_inc, self.peer(link.to))?;
+        Ok((sent, peer))
     }
 
     /// The request stands under its number, with that sent on its link and that open towards its
@@ -50,8 +70,12 @@ impl Transaction {
         ensures ok { OnOk result (self.new ≡ with_request at request sent peer place self.old) }
         ensures err { OnErr result (self.new ≡ self.old) }
     {
-        match self.sent.entry(at.link)? {
-            Entry::Vacant(link) => {
+        match self.sent.entry(at.link) {
+            Err(refused) => {
+                drop(request);
+                return Err(NoMemory::from(refused));
+            }
+            Ok(Entry::Vacant(link)) => {
                 file_towards(
                     self.alloc,
                     &mut self.peers,
@@ -64,7 +88,7 @@ impl Transaction {
                 )?;
                 link.insert(sent);
             }
-            Entry::Occupied(mut link) => {
+            Ok(Entry::Occupied(mut link)) => {
                 file_towards(
                     self.alloc,
                     &mut self.peers,
@@ -191,12 +215,16 @@ fn file_towards(
     ensures requests_err { OnErr result (requests.new.entries ≡ requests.old.entries) }
     ensures crossed_err { OnErr result (crossed.new.entries ≡ crossed.old.entries) }
 {
-    match peers.entry(at.link.to)? {
-        Entry::Vacant(towards) => {
+    match peers.entry(at.link.to) {
+        Err(refused) => {
+            drop(request);
+            return Err(NoMemory::from(refused));
+        }
+        Ok(Entry::Vacant(towards)) => {
             file(alloc, requests, crossed, at, request, place)?;
             towards.insert(peer);
         }
-        Entry::Occupied(mut towards) => {
+        Ok(Entry::Occupied(mut towards)) => {
             file(alloc, requests, crossed, at, request, place)?;
             towards.insert(peer);
         }
