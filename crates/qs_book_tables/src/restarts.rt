@@ -41,10 +41,10 @@ fn keep(
     ensures follows { OnOk result (FollowShares locks.new shares.new.entries) }
     ensures ordered { OnOk result (IsOrdered tid_cmp shares.new) }
 {
-    let share = kept_share(alloc, kept)?;
-    release_share(locks, shares, kept.tid);
+    drop(release_share(locks, shares, kept.tid));
     locks.keep(kept.tid, kept.changes.as_slice())?;
-    shares.insert(kept.tid, share)?;
+    let share = kept_share(alloc, kept)?;
+    drop(shares.insert(kept.tid, share)?);
     Ok(())
 }
 
@@ -59,7 +59,11 @@ pub fn keep_all(
     let mut locks = Locks::new(alloc);
     let mut shares = BTreeMap::new(alloc);
     for kept in keeps {
-        keep(alloc, &mut locks, &mut shares, kept)?;
+        if let Err(refused) = keep(alloc, &mut locks, &mut shares, kept) {
+            drop(locks);
+            drop(shares);
+            return Err(refused);
+        }
     }
     Ok((locks, shares))
 }

@@ -71,9 +71,16 @@ pub fn serve(
         Some(share) => serve_share(share, op, reply),
         None => {
             let mut share = empty_share(alloc);
-            serve_share(&mut share, op, reply)?;
-            shares.insert(tid, share)?;
-            Ok(())
+            match serve_share(&mut share, op, reply) {
+                Ok(()) => {
+                    drop(shares.insert(tid, share)?);
+                    Ok(())
+                }
+                Err(refused) => {
+                    drop(share);
+                    Err(refused)
+                }
+            }
         }
     }
 }
@@ -107,7 +114,7 @@ pub fn set_vote(
         None => {
             let mut share = empty_share(alloc);
             share.voted = voted;
-            shares.insert(tid, share)?;
+            drop(shares.insert(tid, share)?);
             Ok(())
         }
     }

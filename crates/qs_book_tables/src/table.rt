@@ -200,7 +200,7 @@ impl Table {
     pub fn release(&mut self, tid: Tid)
         ensures { self.new ≡ released self.old tid }
     {
-        release_share(&mut self.locks, &mut self.shares, tid);
+        drop(release_share(&mut self.locks, &mut self.shares, tid));
     }
 
     /// Commits the pending changes of the transaction, which holds nothing here any more. The only
@@ -218,7 +218,7 @@ impl Table {
             &mut self.notes,
             changes,
         )?;
-        release_share(&mut self.locks, &mut self.shares, tid);
+        drop(release_share(&mut self.locks, &mut self.shares, tid));
         Ok(())
     }
 
@@ -300,16 +300,24 @@ impl Table {
     {
         let (locks, shares) = keep_all(self.alloc, keeps.as_slice())?;
         let changes = changes.as_slice();
-        apply_changes(
+        match apply_changes(
             self.alloc,
             &mut self.contents,
             &mut self.bytes,
             &mut self.notes,
             changes,
-        )?;
-        self.locks = locks;
-        self.shares = shares;
-        Ok(())
+        ) {
+            Ok(()) => {
+                self.locks = locks;
+                self.shares = shares;
+                Ok(())
+            }
+            Err(refused) => {
+                drop(locks);
+                drop(shares);
+                Err(refused)
+            }
+        }
     }
 }
 /// Whether it is a change to that name.

@@ -1,5 +1,5 @@
 //! The table of a timers server. A timer is never committed: it belongs to its transaction.
-ghost use Rattle.std.specs.Prelude.{◌≡◌, ◌↔◌, ◌<◌, Option, Some, IsTrue, OnOk, OnErr};
+ghost use Rattle.std.specs.Prelude.{◌≡◌, ◌↔◌, ◌<◌, ◌+◌, Option, Some, IsTrue, OnOk, OnErr};
 ghost use Rattle.std.specs.Map.{lookup, remove_entry};
 ghost use Rattle.std.specs.BTreeMap.{insert_entry, is_at, IsOrdered};
 ghost use Rattle.qs_base.specs.Order.{bytes_cmp, tid_cmp};
@@ -65,16 +65,28 @@ impl BookTimers {
             return Ok(());
         }
         let operations = self.operations.checked_add(1).ok_or(NoMemory)?;
-        match (op, reply) {
-            (Op::Timer { name, ticks }, Reply::Done) => {
-                let at = now.checked_add(u64::from(*ticks)).ok_or(NoMemory)?;
-                self.timers.insert(name.copy()?, at)?;
-            }
-            _ => {}
+        if let (Op::Timer { name, ticks }, Reply::Done) = (op, reply) {
+            set_timer(&mut self.timers, now, name, *ticks)?;
         }
         self.operations = operations;
         Ok(())
     }
+}
+
+/// The timer of that name stands at 0 so many ticks after `now`. After a refusal, for which a tick
+/// that passes a `u64` stands too, all are as they were.
+fn set_timer(
+    timers: &mut BTreeMap<Bytes, u64>,
+    now: u64,
+    name: &Bytes,
+    ticks: u32,
+) -> Result<(), NoMemory>
+    ensures ok { OnOk result (timers.new.entries ≡ insert_entry bytes_cmp timers.old.entries name.now (now + ticks)) }
+    ensures err { OnErr result (timers.new.entries ≡ timers.old.entries) }
+{
+    let at = now.checked_add(u64::from(ticks)).ok_or(NoMemory)?;
+    timers.insert(name.copy()?, at)?;
+    Ok(())
 }
 
 /// What serving an operation with this reply adds to what a transaction holds. After a refusal all
@@ -94,9 +106,16 @@ fn serve(
         Some(share) => share.serve(now, op, reply),
         None => {
             let mut share = BookTimers::new(alloc);
-            share.serve(now, op, reply)?;
-            shares.insert(tid, share)?;
-            Ok(())
+            match share.serve(now, op, reply) {
+                Ok(()) => {
+                    drop(shares.insert(tid, share)?);
+                    Ok(())
+                }
+                Err(refused) => {
+                    drop(share);
+                    Err(refused)
+                }
+            }
         }
     }
 }
@@ -204,7 +223,7 @@ impl TimerTable {
     pub fn end(&mut self, tid: Tid)
         ensures { self.new ≡ timers_ended self.old tid }
     {
-        self.shares.remove(&tid);
+        drop(self.shares.remove(&tid));
     }
 
     /// How many ticks have come.
