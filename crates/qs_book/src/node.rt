@@ -86,12 +86,12 @@ impl BookNode {
     pub fn opened(alloc: Global, opened: &Opened) -> Result<BookNode, NoMemory>
         ensures { IfOk result (λ node. node ≡ opened_node opened.now) }
     {
-        // What may fail comes first, so that no empty table is let go where it does.
-        let files = opened_files(alloc, opened)?;
-        let audit = opened_audit(alloc, opened)?;
+        // What may fail comes first and tables last, so that few are let go where it does.
         let extra = opened.extra.copy()?;
         let records = opened_records(alloc, opened.pending.as_slice())?;
         let committed = opened_commits(alloc, opened.committed.as_slice())?;
+        let files = opened_files(alloc, opened)?;
+        let audit = opened_audit(alloc, opened)?;
         Ok(BookNode {
             alloc,
             up: true,
@@ -375,7 +375,7 @@ impl BookNode {
             covers,
             pending,
         };
-        self.records.insert(Voter { tid, server }, kept)?;
+        drop(self.records.insert(Voter { tid, server }, kept)?);
         Ok(())
     }
 
@@ -383,7 +383,7 @@ impl BookNode {
     pub fn forget_record(&mut self, tid: Tid, server: ServerNo)
         ensures { self.new ≡ without_record tid server.0 self.old }
     {
-        self.records.remove(&Voter { tid, server });
+        drop(self.records.remove(&Voter { tid, server }));
     }
 
     /// A member with so many changes pending votes. After a refusal all is as it was.
@@ -435,7 +435,7 @@ impl BookNode {
         if let Some(known) = self.doubts.get_mut(&tid) {
             return append(self.alloc, known, names);
         }
-        self.doubts.insert(tid, names)?;
+        drop(self.doubts.insert(tid, names)?);
         Ok(())
     }
 
@@ -479,14 +479,14 @@ impl BookNode {
     pub fn settle_doubts(&mut self, tid: Tid)
         ensures { self.new ≡ without_doubts tid self.old }
     {
-        self.doubts.remove(&tid);
+        drop(self.doubts.remove(&tid));
     }
 
     /// A vote goes on record.
     pub fn put_vote(&mut self, voter: Voter, vote: OnRecord) -> Result<(), NoMemory>
         ensures { OnOk result (self.new ≡ with_vote self.old (voter, vote)) }
     {
-        self.records.insert(voter, vote)?;
+        drop(self.records.insert(voter, vote)?);
         Ok(())
     }
 

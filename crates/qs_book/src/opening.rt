@@ -156,7 +156,7 @@ fn add_record(records: &mut BTreeMap<Voter, OnRecord>, vote: &Pending) -> Result
         covers: vote.covers,
         pending: vote.changes.len() as u64,
     };
-    records.insert(voter, kept)?;
+    drop(records.insert(voter, kept)?);
     Ok(())
 }
 

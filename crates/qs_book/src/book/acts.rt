@@ -213,12 +213,11 @@ impl Book {
     ) -> Result<(), NoMemory>
         ensures { OnOk result (self.new ≡ decide tid outcome (option_copied cause.entry) self.old) }
     {
-        let kept = copied_cause(cause)?;
         let Some(tx) = self.transactions.get_mut(&tid) else {
             return Ok(());
         };
         owners::tell(&mut self.owners, tx.owner(), outcome, cause)?;
-        tx.decide(self.place, outcome, kept);
+        tx.decide(self.place, outcome, copied_cause(cause)?);
         Ok(())
     }
 

@@ -25,8 +25,8 @@ impl Book {
     pub fn opening(alloc: Global, opened: &[Opened]) -> Result<Book, NoMemory>
         ensures { IfOk result (λ book. book ≡ opening opened.now) }
     {
-        let nodes = opened_nodes(alloc, opened)?;
         let owners = no_owners(alloc)?;
+        let nodes = opened_nodes(alloc, opened)?;
         let mut book = Book {
             alloc,
             stamp: 0,
