@@ -1,9 +1,35 @@
-use Rattle.std.proofs.Common.{◌≡◌, Err, sym, ◌∙◌, ap}
-use Rattle.qs_log.specs.Image.{InSlot, live_area}
+use Rattle.std.proofs.Common.{◌≡◌, Err, sym, ◌∙◌, ap, arith, ℕ, ◌≤◌, length, subst}
+use Rattle.qs_log.specs.Image.{InSlot, half, live_area}
+use Rattle.qs_base.specs.Causes.{Rose}
 use Rattle.qs_slot.proofs.OpeningLemmas.{same_keeps}
 use Rattle.qs_log.proofs.ReadLemmas.{log_read, damage_read}
 use Rattle.qs_log.specs.declared.fault.OpenFault.TheVariants as faults
 use Rattle.qs_log.proofs.opening.read_held.Goals as goal
+
+rose_since : (before then now : ℕ) → before ≤ then → Rose then now → Rose before now
+rose_since before then now later rose = omega arith
+
+pub returns-in-Err-clause-failed : goal.returns-in-Err-clause-failed
+returns-in-Err-clause-failed g c = λ e.
+    let named : c.of_slot.result ≡ faults.DiskFailed = cc in
+    c.in-Err.ensures.failed (ap Err (c.of_slot.ensures.failed named))
+
+pub returns-in-Err-read_area-clause-failed : goal.returns-in-Err-read_area-clause-failed
+returns-in-Err-read_area-clause-failed g c = λ e.
+    let named : c.in-Err-read_area.fault ≡ faults.DiskFailed = cc in
+    rose_since (g.D.Disk.fault_count c.args.disk.now) (g.D.Disk.fault_count c.open_slots.new.disk) (g.D.Disk.fault_count c.read_area.new.disk) c.in-Ok.ensures.later
+    (c.in-Err-read_area.ensures.failed (ap Err named))
+
+pub returns-clause-failed : goal.returns-clause-failed
+returns-clause-failed g c = λ e.
+    let named : c.in-Err-counted.fault ≡ faults.DiskFailed = cc in
+    absurd (c.in-Err-counted.ensures.never (ap Err named))
+
+pub returns-in-Ok-counted-clause-within : goal.returns-in-Ok-counted-clause-within
+returns-in-Ok-counted-clause-within g c =
+    let long : length c.as_slice.result.now ≡ half (g.D.Disk.byte_count c.args.disk.now) =
+    ap length c.as_slice.ensures.value ∙ c.in-Ok-read_area.ensures.long ∙ ap half c.in-Ok.ensures.size in
+    subst (λ (n : ℕ). c.in-Ok-counted.field-0.used ≤ n) long c.in-Ok-counted.ensures.within
 
 pub returns-in-Err-clause-damaged : goal.returns-in-Err-clause-damaged
 returns-in-Err-clause-damaged g c = λ told at e.
