@@ -74,7 +74,7 @@ module _ {D : Type 0} (nodes n : ℕ) where
   peer_there post of m peer = subst (λ (k : ℕ). is_peer post.links.size k m ≡ true) (sym of.me) (subst (λ (k : ℕ). is_peer k n m ≡ true) (sym of.size) peer)
 
   -- what is left is named as it was
-  named_then : (old new : Post D) → Took nodes n old new → AreCarriedNamed nodes n old.links → AreCarriedNamed nodes n new.links
+  pub named_then : (old new : Post D) → Took nodes n old new → AreCarriedNamed nodes n old.links → AreCarriedNamed nodes n new.links
   named_then old new t named m peer = all_behind (Goes m n) (filter (is_from m) t.takes) (into_of new.links m).inbox
       (All-same (Goes m n) (filter (is_from m) t.takes ++ (into_of new.links m).inbox) (into_of old.links m).inbox (sym (t.took named m peer)) (named m peer))
 
@@ -122,7 +122,7 @@ module _ {D : Type 0} (nodes n : ℕ) where
       took = λ named. none_left nodes n k old.links left (peer_there old of) taken;
     })
 
-    hears_one : (packet : Packet) (ready : Up D) (old : Post D) (left : LinksValue) (new : Post D) → IsPostOf nodes n old → HasTaken k (Some packet) old.links left → new.links ≡ left
+    pub hears_one : (packet : Packet) (ready : Up D) (old : Post D) (left : LinksValue) (new : Post D) → IsPostOf nodes n old → HasTaken k (Some packet) old.links left → new.links ≡ left
         → Adds nodes n [] old.seat.node (states.Up ready) → AddsPacket nodes n packet (states.Up ready) new.seat.node → Took nodes n old new
     hears_one packet ready old left new of taken links adds more = record {
       takes = more.takes;
@@ -149,7 +149,7 @@ module _ {D : Type 0} (nodes n : ℕ) where
     hears : (old new : Post D) → Hears told state own size k old new → IsPostOf nodes n old → Took nodes n old new
     hears old new h of = hears_in h.ready old new h.turn of (adds_seen nodes n (λ s. s) (λ s. refl) old.seat.node h.ready h.same of.node)
 
-    times_hear : (count : ℕ) (old new : Post D) → HearsTimes told state own size k count old new → IsPostOf nodes n old → Took nodes n old new
+    pub times_hear : (count : ℕ) (old new : Post D) → HearsTimes told state own size k count old new → IsPostOf nodes n old → Took nodes n old new
     times_hear zero old new same of = nothing_heard old new same of
     times_hear (suc count) old new (mid, (before, h)) of = let first = times_hear count old mid before of in took_more old mid new first (hears mid new h (post_then old mid of first))
 

@@ -14,5 +14,8 @@ pub mod Visiting
 pub mod Starting
 -- All links of a run.
 pub mod Linked
+-- Where memory was refused.
+pub mod Refused
+pub mod Keeping
 -- As a link is carried.
 pub mod Carrying

@@ -46,9 +46,18 @@ link_same plan m n s s_new r r_new o o_new i i_new same_s same_r same_o same_i l
 
 -- ---- all of them
 
+-- where few were put in the end, few were before a cell went on
+pub few_were : {D : Type 0} (nodes k : ℕ) (old new : ℕ → Post D) → k < nodes → (steps : List Step) → trace_in (new k) ≡ trace_in (old k) ++ steps → OthersStay nodes k old new → FewWerePut nodes new → FewWerePut nodes old
+few_were {D} nodes k old new low steps trace others few m n low_m low_n other = by (m == k) refl
+  where
+    by : (b : Bool) → (m == k) ≡ b → AreFew (put_to n (trace_in (old m)))
+    by true is = subst (λ (h : ℕ). AreFew (put_to n (trace_in (old h)))) (sym (eqb-true m k is))
+        (few_before n (trace_in (old k)) steps (subst (λ (l : List Step). AreFew (put_to n l)) trace (few k n low low_n (subst (λ (h : ℕ). h ≢ n) (eqb-true m k is) other))))
+    by false is = subst (λ (p : Post D). AreFew (put_to n (trace_in p))) (others m low_m (eqb-false m k is)) (few m n low_m low_n other)
+
 module _ {D : Type 0} (nodes : ℕ) (plans : ℕ → ℕ → List LinkFault) where
   -- all that was carried is named
-  named_there : (posts : ℕ → Post D) → LinksAreTold nodes plans posts → FewWerePut nodes posts → (k : ℕ) → k < nodes → AreCarriedNamed nodes k (posts k).links
+  pub named_there : (posts : ℕ → Post D) → LinksAreTold nodes plans posts → FewWerePut nodes posts → (k : ℕ) → k < nodes → AreCarriedNamed nodes k (posts k).links
   named_there posts linked few k low m peer =
       all_front (Goes m k) i.inbox (drop (length (received i.ring)) (sent o.feed.ring))
       (all_front (Goes m k) (i.inbox ++ drop (length (received i.ring)) (sent o.feed.ring)) o.feed.outbox
@@ -82,12 +91,7 @@ module _ {D : Type 0} (nodes : ℕ) (plans : ℕ → ℕ → List LinkFault) whe
         by false is = subst (λ (p : Post D). IsPostOf nodes j p) (sym (others j low_j (eqb-false j k is))) (linked.of j low_j)
 
     few_then : FewWerePut nodes new → FewWerePut nodes old
-    few_then few m n low_m low_n other = by (m == k) refl
-      where
-        by : (b : Bool) → (m == k) ≡ b → AreFew (put_to n (trace_in (old m)))
-        by true is = subst (λ (h : ℕ). AreFew (put_to n (trace_in (old h)))) (sym (eqb-true m k is))
-            (few_before n (trace_in (old k)) t.steps (subst (λ (l : List Step). AreFew (put_to n l)) t.trace (few k n low low_n (subst (λ (h : ℕ). h ≢ n) (eqb-true m k is) other))))
-        by false is = subst (λ (p : Post D). AreFew (put_to n (trace_in p))) (others m low_m (eqb-false m k is)) (few m n low_m low_n other)
+    few_then = few_were nodes k old new low t.steps t.trace others
 
     -- the link from that node, the one to it, and another
     module _ (few : FewWerePut nodes new) where

@@ -1,5 +1,5 @@
 -- The link from one node to another, as one of the two goes on, and what it tells.
-use Rattle.std.proofs.Common.{◌≡◌, ℕ, ◌+◌, ◌<◌, true, List, [], ◌∷◌, ◌++◌, length, refl, sym, ap, subst, ◌∙◌, append-nil, arith, length-append}
+use Rattle.std.proofs.Common.{◌≡◌, ℕ, ◌+◌, ◌<◌, true, List, [], ◌∷◌, ◌++◌, length, refl, sym, ap, subst, ◌∙◌, append_assoc, append-nil, arith, length-append}
 use Rattle.std.specs.Prelude.{All, ◌^◌, not}
 use Rattle.std.specs.List.{filter, flat_map}
 use Rattle.std.proofs.lemmas.Bool.{eqb-true}
@@ -9,8 +9,8 @@ use Rattle.std.proofs.lemmas.List.Elements.{All-append, All-cons, All-filter, Al
 use Rattle.qs_cell_peers.specs.Peers.{is_to}
 use Rattle.qs_link.specs.Lane.{DrawValue, Drawn, IsFifo, on_way}
 use Rattle.qs_link.specs.OnlyPut.{Each}
-use Rattle.qs_link.specs.Plan.{HoldsSome, OutgoingValue}
-use Rattle.qs_link.specs.Planned.{IsLink, PutAll, goes_out}
+use Rattle.qs_link.specs.Plan.{HoldsSome, OutgoingValue, due, fate, own}
+use Rattle.qs_link.specs.Planned.{IsLink, PutAll, goes_out, held_of}
 use Rattle.qs_link.specs.declared.outgoing.LinkFault.{LinkFault}
 use Rattle.qs_link.proofs.Going.{Gone, begins, goes_on, is_carried, put_all}
 use Rattle.qs_link.proofs.OnlyPut.{out_each}
@@ -27,6 +27,14 @@ put_to_more n before steps = ap (filter (is_to n)) (flat_map-append puts_of befo
 
 pub took_from_more : (m : ℕ) (before steps : List Step) → took_from m (before ++ steps) ≡ took_from m before ++ took_from m steps
 took_from_more m before steps = ap (filter (is_from m)) (flat_map-append takes_of before steps) ∙ filter-append (is_from m) (flat_map takes_of before) (flat_map takes_of steps)
+
+-- behind what went out there goes out what is put later
+pub goes_out_more : (plan : List LinkFault) (before xs ys : List Packet) → (rest : List Packet) × (goes_out plan before xs ++ rest ≡ goes_out plan before (xs ++ ys))
+goes_out_more plan before [] ys = (goes_out plan before ys, refl)
+goes_out_more plan before (x ∷ xs) ys =
+    let it : (rest : List Packet) × (goes_out plan (before ++ x ∷ []) xs ++ rest ≡ goes_out plan (before ++ x ∷ []) (xs ++ ys)) = goes_out_more plan (before ++ x ∷ []) xs ys in
+    let first : List Packet = own (fate plan (length before + 1)) x ++ due (length before + 1) (held_of plan 0 before) in
+    (it.0, append_assoc first (goes_out plan (before ++ x ∷ []) xs) it.0 ∙ ap (λ (l : List Packet). first ++ l) it.1)
 
 few_both : (n : ℕ) (before steps : List Step) → AreFew (put_to n (before ++ steps)) → length (put_to n before) + length (put_to n steps) < 2 ^ 63
 few_both n before steps few = omega (arith, few, ap length (put_to_more n before steps), length-append (put_to n before) (put_to n steps))

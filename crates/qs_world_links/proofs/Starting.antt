@@ -56,12 +56,12 @@ quiet nodes n old new steps trace no_puts no_takes same of node = record {
 }
 
 -- what a start again adds to the trace
-record Restarted {D : Type 0} (nodes n : ℕ) (old new : CellState D) : Type 0 where
-  steps : List Step
-  trace : steps_in new ≡ steps_in old ++ steps
-  no_puts : flat_map puts_of steps ≡ []
-  no_takes : flat_map takes_of steps ≡ []
-  node : IsOfNode nodes n new
+pub record Restarted {D : Type 0} (nodes n : ℕ) (old new : CellState D) : Type 0 where
+  pub steps : List Step
+  pub trace : steps_in new ≡ steps_in old ++ steps
+  pub no_puts : flat_map puts_of steps ≡ []
+  pub no_takes : flat_map takes_of steps ≡ []
+  pub node : IsOfNode nodes n new
 
 module _ {D : Type 0} (nodes n : ℕ) where
   rises : (alloc : Global) (old : Stopped D) (new : Up D) → IsUp alloc old new → IsOfNode nodes n (states.Down old) → Restarted nodes n (states.Down old) (states.Up new)
@@ -99,7 +99,7 @@ module _ {D : Type 0} (nodes n : ℕ) where
   restarted_as own alloc old (restarts.Up new) is of = rises alloc old new is of
   restarted_as own alloc old (restarts.Down new why) is of = stays_down old new is.0 of
 
-  starts_again : (told : Type 0) (state : D → DiskState) (own size : D → ℕ) (alloc : Global) (old new : CellState D) (answer : Result Bool RestartFault) → StartsAgain told state own size alloc old new answer → IsOfNode nodes n old → Restarted nodes n old new
+  pub starts_again : (told : Type 0) (state : D → DiskState) (own size : D → ℕ) (alloc : Global) (old new : CellState D) (answer : Result Bool RestartFault) → StartsAgain told state own size alloc old new answer → IsOfNode nodes n old → Restarted nodes n old new
   starts_again told state own size alloc (states.Up old) new answer (same, said) of = subst (λ (s : CellState D). Restarted nodes n (states.Up old) s) (sym same)
       (record { steps = []; trace = sym (append-nil old.carried.chronicle.told.trace); no_puts = refl; no_takes = refl; node = of })
   starts_again told state own size alloc (states.Down old) new answer r of = subst (λ (s : CellState D). Restarted nodes n (states.Down old) s) (sym r.node) (restarted_as own alloc old r.restarted r.is of)

@@ -7,7 +7,7 @@ use Rattle.qs_book_journal.specs.declared.script_line.ScriptLine.{ScriptLine}
 use Rattle.qs_cell.specs.Hearing.{Post}
 use Rattle.qs_cell.specs.Restart.{in_round_as}
 use Rattle.qs_cell.specs.State.{Up, is_queued}
-use Rattle.qs_cell.specs.Visits.{MakesIn, Seat, TakesTurn, TurnsAll, client_source, due, due_of, held_by, left_by, sources_of}
+use Rattle.qs_cell.specs.Visits.{MakesIn, Seat, TakesTurn, Turns, TurnsAll, client_source, due, due_of, held_by, left_by, sources_of}
 use Rattle.qs_cell.specs.WholeVisits.{steps_in}
 use Rattle.qs_cell.specs.declared.state.CellState.{CellState}
 use Rattle.qs_cell.specs.declared.state.CellState.TheVariants as states
@@ -37,7 +37,7 @@ use Rattle.qs_world_traces.specs.Links.{is_from, packet_in, put_to, puts_of, too
 
 -- ---- no packet is due of the node's own sources
 
-abbrev BringsNone : Option Occasion → Type 0
+abbrev pub BringsNone : Option Occasion → Type 0
 BringsNone None = ⊤
 BringsNone (Some occasion) = packet_in (did_of occasion) ≡ []
 
@@ -51,7 +51,7 @@ due_command inc (Some held) next = by (is_due_again inc held)
     by false = tt
 
 -- none of these sources, whether the node is up or down
-abbrev BringNone : {D S : Type 0} → (S → CellState D → List NodeEnds → Option Occasion) → List S → Type 0
+abbrev pub BringNone : {D S : Type 0} → (S → CellState D → List NodeEnds → Option Occasion) → List S → Type 0
 BringNone is_due [] = ⊤
 BringNone is_due (source ∷ sources) =
     (((running : Up _) (ends : List NodeEnds) → BringsNone (is_due source (states.Up running) ends)) × ((stopped : Stopped _) (ends : List NodeEnds) → BringsNone (is_due source (states.Down stopped) ends)))
@@ -61,7 +61,7 @@ queues_none : (b : Bool) → BringsNone (if b then Some occasions.Queues else No
 queues_none true = refl
 queues_none false = tt
 
-sources_none : (D : Type 0) (ends : List NodeEnds) → BringNone {D = D} due (map client_source ends ++ sources_of [])
+pub sources_none : (D : Type 0) (ends : List NodeEnds) → BringNone {D = D} due (map client_source ends ++ sources_of [])
 sources_none D [] = (((λ running ends. queues_none (is_queued (states.Up running))), (λ stopped ends. tt)), (((λ running ends. refl), (λ stopped ends. tt)), tt))
 sources_none D (end ∷ ends) = (((λ running lanes. due_command running.carried.setting.inc (held_by end.client running.carried) (next_line end.client lanes)), (λ stopped lanes. tt)), sources_none D ends)
 
@@ -69,7 +69,7 @@ module _ {D : Type 0} (nodes n : ℕ) where
   -- ---- the turns of a visit
 
   module _ (told : Type 0) (state : D → DiskState) (own size : D → ℕ) where
-    made_in : (occasion : Occasion) (ready new : CellState D) (answers : List ClientAnswer) → MakesIn told state own size occasion ready new answers → packet_in (did_of occasion) ≡ [] → IsOfNode nodes n ready → Adds nodes n [] ready new
+    pub made_in : (occasion : Occasion) (ready new : CellState D) (answers : List ClientAnswer) → MakesIn told state own size occasion ready new answers → packet_in (did_of occasion) ≡ [] → IsOfNode nodes n ready → Adds nodes n [] ready new
     made_in occasion (states.Up ready) new answers makes none of = subst (λ (l : List Packet). Adds nodes n l (states.Up ready) new) none (makes_adds nodes n told state own size occasion ready new answers makes of)
     made_in occasion (states.Down stopped) new answers (same, said) none of =
         adds_none nodes n (states.Down stopped) new (ap (λ (s : CellState D). steps_in s) same) (subst (λ (s : CellState D). IsOfNode nodes n s) (sym same) of)
@@ -80,10 +80,9 @@ module _ {D : Type 0} (nodes n : ℕ) where
         adds_none nodes n ready new.node (ap (λ (s : Seat D). steps_in s.node) same) (subst (λ (s : Seat D). IsOfNode nodes n s.node) (sym same) of)
     takes_turn (Some occasion) left ends ready new (answers, (makes, sent)) none of = made_in occasion ready new.node answers makes none of
 
-    all_turn : (sources : List _) (old new : Seat D) → TurnsAll told state own size sources old new → BringNone {D = D} due sources → IsOfNode nodes n old.node → Adds nodes n [] old.node new.node
-    all_turn [] old new same none of = adds_none nodes n old.node new.node (ap (λ (s : Seat D). steps_in s.node) same) (subst (λ (s : Seat D). IsOfNode nodes n s.node) (sym same) of)
-    all_turn (source ∷ sources) old new (mid, (turn, rest)) none of =
-        adds_more nodes n [] [] old.node mid.node new.node first (all_turn sources mid new rest none.1 first.node)
+    -- that of a source of which no packet is due
+    pub one_turn : (source : _) (old mid : Seat D) → Turns told state own size source old mid → BringNone {D = D} due (source ∷ []) → IsOfNode nodes n old.node → Adds nodes n [] old.node mid.node
+    one_turn source old mid turn none of = adds_more nodes n [] [] old.node turn.ready mid.node room (by turn.ready turn.turn room.node)
       where
         by : (ready : CellState D) → TakesTurn told state own size (due source ready old.ends) (left_by source ready old.ends) (record { node = ready; ends = old.ends }) mid → IsOfNode nodes n ready → Adds nodes n [] ready mid.node
         by (states.Up running) taken is = takes_turn (due source (states.Up running) old.ends) (left_by source (states.Up running) old.ends) old.ends (states.Up running) mid taken (none.0.0 running old.ends) is
@@ -92,8 +91,13 @@ module _ {D : Type 0} (nodes n : ℕ) where
         room : Adds nodes n [] old.node turn.ready
         room = adds_seen nodes n (λ s. s) (λ s. refl) old.node turn.ready turn.same of
 
+    pub all_turn : (sources : List _) (old new : Seat D) → TurnsAll told state own size sources old new → BringNone {D = D} due sources → IsOfNode nodes n old.node → Adds nodes n [] old.node new.node
+    all_turn [] old new same none of = adds_none nodes n old.node new.node (ap (λ (s : Seat D). steps_in s.node) same) (subst (λ (s : Seat D). IsOfNode nodes n s.node) (sym same) of)
+    all_turn (source ∷ sources) old new (mid, (turn, rest)) none of =
+        adds_more nodes n [] [] old.node mid.node new.node first (all_turn sources mid new rest none.1 first.node)
+      where
         first : Adds nodes n [] old.node mid.node
-        first = adds_more nodes n [] [] old.node turn.ready mid.node room (by turn.ready turn.turn room.node)
+        first = one_turn source old mid turn (none.0, tt) of
 
 pub each_visit : {D : Type 0} (told : Type 0) (state : D → DiskState) (own size : D → ℕ) (nodes n : ℕ) (old new : Post D) → VisitTells told state own size nodes n old new
 each_visit {D} told state own size nodes n old new v of = record {

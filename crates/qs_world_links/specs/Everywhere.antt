@@ -13,7 +13,7 @@ use Rattle.qs_link.specs.Plan.{OutgoingValue}
 use Rattle.qs_link.specs.declared.outgoing.LinkFault.{LinkFault}
 use Rattle.qs_packet.specs.declared.packet.Packet.{Packet}
 use Rattle.qs_world_links.specs.Between.{AreFew, IsLinkOf, IsNewLink}
-use Rattle.qs_world_links.specs.Posts.{IsPostOf, TellsOfLinks, trace_in}
+use Rattle.qs_world_links.specs.Posts.{IsPostOf, TellsOfLinks, TellsOfTakes, trace_in}
 use Rattle.qs_world_traces.specs.Links.{KeepPlans, put_to}
 
 -- to each link few packets were put; a trace never gets shorter, so where that is so in the end it was so at all times
@@ -96,3 +96,10 @@ ToldAsSame nodes plans old new = AreSameNodes nodes old new → LinksAreTold nod
 
 abbrev pub ToldKeepPlans : {D : Type 0} → ℕ → (ℕ → ℕ → List LinkFault) → (ℕ → Post D) → Type 0
 ToldKeepPlans nodes plans posts = LinksAreTold nodes plans posts → FewWerePut nodes posts → KeepPlans nodes plans (λ n. trace_in (posts n))
+
+-- ---- where memory was refused at one of them
+
+-- no more is told of the links, but what was taken of each is still a front of what goes out by its plan
+abbrev pub KeepAsOneTook : {D : Type 0} → ℕ → (ℕ → ℕ → List LinkFault) → ℕ → (ℕ → Post D) → (ℕ → Post D) → Type 0
+KeepAsOneTook nodes plans k old new =
+    k < nodes → TellsOfTakes nodes k (old k) (new k) → OthersStay nodes k old new → LinksAreTold nodes plans old → FewWerePut nodes new → KeepPlans nodes plans (λ n. trace_in (new n))

@@ -56,6 +56,20 @@ pub record TellsOfLinks {D : Type 0} (nodes n : ℕ) (old new : Post D) : Type 0
   pub rings : (m : ℕ) → is_peer nodes n m ≡ true → (into_of new.links m).ring ≡ (into_of old.links m).ring
   pub post : IsPostOf nodes n new
 
+-- ---- what it tells where memory was refused
+
+-- what was taken stood in front of what was carried
+pub record AreInFront (taken carried : List Packet) : Type 0 where
+  pub rest : List Packet
+  pub is : carried ≡ taken ++ rest
+
+-- the trace has these steps more; where all that was carried is so named, what they took of each node stood in front there. What they put may not have gone
+-- out
+pub record TellsOfTakes {D : Type 0} (nodes n : ℕ) (old new : Post D) : Type 0 where
+  pub steps : List Step
+  pub trace : trace_in new ≡ trace_in old ++ steps
+  pub took : AreCarriedNamed nodes n old.links → (m : ℕ) → is_peer nodes n m ≡ true → AreInFront (took_from m steps) (into_of old.links m).inbox
+
 -- ---- what that makes of a link, by the cell of its sender and by that of its receiver
 
 abbrev pub LinkIsPutTo : {D : Type 0} → ℕ → ℕ → ℕ → Post D → Post D → Type 0

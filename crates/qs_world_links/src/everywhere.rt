@@ -5,13 +5,13 @@ ghost use Rattle.qs_base.specs.declared.memory.NoMemory.{NoMemory};
 ghost use Rattle.qs_cell.specs.Hearing.{Post};
 ghost use Rattle.qs_cell.specs.declared.state.RestartFault.{RestartFault};
 ghost use Rattle.qs_link.specs.declared.outgoing.LinkFault.{LinkFault};
-ghost use Rattle.qs_world_links.specs.Everywhere.{ToldAsAllCarried, ToldAsCarried, ToldAsNew, ToldAsRestarted, ToldAsSame, ToldAsOneTells, ToldAsVisited, ToldKeepPlans};
+ghost use Rattle.qs_world_links.specs.Everywhere.{KeepAsOneTook, ToldAsAllCarried, ToldAsCarried, ToldAsNew, ToldAsRestarted, ToldAsSame, ToldAsOneTells, ToldAsVisited, ToldKeepPlans};
 
 use qs_disk::Disk;
 
 /// Each link of a run stands between the traces of its two nodes as all begin, and stays so as a node is visited or starts again, as links are
 /// carried, and as nothing is done with nodes and links. So, as long as fewer than 2^63 packets were put to each, what each node took of each
-/// other one is a front of all that goes out by the plan of what that one put for it.
+/// other one is a front of all that goes out by the plan of what that one put for it; also where memory was then refused at one of them.
 pub fn links_stay_told<D: Disk>()
     ensures new { (nodes : ℕ) (plans : ℕ → ℕ → List LinkFault) (posts : ℕ → Post D) → ToldAsNew nodes plans posts }
     ensures told { (nodes k : ℕ) (plans : ℕ → ℕ → List LinkFault) (old new : ℕ → Post D) → ToldAsOneTells nodes plans k old new }
@@ -22,4 +22,5 @@ pub fn links_stay_told<D: Disk>()
     ensures all_carried { (nodes : ℕ) (plans : ℕ → ℕ → List LinkFault) (old new : ℕ → Post D) → ToldAsAllCarried nodes plans old new }
     ensures same { (nodes : ℕ) (plans : ℕ → ℕ → List LinkFault) (old new : ℕ → Post D) → ToldAsSame nodes plans old new }
     ensures keeps { (nodes : ℕ) (plans : ℕ → ℕ → List LinkFault) (posts : ℕ → Post D) → ToldKeepPlans nodes plans posts }
+    ensures took { (nodes k : ℕ) (plans : ℕ → ℕ → List LinkFault) (old new : ℕ → Post D) → KeepAsOneTook nodes plans k old new }
 {}

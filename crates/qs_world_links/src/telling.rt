@@ -8,7 +8,7 @@ ghost use Rattle.qs_cell.specs.declared.state.RestartFault.{RestartFault};
 ghost use Rattle.qs_cell_peers.specs.Links.{LinksValue};
 ghost use Rattle.qs_link.specs.declared.ends.NodeEnds.{NodeEnds};
 ghost use Rattle.qs_node_step.specs.declared.setting.Setting.{Setting};
-ghost use Rattle.qs_world_links.specs.Telling.{RestartTells, StartTells, VisitTells};
+ghost use Rattle.qs_world_links.specs.Telling.{BreakTells, RestartTells, RestartTellsTakes, StartTells, VisitTells, VisitTellsTakes};
 
 use qs_disk::Disk;
 
@@ -19,4 +19,12 @@ pub fn cells_tell_of_links<D: Disk>()
     ensures starts { (n : ℕ) (alloc : Global) (disk : D) (setting : Setting) (links : LinksValue) (ends : List NodeEnds) (plan : NodePlan) (new : CellValue D) → StartTells D.told D.state n alloc disk setting links ends plan new }
     ensures visits { (nodes n : ℕ) (old new : Post D) → VisitTells D.told D.state D.fault_count D.byte_count nodes n old new }
     ensures restarts { (alloc : Global) (nodes n : ℕ) (old new : Post D) (answer : Result Bool RestartFault) → RestartTells D.told D.state D.fault_count D.byte_count alloc nodes n old new answer }
+{}
+
+/// Where memory was refused in a visit or as a node was started again, the trace still tells what was taken of each link: it stood in front of what was carried. A
+/// visit that was made tells as much.
+pub fn cells_tell_of_takes<D: Disk>()
+    ensures breaks { (nodes n : ℕ) (old new : Post D) → BreakTells D.told D.state D.fault_count D.byte_count nodes n old new }
+    ensures visits { (nodes n : ℕ) (old new : Post D) → VisitTellsTakes D.told D.state D.fault_count D.byte_count nodes n old new }
+    ensures restarts { (alloc : Global) (nodes n : ℕ) (old new : Post D) (answer : Result Bool RestartFault) → RestartTellsTakes D.told D.state D.fault_count D.byte_count alloc nodes n old new answer }
 {}

@@ -1,4 +1,5 @@
 use Rattle.qs_world_links.proofs.Carrying.{each_all_carried, each_carried, each_same}
+use Rattle.qs_world_links.proofs.Keeping.{each_took}
 use Rattle.qs_world_links.proofs.Linked.{each_keeps, each_new, each_restarted, each_told, each_visited}
 use Rattle.qs_world_links.proofs.everywhere.links_stay_told.Goals as goal
 
@@ -12,4 +13,5 @@ returns g c = record {
   all_carried = λ nodes plans old new. each_all_carried nodes plans old new;
   same = λ nodes plans old new. each_same nodes plans old new;
   keeps = λ nodes plans posts. each_keeps nodes plans posts;
+  took = λ nodes k plans old new. each_took nodes plans k old new;
 }
