@@ -32,19 +32,19 @@ use Rattle.qs_world_traces.specs.Links.{observed_by}
 use Rattle.qs_world_traces.specs.Sessions.{AreEnds}
 use Rattle.qs_world_seats.specs.Reached.{IsInOrPast, IsInWorld}
 use Rattle.qs_world_seats.specs.Seats.{AreOfNode, AreSeated, SeatDown, SeatUp}
-use Rattle.qs_world_seats.specs.Shown.{Reaches, ShowsCarried, observed_of}
+use Rattle.qs_world_seats.specs.Shown.{Reaches, ShowsCarried, ShowsDown, observed_of}
 use Rattle.qs_world_seats.specs.Visiting.{RoomGoesOn, VisitBegins}
 
 -- the same is told, and the same is in hand
-record IsAlike (old new : Seen) : Type 0 where
-  node : new.told.node ≡ old.told.node
-  stamp : new.told.stamp ≡ old.told.stamp
-  journal : new.told.journal ≡ old.told.journal
-  trace : new.told.trace ≡ old.told.trace
-  commands : new.commands ≡ old.commands
+pub record IsAlike (old new : Seen) : Type 0 where
+  pub node : new.told.node ≡ old.told.node
+  pub stamp : new.told.stamp ≡ old.told.stamp
+  pub journal : new.told.journal ≡ old.told.journal
+  pub trace : new.told.trace ≡ old.told.trace
+  pub commands : new.commands ≡ old.commands
 
 module _ (o : Opening) (n : ℕ) (old new : Carried) (alike : IsAlike (seen old) (seen new)) (setting : new.setting ≡ old.setting) where
-  reached_alike : (world : PacketWorld) → HasReached o n (observed_of old.chronicle.told) old.chronicle.told.stamp world → HasReached o n (observed_of new.chronicle.told) new.chronicle.told.stamp world
+  pub reached_alike : (world : PacketWorld) → HasReached o n (observed_of old.chronicle.told) old.chronicle.told.stamp world → HasReached o n (observed_of new.chronicle.told) new.chronicle.told.stamp world
   reached_alike world r = subst (λ (s : ℕ). HasReached o n (observed_of new.chronicle.told) s world) (sym alike.stamp)
       (subst (λ (es : List Entry). HasReached o n (observed_by es new.chronicle.told.trace) old.chronicle.told.stamp world) (sym alike.journal)
       (subst (λ (steps : List trace.Step). HasReached o n (observed_by old.chronicle.told.journal steps) old.chronicle.told.stamp world) (sym alike.trace) r))
@@ -63,6 +63,17 @@ module _ (o : Opening) (n : ℕ) (old new : Carried) (alike : IsAlike (seen old)
       → AreSeated o n new.setting.inc (up new.setting.inc) new.commands ends shown clients
   each_alike up ends shown clients each = subst (λ (s : Setting). AreSeated o n s.inc (up s.inc) new.commands ends shown clients) (sym setting)
       (subst (λ (c : Commands). AreSeated o n old.setting.inc (up old.setting.inc) c ends shown clients) (sym alike.commands) each)
+
+pub shows_down : {D : Type 0} (o : Opening) (n : ℕ) (old new : Stopped D) (world : PacketWorld) (log : List Record) → new.kept ≡ old.kept → IsAlike (seen old.carried) (seen new.carried) → new.carried.setting ≡ old.carried.setting
+    → ShowsDown n old log world → ShowsDown n new log world
+shows_down o n old new world log kept alike setting node = record {
+  carried = carried_alike o n old.carried new.carried alike setting world node.carried;
+  down = node.down;
+  setting = node.setting ∙ sym setting;
+  kept = node.kept ∙ sym kept;
+  log_is = node.log_is;
+  none = node.none;
+}
 
 module _ {D : Type 0} (told : Type 0) (state : D → DiskState) (o : Opening) (n : ℕ) (ends : List NodeEnds) (clients : List ClientCell) where
   seat_up : (old new : Up D) (world : PacketWorld) → new.host ≡ old.host → new.sessions ≡ old.sessions → IsAlike (seen old.carried) (seen new.carried) → new.carried.setting ≡ old.carried.setting → SeatUp o n old ends clients world → SeatUp o n new ends clients world
@@ -84,14 +95,7 @@ module _ {D : Type 0} (told : Type 0) (state : D → DiskState) (o : Opening) (n
 
   seat_down : (old new : Stopped D) (world : PacketWorld) (log : List Record) → new.kept ≡ old.kept → IsAlike (seen old.carried) (seen new.carried) → new.carried.setting ≡ old.carried.setting → SeatDown o n old ends clients log world → SeatDown o n new ends clients log world
   seat_down old new world log kept alike setting seat = record {
-    node = record {
-      carried = carried_alike o n old.carried new.carried alike setting world seat.node.carried;
-      down = seat.node.down;
-      setting = seat.node.setting ∙ sym setting;
-      kept = seat.node.kept ∙ sym kept;
-      log_is = seat.node.log_is;
-      none = seat.node.none;
-    };
+    node = shows_down o n old new world log kept alike setting seat.node;
     rising = subst (λ (c : Commands). IsRising client_cmp c) (sym alike.commands) seat.rising;
     own = subst (λ (c : Commands). AreOfNode o n c) (sym alike.commands) seat.own;
     each = each_alike o n old.carried new.carried alike setting (λ inc. None) ends world.clients clients seat.each;

@@ -25,3 +25,5 @@ pub mod LanesStay
 pub mod SitesGoOn
 pub mod SitesBegin
 pub mod ByNumber
+pub mod Cellular
+pub mod Refused

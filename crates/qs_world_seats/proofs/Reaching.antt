@@ -1,6 +1,7 @@
 -- Each event and each restart of a cell goes on in the world: its node's local run is made longer, and where a step is cut off two are kept.
 use Rattle.std.proofs.Common.{◌≡◌, ◌⊎◌, ◌∙◌, ap, inl, inr, refl, subst, sym, ℕ, ◌+◌, ◌<◌, ◌≤◌, Bool, true, false, List, [], ◌++◌, Some, Result, Ok, append-nil, arith}
 use Rattle.std.specs.Global.{Global}
+use Rattle.std.specs.Prelude.{⊤}
 use Rattle.qs_book_journal.specs.declared.entry.CrashCause.{CrashCause}
 use Rattle.qs_cell.specs.Asides.{IsAsideOutcome}
 use Rattle.qs_cell.specs.Cell.{IfStands, IsOutcome, StandsAfter, out_of}
@@ -10,6 +11,7 @@ use Rattle.qs_cell.specs.Restart.{IfUp, IsRestarted, IsUp, inc_of}
 use Rattle.qs_cell.specs.State.{Restarts, Up, answers_of, disk_of, state_after, state_of}
 use Rattle.qs_cell.specs.Visits.{all_delivered}
 use Rattle.qs_cell.specs.declared.state.CellState.{CellState}
+use Rattle.qs_cell.specs.declared.state.CellState.TheVariants as states
 use Rattle.qs_cell.specs.declared.state.RestartFault.{RestartFault}
 use Rattle.qs_cell.specs.declared.stopped.Restarted.{Restarted}
 use Rattle.qs_cell.specs.declared.stopped.Restarted.TheVariants as restarts
@@ -60,6 +62,19 @@ more a b within = omega arith
 one_log : {D : Type 0} (log : LogValue (FusedValue D)) (disk : DiskState) → Stands log disk → EachImage (HasOneOf log.forced log.forced) disk.now
 one_log log disk stands image is = inl (record { present = log.slots.present; used = log.used; log = subst (λ (c : List ℕ). IsLog log.slots.present log.forced log.used c) (sym (stands.still image is)) stands.forced })
 
+-- of a stop in place of an event the command is told where memory was not refused
+abbrev pub IsGrantedIn : {D : Type 0} → Outcome D Files NoServer → Type 0
+IsGrantedIn (outcomes.Replaced stopped) = IsGranted (states.Down stopped)
+IsGrantedIn (outcomes.Whole running said) = ⊤
+IsGrantedIn (outcomes.Followed stopped said) = ⊤
+IsGrantedIn (outcomes.CutOff stopped) = ⊤
+
+granted_in : {D : Type 0} (outcome : Outcome D Files NoServer) → IsGranted (state_of outcome) → IsGrantedIn outcome
+granted_in (outcomes.Replaced stopped) granted = granted
+granted_in (outcomes.Whole running said) granted = tt
+granted_in (outcomes.Followed stopped said) granted = tt
+granted_in (outcomes.CutOff stopped) granted = tt
+
 module _ {D : Type 0} (told : Type 0) (state : D → DiskState) (own size : D → ℕ) (o : Opening) (n : ℕ) where
   module _ (old : Up D) (ends : List NodeEnds) (clients : List ClientCell) (was : IsRunning told state o n old ends clients) where
     abbrev bytes : ℕ
@@ -72,6 +87,14 @@ module _ {D : Type 0} (told : Type 0) (state : D → DiskState) (own size : D �
     none_fell_behind image is = record { present = old.host.log.slots.present; slots = is.slots; reached = reaches was.inc }
 
     -- it stops before the disk is touched
+    pub images_whole : (stopped : Stopped D) → stopped.disk ≡ old.host.log.disk → told → EachImage (HasOneOf lost_log lost_log) (state stopped.disk.disk).now
+    images_whole stopped disk t = subst (λ (d : FusedValue D). EachImage (HasOneOf lost_log lost_log) (state d.disk).now) (sym disk) (one_log old.host.log (state old.host.log.disk.disk) (was.stands t))
+
+    pub incs_whole : (stopped : Stopped D) → stopped.disk ≡ old.host.log.disk → stopped.carried.setting ≡ old.carried.setting → told → EachImage (IsInOrPast stopped.carried.setting.inc) (state stopped.disk.disk).now
+    incs_whole stopped disk same t = subst (λ (d : FusedValue D). EachImage (IsInOrPast stopped.carried.setting.inc) (state d.disk).now) (sym disk)
+        (subst (λ (s : Setting). EachImage (IsInOrPast s.inc) (state old.host.log.disk.disk).now) (sym same)
+        (λ image at. none_fell_behind image (subst (λ (c : List ℕ). IsLog old.host.log.slots.present old.host.log.forced old.host.log.used c) (sym ((was.stands t).still image at)) (was.stands t).forced)))
+
     stopped_whole : (stopped : Stopped D) (lanes : List NodeEnds) → Reaches o n stopped.carried.chronicle.told (SeatDown o n stopped lanes clients lost_log) → stopped.disk ≡ old.host.log.disk → stopped.carried.setting ≡ old.carried.setting
         → IsHalted told state o n stopped lanes clients
     stopped_whole stopped lanes reached disk same = record {
@@ -79,10 +102,8 @@ module _ {D : Type 0} (told : Type 0) (state : D → DiskState) (own size : D �
       other = lost_log;
       to_first = reached;
       to_other = reached;
-      images = λ t. subst (λ (d : FusedValue D). EachImage (HasOneOf lost_log lost_log) (state d.disk).now) (sym disk) (one_log old.host.log (state old.host.log.disk.disk) (was.stands t));
-      incs = λ t. subst (λ (d : FusedValue D). EachImage (IsInOrPast stopped.carried.setting.inc) (state d.disk).now) (sym disk)
-          (subst (λ (s : Setting). EachImage (IsInOrPast s.inc) (state old.host.log.disk.disk).now) (sym same)
-          (λ image at. none_fell_behind image (subst (λ (c : List ℕ). IsLog old.host.log.slots.present old.host.log.forced old.host.log.used c) (sym ((was.stands t).still image at)) (was.stands t).forced)));
+      images = images_whole stopped disk;
+      incs = incs_whole stopped disk same;
     }
 
     -- ---- each event
@@ -117,7 +138,7 @@ module _ {D : Type 0} (told : Type 0) (state : D → DiskState) (own size : D �
           → EachImage (IsInOrPast stopped.carried.setting.inc) (state stopped.disk.disk).now
       incs_of stopped same images image at = subst (λ (s : Setting). IsInOrPast s.inc image) (sym same) (none_behind image (images image at))
 
-      pub goes_on : (outcome : Outcome D Files NoServer) → IsOutcome own bytes occasion (with_sessions sessions old) outcome → IsGranted (state_of outcome)
+      pub goes_on : (outcome : Outcome D Files NoServer) → IsOutcome own bytes occasion (with_sessions sessions old) outcome → IsGrantedIn outcome
           → (told → IfStands outcome (λ disk. StandsAfter out old.host.log disk (state disk.disk)))
           → (told → Keeps (IsOldOrAfter out old.host.log) (state old.host.log.disk.disk) (state (disk_of (state_of outcome)).disk))
           → IsInWorld told state o n (state_of outcome) (all_delivered (answers_of outcome) lanes) clients
@@ -168,7 +189,7 @@ each_event told state own size o n source occasion sessions old new ends clients
     subst (λ (x : CellState _). IsInWorld told state o n x (all_delivered answers (left source old ends)) clients) (sym makes.node)
     (subst (λ (a : List ClientAnswer). IsInWorld told state o n (state_of makes.outcome) (all_delivered a (left source old ends)) clients) (sym makes.said)
     (goes_on told state own size o n old ends clients was source occasion sessions due_is makes.outcome makes.is
-    (subst (λ (x : CellState _). IsGranted x) makes.node granted) makes.stands
+    (granted_in makes.outcome (subst (λ (x : CellState _). IsGranted x) makes.node granted)) makes.stands
     (λ t. subst (λ (x : CellState _). Keeps (IsOldOrAfter (out_of (size old.host.log.disk.disk) occasion old) old.host.log) (state old.host.log.disk.disk) (state (disk_of x).disk)) makes.node (makes.moments t))))
 
 -- ---- a restart

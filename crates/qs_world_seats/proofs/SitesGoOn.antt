@@ -38,7 +38,7 @@ module _ {D : Type 0} (told : Type 0) (state : D → DiskState) (own size : D �
   -- ---- the node
 
   -- whatever a restart answers
-  starts_on : (old new : CellValue D) (answer : Result Bool RestartFault) (clients : List ClientCell) → told → StartsAgain told state own size old.alloc old.seat.node new.seat.node answer → new.seat.ends ≡ old.seat.ends
+  pub starts_on : (old new : CellValue D) (answer : Result Bool RestartFault) (clients : List ClientCell) → told → StartsAgain told state own size old.alloc old.seat.node new.seat.node answer → new.seat.ends ≡ old.seat.ends
       → PostInWorld told state o n old.seat clients → PostInWorld told state o n new.seat clients
   starts_on old new answer clients t starts ends was = subst (λ (l : List NodeEnds). IsInWorld told state o n new.seat.node l clients) (sym ends) (by old.seat.node starts was)
     where

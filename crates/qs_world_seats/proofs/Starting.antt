@@ -6,7 +6,6 @@ use Rattle.qs_cell.specs.Restart.{inc_of}
 use Rattle.qs_cell.specs.Starts.{setting_in}
 use Rattle.qs_cell.specs.State.{Up}
 use Rattle.qs_cell.specs.declared.state.CellState.{CellState}
-use Rattle.qs_cell.specs.declared.state.CellState.TheVariants as states
 use Rattle.qs_cell_chronicle.specs.Carried.{Seen}
 use Rattle.qs_client.specs.declared.cell.ClientCell.{ClientCell}
 use Rattle.qs_disk.specs.Disk.{DiskState}
@@ -16,13 +15,13 @@ use Rattle.qs_log.specs.Log.{LogValue}
 use Rattle.qs_node_host.specs.Host.{HostValue}
 use Rattle.qs_node_step.specs.declared.setting.Setting.{Setting}
 use Rattle.qs_world.specs.World.{Opening}
-use Rattle.qs_world_merge.proofs.Reaches.{each_reached_locally}
 use Rattle.qs_world_packets.specs.PacketWorld.{start}
 use Rattle.qs_world_seats.proofs.Begins.{each_begins}
+use Rattle.qs_world_seats.proofs.Cellular.{cell_of, each_cell_tells}
 use Rattle.qs_world_seats.proofs.InHands.{none_waits}
 use Rattle.qs_world_seats.proofs.Seated.{up_with}
 use Rattle.qs_world_seats.specs.Reached.{SeatBegins, TellsOfRun}
-use Rattle.qs_world_seats.specs.Shown.{IsUp, Reaches, observed_of}
+use Rattle.qs_world_seats.specs.Shown.{IsUp, Reaches}
 
 pub each_seat_begins : {D : Type 0} (told : Type 0) (state : D → DiskState) (o : Opening) (n : ℕ) (alloc : Global) (given : Setting) (crashes : List ℕ) (points : List Point) (log : LogValue (FusedValue D)) (new : Up D) (ends : List NodeEnds) (clients : List ClientCell)
     → SeatBegins told state o n alloc given crashes points log new ends clients
@@ -41,5 +40,4 @@ each_seat_begins {D = D} told state o n alloc given crashes points log new ends 
     r = each_begins o n alloc given crashes points log new is none opens
 
 pub each_tells : {D : Type 0} (told : Type 0) (state : D → DiskState) (o : Opening) (n : ℕ) (node : CellState D) (ends : List NodeEnds) (clients : List ClientCell) → TellsOfRun told state o n node ends clients
-each_tells told state o n (states.Up running) ends clients was = each_reached_locally o n (observed_of running.carried.chronicle.told) running.carried.chronicle.told.stamp was.reached.world was.reached.reached
-each_tells told state o n (states.Down stopped) ends clients was = each_reached_locally o n (observed_of stopped.carried.chronicle.told) stopped.carried.chronicle.told.stamp was.to_first.world was.to_first.reached
+each_tells told state o n node ends clients was = each_cell_tells told state o n node (cell_of told state o n node ends clients was)

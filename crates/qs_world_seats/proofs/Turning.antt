@@ -117,18 +117,20 @@ module _ {D : Type 0} (told : Type 0) (state : D → DiskState) (own size : D �
 
   -- ---- a packet
 
-  hears_in : (heard : Heard) (packet : Packet) (sessions : SessionsValue) (running : Up D) (ends : List NodeEnds) (new : CellState D) (answers : List ClientAnswer) → heard_of running.sessions packet ≡ heard
-      → EndAs running.sessions (ends_heard running.sessions packet) sessions → HandsUp told state own size heard packet (states.Up (record running { sessions = sessions })) new answers → IsGranted new
+  -- it is set aside
+  pub aside_in : (packet : Packet) (sessions : SessionsValue) (running : Up D) (ends : List NodeEnds) (new : CellState D) (answers : List ClientAnswer) → heard_of running.sessions packet ≡ heards.Aside
+      → EndAs running.sessions (ends_heard running.sessions packet) sessions → HandsUp told state own size heards.Aside packet (states.Up (record running { sessions = sessions })) new answers
       → IsRunning told state o n running ends clients → IsInWorld told state o n new (all_delivered answers ends) clients
-  hears_in heards.Message packet sessions running ends new answers is taken makes granted was =
-      each_event told state own size o n OfPeer (occasions.Message packet) sessions running new ends clients answers makes granted (record { heard_as = is; ends = taken }) was
-  hears_in (heards.Restarted known) packet sessions running ends new answers is taken makes granted was =
-      each_event told state own size o n OfPeer (occasions.Restarted packet known) sessions running new ends clients answers makes granted (record { heard_as = is; ends = taken }) was
-  hears_in heards.Aside packet sessions running ends new answers is taken (outcome, (aside, (node, said))) granted was =
+  aside_in packet sessions running ends new answers is taken (outcome, (aside, (node, said))) was =
       subst (λ (x : CellState D). IsInWorld told state o n x (all_delivered answers ends) clients) (sym node)
       (subst (λ (a : List ClientAnswer). IsInWorld told state o n (state_of outcome) (all_delivered a ends) clients) (sym said)
       (aside_goes_on told state own size o n running ends clients was packet sessions (record { heard_as = is; ends = taken }) outcome aside))
-  hears_in heards.Strange packet sessions running ends new answers is taken (same, none) granted was =
+
+  -- it is strange
+  pub strange_in : (packet : Packet) (sessions : SessionsValue) (running : Up D) (ends : List NodeEnds) (new : CellState D) (answers : List ClientAnswer) → heard_of running.sessions packet ≡ heards.Strange
+      → EndAs running.sessions (ends_heard running.sessions packet) sessions → HandsUp told state own size heards.Strange packet (states.Up (record running { sessions = sessions })) new answers
+      → IsRunning told state o n running ends clients → IsInWorld told state o n new (all_delivered answers ends) clients
+  strange_in packet sessions running ends new answers is taken (same, none) was =
       subst (λ (x : CellState D). IsInWorld told state o n x (all_delivered answers ends) clients) (sym same)
       (subst (λ (a : List ClientAnswer). IsRunning told state o n (record running { sessions = sessions }) (all_delivered a ends) clients) (sym none) (record {
         reached = record { world = was.reached.world; reached = was.reached.reached; shows = unchanged was.reached.world was.reached.shows };
@@ -153,6 +155,16 @@ module _ {D : Type 0} (told : Type 0) (state : D → DiskState) (own size : D �
         each = seat.each;
       }
 
+  hears_in : (heard : Heard) (packet : Packet) (sessions : SessionsValue) (running : Up D) (ends : List NodeEnds) (new : CellState D) (answers : List ClientAnswer) → heard_of running.sessions packet ≡ heard
+      → EndAs running.sessions (ends_heard running.sessions packet) sessions → HandsUp told state own size heard packet (states.Up (record running { sessions = sessions })) new answers → IsGranted new
+      → IsRunning told state o n running ends clients → IsInWorld told state o n new (all_delivered answers ends) clients
+  hears_in heards.Message packet sessions running ends new answers is taken makes granted was =
+      each_event told state own size o n OfPeer (occasions.Message packet) sessions running new ends clients answers makes granted (record { heard_as = is; ends = taken }) was
+  hears_in (heards.Restarted known) packet sessions running ends new answers is taken makes granted was =
+      each_event told state own size o n OfPeer (occasions.Restarted packet known) sessions running new ends clients answers makes granted (record { heard_as = is; ends = taken }) was
+  hears_in heards.Aside packet sessions running ends new answers is taken aside granted was = aside_in packet sessions running ends new answers is taken aside was
+  hears_in heards.Strange packet sessions running ends new answers is taken strange granted was = strange_in packet sessions running ends new answers is taken strange was
+
   -- the node's session takes it in first
   taken_in_then : (packet : Packet) (running : Up D) (ends : List NodeEnds) (new : CellState D) (answers : List ClientAnswer) → TakesIn told state own size packet (states.Up running) new answers → IsGranted new
       → IsRunning told state o n running ends clients → IsInWorld told state o n new (all_delivered answers ends) clients
@@ -162,7 +174,7 @@ module _ {D : Type 0} (told : Type 0) (state : D → DiskState) (own size : D �
       it : HasHeard packet running takes.mid takes.heard
       it = takes.takes
 
-  hears_by : (m : ℕ) (ready : CellState D) (old new : Post D) → HearsIn told state own size m ready old new → IsGranted new.seat.node → IsInWorld told state o n ready old.seat.ends clients → PostInWorld told state o n new.seat clients
+  pub hears_by : (m : ℕ) (ready : CellState D) (old new : Post D) → HearsIn told state own size m ready old new → IsGranted new.seat.node → IsInWorld told state o n ready old.seat.ends clients → PostInWorld told state o n new.seat clients
   hears_by m (states.Down stopped) old new is granted was = idle (states.Down stopped) old.seat.ends old.seat.ends new.seat refl (ap (λ (p : Post D). p.seat) is) was
   hears_by m (states.Up running) old new (taken, (links, (took, turn))) granted was = by taken turn
     where

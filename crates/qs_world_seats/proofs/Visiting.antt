@@ -71,14 +71,14 @@ module _ {D : Type 0} (told : Type 0) (state : D → DiskState) (own size : D �
       (all_hear m old mid before (granted_before mid.seat.node new.seat.node (times_stay m (carried_from mid.links m) mid new hears) granted) was)
 
   -- the turns of sources, each by whether the node is up
-  abbrev AreTurns : {S : Type 0} → (S → CellState D → List NodeEnds → Option Occasion) → (S → CellState D → List NodeEnds → List NodeEnds) → List S → Type 0
+  abbrev pub AreTurns : {S : Type 0} → (S → CellState D → List NodeEnds → Option Occasion) → (S → CellState D → List NodeEnds → List NodeEnds) → List S → Type 0
   AreTurns is_due rest [] = ⊤
   AreTurns is_due rest (source ∷ sources) =
       ((from : From) × (((running : Up D) (ends : List NodeEnds) → IsTurn from (states.Up running) ends clients (is_due source (states.Up running) ends) (rest source (states.Up running) ends))
       × ((stopped : Stopped D) (ends : List NodeEnds) → IsTurn from (states.Down stopped) ends clients (is_due source (states.Down stopped) ends) (rest source (states.Down stopped) ends))))
       × AreTurns is_due rest sources
 
-  its_turns : (ends : List NodeEnds) → AreOfClients ends clients → AreTurns due left_by (map client_source ends ++ sources_of [])
+  pub its_turns : (ends : List NodeEnds) → AreOfClients ends clients → AreTurns due left_by (map client_source ends ++ sources_of [])
   its_turns [] of = (
     (OfNode, ((λ running ends. queues_turn told state own size o n clients running ends (is_queued (states.Up running))), (λ stopped ends. (refl, refl)))),
     ((OfNode, ((λ running ends. ((refl, refl), refl)), (λ stopped ends. (refl, refl)))), tt),

@@ -14,3 +14,5 @@ pub mod Visiting
 pub mod Carrying
 -- A site of a run.
 pub mod Sites
+-- A cell whatever became of its clients, and where memory was refused.
+pub mod Cells
