@@ -30,7 +30,7 @@ same_cell old new (b ∷ bs) (a ∷ more) (mid, (both, rest)) =
     (it.0 ∙ both.node, it.1 ∙ both.links)
 
 -- each site stays in the world
-each_of : {D : Type 0} (P : Cast D → Cast D → Type 0) (Q : ℕ → Cast D → Type 0) (old new : List (Cast D)) → Each P old new → ((n : ℕ) (a b : Cast D) → P a b → Q n a → Q n b)
+pub each_of : {D : Type 0} (P : Cast D → Cast D → Type 0) (Q : ℕ → Cast D → Type 0) (old new : List (Cast D)) → Each P old new → ((n : ℕ) (a b : Cast D) → P a b → Q n a → Q n b)
     → ((n : ℕ) (a : Cast D) → slice_get old n ≡ Some a → Q n a) → (n : ℕ) (b : Cast D) → slice_get new n ≡ Some b → Q n b
 each_of {D} P Q old new e keeps was n b is = by (found old n (omega (arith, low_of new n b is, e.count)))
   where

@@ -14,8 +14,8 @@ use Rattle.qs_world.specs.World.{Opening}
 use Rattle.qs_world_merge.specs.MergedRuns.{untimed}
 use Rattle.qs_world_nodes.proofs.Opened.{each_opening, inc_is}
 use Rattle.qs_world_nodes.proofs.Places.{found}
-use Rattle.qs_world_nodes.proofs.Telling.{each_cut_traced, each_ending_traced, each_rounds_traced}
-use Rattle.qs_world_nodes.specs.Lawful.{CutShortIsLawful, EndingsAreLawful, NodesMayBegin, RoundsAreLawful}
+use Rattle.qs_world_nodes.proofs.Telling.{each_cut_traced, each_ending_traced, each_refused_traced, each_rounds_traced}
+use Rattle.qs_world_nodes.specs.Lawful.{CutShortIsLawful, EndingsAreLawful, NodesMayBegin, RefusedIsLawful, RoundsAreLawful}
 use Rattle.qs_world_nodes.specs.Nodes.{plans_of}
 use Rattle.qs_world_nodes.specs.Openings.{inc_by, log_by, opening_over}
 use Rattle.qs_world_opening.specs.Scripts.{MayBegin}
@@ -68,3 +68,9 @@ pub each_cut_lawful : {D : Type 0} → ((o : Opening) → MayBegin o) → EachJo
 each_cut_lawful may lawful told state own size alloc script disks seed node all new journal trace t begun once fits coherent cut few entries steps =
     lawful_of lawful (opening_over alloc script disks all.sites) (plans_of script) journal trace (each_may_begin may told state own alloc script disks all t begun fits coherent)
     (each_cut_traced told state own size alloc script disks (opening_over alloc script disks all.sites) seed node all new t begun (each_opening told state own alloc script disks all begun once) cut few journal trace entries steps)
+
+pub each_refused_lawful : {D : Type 0} → ((o : Opening) → MayBegin o) → EachJournalLawful → (told : Type 0) (state : D → DiskState) (own size : D → ℕ) (alloc : Global) (script : Script) (disks : List D) (seed : ℕ) (all new : SitesValue D)
+    (journal : List Entry) (trace : List Step) → RefusedIsLawful told state own size alloc script disks seed all new journal trace
+each_refused_lawful may lawful told state own size alloc script disks seed all new journal trace t begun once fits coherent out few entries steps =
+    lawful_of lawful (opening_over alloc script disks all.sites) (plans_of script) journal trace (each_may_begin may told state own alloc script disks all t begun fits coherent)
+    (each_refused_traced told state own size alloc script disks (opening_over alloc script disks all.sites) seed all new t begun (each_opening told state own alloc script disks all begun once) out few journal trace entries steps)

@@ -10,6 +10,10 @@ pub mod Carrying
 pub mod Visiting
 -- Rounds.
 pub mod Rounds
+-- The links of sites keep their plans.
+pub mod Keeping
+-- Where memory was refused in a round.
+pub mod Refused
 -- What the cells tell.
 pub mod Telling
 -- What such a run opens with.

@@ -1,39 +1,32 @@
 -- What the cells of sites in the world tell, merged, is traced.
-use Rattle.std.proofs.Common.{◌≡◌, ◌∙◌, ap, subst, sym, ℕ, ◌<◌, ◌-◌, List, arith, slice_get, Some}
+use Rattle.std.proofs.Common.{subst, sym, ℕ, ◌-◌, List, arith, slice_get, ◌≡◌, Some}
 use Rattle.std.specs.Global.{Global}
 use Rattle.qs_base.specs.declared.identifiers.NodeNo.{NodeNo}
 use Rattle.qs_book_script.specs.declared.script.Script.{Script}
-use Rattle.qs_cell.specs.Hearing.{Post}
-use Rattle.qs_cell.specs.Starts.{post_of}
 use Rattle.qs_disk.specs.Disk.{DiskState}
 use Rattle.qs_link.specs.declared.outgoing.LinkFault.{LinkFault}
-use Rattle.qs_node_step.specs.declared.trace.Step.{Step}
 use Rattle.qs_world.specs.World.{Opening}
-use Rattle.qs_world_links.proofs.Linked.{each_keeps}
-use Rattle.qs_world_links.specs.Between.{AreFew}
-use Rattle.qs_world_links.specs.Everywhere as links
-use Rattle.qs_world_links.specs.Posts.{trace_in}
 use Rattle.qs_world_merge.specs.Observed.{AreOfLocalRuns, IsOfLocalRun}
 use Rattle.qs_world_nodes.proofs.Beginning.{each_begins}
-use Rattle.qs_world_nodes.proofs.Places.{found, post_there}
+use Rattle.qs_world_nodes.proofs.Keeping.{each_cells}
+use Rattle.qs_world_nodes.proofs.Places.{found}
+use Rattle.qs_world_nodes.proofs.Refused.{each_refused}
 use Rattle.qs_world_nodes.proofs.Rounds.{each_broken, each_round, each_rounds}
-use Rattle.qs_world_nodes.specs.Nodes.{AreSitesIn, FewWerePut, journal_at, journal_by, plans_of, post_at, trace_at, trace_by}
-use Rattle.qs_world_nodes.specs.Running.{CutShortIsTraced, EndingsAreTraced, RoundsAreTraced, SitesAreTraced}
+use Rattle.qs_world_nodes.specs.Nodes.{AreCellsIn, journal_at, journal_by, plans_of, trace_at, trace_by}
+use Rattle.qs_world_nodes.specs.Running.{CellsAreTraced, CutShortIsTraced, EndingsAreTraced, RefusedIsTraced, RoundsAreTraced, SitesAreTraced}
 use Rattle.qs_world_plans.specs.Order.{drawn_order, seeded}
 use Rattle.qs_world_rounds.specs.Rounds.{Cast}
 use Rattle.qs_world_rounds.specs.declared.rounds.Ending.{Ending}
-use Rattle.qs_world_seats.proofs.Starting.{each_tells}
+use Rattle.qs_world_seats.proofs.Cellular.{each_cell_tells}
 use Rattle.qs_world_sites.specs.Sites.{SitesValue, count_of}
 use Rattle.qs_world_traces.proofs.TracesRun.{each_traced}
-use Rattle.qs_world_traces.specs.Links.{IsTakenByPlan, KeepPlans, observed_by, put_to, took_from}
+use Rattle.qs_world_traces.specs.Links.{observed_by}
 use Rattle.rand_pcg.specs.Lcg.{Lcg}
 
-module _ {D : Type 0} (told : Type 0) (state : D → DiskState) (o : Opening) (plans : ℕ → ℕ → List LinkFault) (sites : List (Cast D)) (are : AreSitesIn told state o plans sites) where
-  -- ---- each tells of a local run
-
+module _ {D : Type 0} (told : Type 0) (state : D → DiskState) (o : Opening) (plans : ℕ → ℕ → List LinkFault) (sites : List (Cast D)) (are : AreCellsIn told state o plans sites) where
+  -- each tells of a local run
   tells_at : (n : ℕ) (a : Cast D) → slice_get sites n ≡ Some a → IsOfLocalRun o n (observed_by (journal_at sites n) (trace_at sites n))
-  tells_at n a is = subst (λ (x : _). IsOfLocalRun o n (observed_by (journal_by x) (trace_by x))) (sym is)
-      (each_tells told state o n a.node.seat.node a.node.seat.ends a.clients (are.each n a is).there.there)
+  tells_at n a is = subst (λ (x : _). IsOfLocalRun o n (observed_by (journal_by x) (trace_by x))) (sym is) (each_cell_tells told state o n a.node.seat.node (are.each n a is))
 
   local : AreOfLocalRuns o (λ n. observed_by (journal_at sites n) (trace_at sites n))
   local n low = by (found sites n (omega (arith, low, are.count)))
@@ -41,33 +34,12 @@ module _ {D : Type 0} (told : Type 0) (state : D → DiskState) (o : Opening) (p
       by : (a : Cast D) × (slice_get sites n ≡ Some a) → IsOfLocalRun o n (observed_by (journal_at sites n) (trace_at sites n))
       by (a, is) = tells_at n a is
 
-  -- ---- the links keep their plans
-
-  module _ (few : FewWerePut sites) (other : Post D) where
-    same_trace : (n : ℕ) → n < o.size → trace_in (post_at other sites n) ≡ trace_at sites n
-    same_trace n low = by (found sites n (omega (arith, low, are.count)))
-      where
-        by : (a : Cast D) × (slice_get sites n ≡ Some a) → trace_in (post_at other sites n) ≡ trace_at sites n
-        by (a, is) = ap (λ (p : Post D). trace_in p) (post_there other sites n a is) ∙ sym (ap trace_by is)
-
-    few_posts : links.FewWerePut o.size (post_at other sites)
-    few_posts m n low_m low_n apart = subst (λ (l : List Step). AreFew (put_to n l)) (sym (same_trace m low_m)) (few m n (omega (arith, low_m, are.count)) (omega (arith, low_n, are.count)) apart)
-
-    keep_with : KeepPlans o.size plans (trace_at sites)
-    keep_with n m low_n low_m apart = subst (λ (l : List Step). IsTakenByPlan (plans m n) (put_to n l) (took_from m (trace_at sites n))) (same_trace m low_m)
-        (subst (λ (l : List Step). IsTakenByPlan (plans m n) (put_to n (trace_in (post_at other sites m))) (took_from m l)) (same_trace n low_n)
-        (each_keeps o.size plans (post_at other sites) (are.links other) few_posts n m low_n low_m apart))
-
-  -- where there are two nodes there is a post
-  pub keep : FewWerePut sites → KeepPlans o.size plans (trace_at sites)
-  keep few n m low_n low_m apart = by (found sites n (omega (arith, low_n, are.count)))
-    where
-      by : (a : Cast D) × (slice_get sites n ≡ Some a) → IsTakenByPlan (plans m n) (put_to n (trace_at sites m)) (took_from m (trace_at sites n))
-      by (a, is) = keep_with few (post_of a.node) n m low_n low_m apart
+pub each_cells_traced : {D : Type 0} (told : Type 0) (state : D → DiskState) (o : Opening) (plans : ℕ → ℕ → List LinkFault) (sites : List (Cast D)) → CellsAreTraced told state o plans sites
+each_cells_traced told state o plans sites are journal trace entries steps =
+    each_traced o plans (journal_at sites) (trace_at sites) (local told state o plans sites are) are.keep journal trace entries steps
 
 pub each_sites_traced : {D : Type 0} (told : Type 0) (state : D → DiskState) (o : Opening) (plans : ℕ → ℕ → List LinkFault) (sites : List (Cast D)) → SitesAreTraced told state o plans sites
-each_sites_traced told state o plans sites are few journal trace entries steps =
-    each_traced o plans (journal_at sites) (trace_at sites) (local told state o plans sites are) (keep told state o plans sites are few) journal trace entries steps
+each_sites_traced told state o plans sites are few = each_cells_traced told state o plans sites (each_cells told state o plans sites are few)
 
 -- ---- of a run that has begun
 
@@ -87,3 +59,9 @@ module _ {D : Type 0} (told : Type 0) (state : D → DiskState) (own size : D �
       each_sites_traced told state o (plans_of script) new.sites
       (each_broken told state own size o (plans_of script) (drawn_order (count_of is.before) is.drawn).0 node is.before new t is.broken
       (each_rounds told state own size o (plans_of script) (seeded seed) is.rounds all is.before is.drawn t is.earlier (each_begins told state own alloc script disks all o t begun opens))) few
+
+  pub each_refused_traced : (seed : ℕ) (all new : SitesValue D) → RefusedIsTraced told state own size alloc script disks o seed all new
+  each_refused_traced seed all new t begun opens out few =
+      each_cells_traced told state o (plans_of script) new.sites
+      (each_refused told state own size o (plans_of script) (drawn_order (count_of out.before) out.drawn).0 out.before new t out.refused
+      (each_rounds told state own size o (plans_of script) (seeded seed) out.rounds all out.before out.drawn t out.earlier (each_begins told state own alloc script disks all o t begun opens)) few)

@@ -29,13 +29,13 @@ module _ {D : Type 0} (told : Type 0) (state : D → DiskState) (own size : D �
   -- ---- one site changes
 
   module _ (old : List (Cast D)) (k : ℕ) (site after : Cast D) (got : slice_get old k ≡ Some site) (was : AreSitesIn told state o plans old) where
-    low : k < o.size
+    pub low : k < o.size
     low = omega (arith, low_of old k site got, was.count)
 
-    at_k : slice_get (slice_set old k after) k ≡ Some after
+    pub at_k : slice_get (slice_set old k after) k ≡ Some after
     at_k = set_here old k site after got
 
-    others : (other : Post D) → OthersStay o.size k (post_at other old) (post_at other (slice_set old k after))
+    pub others : (other : Post D) → OthersStay o.size k (post_at other old) (post_at other (slice_set old k after))
     others other j in_run apart = by (set_other old k j after)
       where
         by : (j ≡ k) ⊎ (slice_get (slice_set old k after) j ≡ slice_get old j) → post_at other (slice_set old k after) j ≡ post_at other old j

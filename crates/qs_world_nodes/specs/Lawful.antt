@@ -21,7 +21,7 @@ use Rattle.qs_world_rounds.specs.Rounds.{Cast}
 use Rattle.qs_world_rounds.specs.declared.rounds.Ending.{Ending}
 use Rattle.qs_world_sites.specs.Rounds.{Rounds}
 use Rattle.qs_world_sites.specs.Seats.{HasBegun}
-use Rattle.qs_world_sites.specs.Endings.{IsCutShort, IsEnding}
+use Rattle.qs_world_sites.specs.Endings.{IsCutShort, IsEnding, IsOutOfMemory}
 use Rattle.qs_world_sites.specs.Sites.{SitesValue}
 use Rattle.qs_world_traces.specs.Links.{observed_by}
 use Rattle.rand_pcg.specs.Lcg.{Lcg}
@@ -52,5 +52,12 @@ EndingsAreLawful told state own size alloc script disks seed all new ending jour
 abbrev pub CutShortIsLawful : {D : Type 0} → Type 0 → (D → DiskState) → (D → ℕ) → (D → ℕ) → Global → Script → List D → ℕ → NodeNo → SitesValue D → SitesValue D → List Entry → List Step → Type 0
 CutShortIsLawful told state own size alloc script disks seed node all new journal trace =
     told → HasBegun told state own alloc script disks all → SitOnce script.seats → Fits (length disks) script → HaveCoherentLogs alloc disks all.sites → IsCutShort told state own size seed node all new → FewWerePut new.sites
+    → IsMerged (journals_of (length disks) (λ k. observed_by (journal_at new.sites k) (trace_at new.sites k))) journal → IsMergedBy step_key (length disks) (trace_at new.sites) trace
+    → IsLawful (book_of (opening_over alloc script disks all.sites)) journal
+
+-- and where memory was refused
+abbrev pub RefusedIsLawful : {D : Type 0} → Type 0 → (D → DiskState) → (D → ℕ) → (D → ℕ) → Global → Script → List D → ℕ → SitesValue D → SitesValue D → List Entry → List Step → Type 0
+RefusedIsLawful told state own size alloc script disks seed all new journal trace =
+    told → HasBegun told state own alloc script disks all → SitOnce script.seats → Fits (length disks) script → HaveCoherentLogs alloc disks all.sites → IsOutOfMemory told state own size seed all new → FewWerePut new.sites
     → IsMerged (journals_of (length disks) (λ k. observed_by (journal_at new.sites k) (trace_at new.sites k))) journal → IsMergedBy step_key (length disks) (trace_at new.sites) trace
     → IsLawful (book_of (opening_over alloc script disks all.sites)) journal

@@ -13,10 +13,11 @@ use Rattle.qs_world_links.specs.Between.{AreFew}
 use Rattle.qs_world_links.specs.Everywhere.{LinksAreTold}
 use Rattle.qs_world_plans.specs.Plan.{setting_of}
 use Rattle.qs_world_rounds.specs.Rounds.{Cast}
+use Rattle.qs_world_seats.specs.Cells.{IsCellIn}
 use Rattle.qs_world_seats.specs.Sites.{IsSiteIn, OpensSite}
 use Rattle.qs_world_sites.specs.Seats.{HasBegun, plan_between}
 use Rattle.qs_world_sites.specs.Sites.{SitesValue}
-use Rattle.qs_world_traces.specs.Links.{put_to}
+use Rattle.qs_world_traces.specs.Links.{KeepPlans, put_to}
 
 -- ---- what the cells tell, by the numbers of their nodes, and nothing where there is no such node
 
@@ -53,6 +54,13 @@ pub record AreSitesIn {D : Type 0} (told : Type 0) (state : D → DiskState) (o 
   pub count : length sites ≡ o.size
   pub each : (n : ℕ) (site : Cast D) → slice_get sites n ≡ Some site → IsSiteIn told state o n site
   pub links : (other : Post D) → LinksAreTold o.size plans (post_at other sites)
+
+-- so much stands where memory was refused at one of them: each cell is where its node has come to, whatever became of the clients, and what each took of each
+-- other one is a front of what goes out by the plan of that link
+pub record AreCellsIn {D : Type 0} (told : Type 0) (state : D → DiskState) (o : Opening) (plans : ℕ → ℕ → List LinkFault) (sites : List (Cast D)) : Type 0 where
+  pub count : length sites ≡ o.size
+  pub each : (n : ℕ) (site : Cast D) → slice_get sites n ≡ Some site → IsCellIn told state o n site.node.seat.node
+  pub keep : KeepPlans o.size plans (trace_at sites)
 
 -- ---- as they begin
 

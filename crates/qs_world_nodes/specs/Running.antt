@@ -12,11 +12,11 @@ use Rattle.qs_world.specs.World.{Opening}
 use Rattle.qs_world_merge.specs.MergedByKey.{IsMergedBy}
 use Rattle.qs_world_merge.specs.Observed.{journals_of}
 use Rattle.qs_world_merge.specs.StepMoves.{step_key}
-use Rattle.qs_world_nodes.specs.Nodes.{AreSitesIn, FewWerePut, OpensSites, journal_at, plans_of, trace_at}
+use Rattle.qs_world_nodes.specs.Nodes.{AreCellsIn, AreSitesIn, FewWerePut, OpensSites, journal_at, plans_of, trace_at}
 use Rattle.qs_world_rounds.specs.Rounds.{Cast}
 use Rattle.qs_world_rounds.specs.declared.rounds.Ending.{Ending}
-use Rattle.qs_world_sites.specs.Breaks.{BreaksRound}
-use Rattle.qs_world_sites.specs.Endings.{IsCutShort, IsEnding}
+use Rattle.qs_world_sites.specs.Breaks.{BreaksRound, RefusesRound}
+use Rattle.qs_world_sites.specs.Endings.{IsCutShort, IsEnding, IsOutOfMemory}
 use Rattle.qs_world_sites.specs.Rounds.{IsRound, Rounds, VisitAll, VisitAt}
 use Rattle.qs_world_sites.specs.Seats.{HasBegun}
 use Rattle.qs_world_sites.specs.Sites.{AreCarried, SitesValue}
@@ -51,12 +51,25 @@ RoundsKeep told state own size o plans rng n old new later = told → Rounds tol
 abbrev pub BrokenRoundKeeps : {D : Type 0} → Type 0 → (D → DiskState) → (D → ℕ) → (D → ℕ) → Opening → (ℕ → ℕ → List LinkFault) → List ℕ → NodeNo → SitesValue D → SitesValue D → Type 0
 BrokenRoundKeeps told state own size o plans order node old new = told → BreaksRound told state own size order node old new → AreSitesIn told state o plans old.sites → AreSitesIn told state o plans new.sites
 
+-- ---- as long as fewer than 2^63 packets were put to each link, their cells are there
+
+abbrev pub SitesHaveCells : {D : Type 0} → Type 0 → (D → DiskState) → Opening → (ℕ → ℕ → List LinkFault) → List (Cast D) → Type 0
+SitesHaveCells told state o plans sites = AreSitesIn told state o plans sites → FewWerePut sites → AreCellsIn told state o plans sites
+
+-- also where memory was refused in a round, in whichever visit and within whichever step
+abbrev pub RefusedRoundLeaves : {D : Type 0} → Type 0 → (D → DiskState) → (D → ℕ) → (D → ℕ) → Opening → (ℕ → ℕ → List LinkFault) → List ℕ → SitesValue D → SitesValue D → Type 0
+RefusedRoundLeaves told state own size o plans order old new =
+    told → RefusesRound told state own size order old new → AreSitesIn told state o plans old.sites → FewWerePut new.sites → AreCellsIn told state o plans new.sites
+
 -- ---- what they tell
 
 -- merged by stamp and node, it is the steps of a run of the world, over links that keep their plans, and its history
 abbrev pub AreTraced : {D : Type 0} → Opening → (ℕ → ℕ → List LinkFault) → List (Cast D) → Type 0
 AreTraced o plans sites = (journal : List Entry) (trace : List Step) → IsMerged (journals_of o.size (λ n. observed_by (journal_at sites n) (trace_at sites n))) journal → IsMergedBy step_key o.size (trace_at sites) trace
     → IsTraced o plans journal trace
+
+abbrev pub CellsAreTraced : {D : Type 0} → Type 0 → (D → DiskState) → Opening → (ℕ → ℕ → List LinkFault) → List (Cast D) → Type 0
+CellsAreTraced told state o plans sites = AreCellsIn told state o plans sites → AreTraced o plans sites
 
 -- as long as fewer than 2^63 packets were put to each link
 abbrev pub SitesAreTraced : {D : Type 0} → Type 0 → (D → DiskState) → Opening → (ℕ → ℕ → List LinkFault) → List (Cast D) → Type 0
@@ -78,4 +91,10 @@ EndingsAreTraced told state own size alloc script disks o seed all new ending =
 abbrev pub CutShortIsTraced : {D : Type 0} → Type 0 → (D → DiskState) → (D → ℕ) → (D → ℕ) → Global → Script → List D → Opening → ℕ → NodeNo → SitesValue D → SitesValue D → Type 0
 CutShortIsTraced told state own size alloc script disks o seed node all new =
     told → (begun : HasBegun told state own alloc script disks all) → OpensSites told state own alloc script disks all begun o → IsCutShort told state own size seed node all new
+    → FewWerePut new.sites → AreTraced o (plans_of script) new.sites
+
+-- and where memory was refused
+abbrev pub RefusedIsTraced : {D : Type 0} → Type 0 → (D → DiskState) → (D → ℕ) → (D → ℕ) → Global → Script → List D → Opening → ℕ → SitesValue D → SitesValue D → Type 0
+RefusedIsTraced told state own size alloc script disks o seed all new =
+    told → (begun : HasBegun told state own alloc script disks all) → OpensSites told state own alloc script disks all begun o → IsOutOfMemory told state own size seed all new
     → FewWerePut new.sites → AreTraced o (plans_of script) new.sites

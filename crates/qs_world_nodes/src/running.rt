@@ -5,7 +5,7 @@ ghost use Rattle.qs_base.specs.declared.identifiers.NodeNo.{NodeNo};
 ghost use Rattle.qs_book_script.specs.declared.script.Script.{Script};
 ghost use Rattle.qs_link.specs.declared.outgoing.LinkFault.{LinkFault};
 ghost use Rattle.qs_world.specs.World.{Opening};
-ghost use Rattle.qs_world_nodes.specs.Running.{BrokenRoundKeeps, CarriesKeep, CutShortIsTraced, EndingsAreTraced, NodesBegin, RoundKeeps, RoundsAreTraced, RoundsKeep, SitesAreTraced, VisitKeeps, VisitsKeep};
+ghost use Rattle.qs_world_nodes.specs.Running.{BrokenRoundKeeps, CarriesKeep, CellsAreTraced, CutShortIsTraced, EndingsAreTraced, NodesBegin, RefusedIsTraced, RefusedRoundLeaves, RoundKeeps, RoundsAreTraced, RoundsKeep, SitesAreTraced, SitesHaveCells, VisitKeeps, VisitsKeep};
 ghost use Rattle.qs_world_nodes.specs.Openings.{NodesHaveOpening, ReadSitOnce};
 ghost use Rattle.qs_world_rounds.specs.Rounds.{Cast};
 ghost use Rattle.qs_world_rounds.specs.declared.rounds.Ending.{Ending};
@@ -37,12 +37,21 @@ pub fn nodes_go_on<D: Disk>()
     ensures broken { (o : Opening) (plans : ℕ → ℕ → List LinkFault) (order : List ℕ) (node : NodeNo) (old new : SitesValue D) → BrokenRoundKeeps D.told D.state D.fault_count D.byte_count o plans order node old new }
 {}
 
+/// Where memory was refused in a round, in whichever visit and within whichever step, the cells still are where their nodes have come to, and the links keep
+/// their plans, as they do while sites stand there. Each link got fewer than 2^63 packets, as its end can count.
+pub fn refused_rounds_leave_cells<D: Disk>()
+    ensures sites { (o : Opening) (plans : ℕ → ℕ → List LinkFault) (sites : List (Cast D)) → SitesHaveCells D.told D.state o plans sites }
+    ensures refused { (o : Opening) (plans : ℕ → ℕ → List LinkFault) (order : List ℕ) (old new : SitesValue D) → RefusedRoundLeaves D.told D.state D.fault_count D.byte_count o plans order old new }
+    ensures traced { (o : Opening) (plans : ℕ → ℕ → List LinkFault) (sites : List (Cast D)) → CellsAreTraced D.told D.state o plans sites }
+{}
+
 /// What the cells of such sites tell, merged by stamp and node, is the steps of a run of the world over packets, over links that keep their plans, and its
-/// history; so is what they tell after any rounds of a run that has begun, as these end, and where one was cut short. Each link got fewer than 2^63 packets, as
+/// history; so is what they tell after any rounds of a run that has begun, as these end, where one was cut short, and where memory was refused in one. Each link got fewer than 2^63 packets, as
 /// its end can count.
 pub fn rounds_are_runs_of_the_world<D: Disk>()
     ensures sites { (o : Opening) (plans : ℕ → ℕ → List LinkFault) (sites : List (Cast D)) → SitesAreTraced D.told D.state o plans sites }
     ensures rounds { (alloc : Global) (script : Script) (disks : List D) (o : Opening) (rng later : Lcg) (n : ℕ) (all new : SitesValue D) → RoundsAreTraced D.told D.state D.fault_count D.byte_count alloc script disks o rng n all new later }
     ensures ends { (alloc : Global) (script : Script) (disks : List D) (o : Opening) (seed : ℕ) (all new : SitesValue D) (ending : Ending) → EndingsAreTraced D.told D.state D.fault_count D.byte_count alloc script disks o seed all new ending }
     ensures cut { (alloc : Global) (script : Script) (disks : List D) (o : Opening) (seed : ℕ) (node : NodeNo) (all new : SitesValue D) → CutShortIsTraced D.told D.state D.fault_count D.byte_count alloc script disks o seed node all new }
+    ensures refused { (alloc : Global) (script : Script) (disks : List D) (o : Opening) (seed : ℕ) (all new : SitesValue D) → RefusedIsTraced D.told D.state D.fault_count D.byte_count alloc script disks o seed all new }
 {}
