@@ -15,9 +15,9 @@ use Rattle.qs_record.specs.declared.record.Record.{Record}
 use Rattle.qs_slot.specs.Slot.{Present, value_in}
 use Rattle.qs_world.specs.World.{Opening}
 use Rattle.qs_world_left.proofs.Choosing.{Choice, choose}
-use Rattle.qs_world_left.proofs.SitesLeave.{each_cut_leaves, each_ending_leaves, each_rounds_leave}
+use Rattle.qs_world_left.proofs.SitesLeave.{each_cut_leaves, each_ending_leaves, each_refused_leaves, each_rounds_leave}
 use Rattle.qs_world_left.specs.Disks.{ShowsLog, content_at, content_by}
-use Rattle.qs_world_left.specs.Left.{CutShortFollows, EndingsFollow, RaisedStayCoherent, RoundsFollow}
+use Rattle.qs_world_left.specs.Left.{CutShortFollows, EndingsFollow, RaisedStayCoherent, RefusedFollows, RoundsFollow}
 use Rattle.qs_world_nodes.proofs.Opened.{inc_is}
 use Rattle.qs_world_nodes.proofs.Places.{found}
 use Rattle.qs_world_nodes.specs.Openings.{forced_in, inc_by, log_by}
@@ -94,3 +94,7 @@ module _ {D : Type 0} (may : (o : Opening) → MayBegin o) (stay : (alloc : Glob
   pub each_cut_follows : (seed : ℕ) (node : NodeNo) (new : SitesValue D) → CutShortFollows told state own size alloc script disks seed node all new
   each_cut_follows seed node new t b is few =
       each_cut_leaves may told state own size alloc script disks all seed node new t b.begun b.once b.fits (each_raised stay told state own alloc script disks all t b.begun b.coherent) is few
+
+  pub each_refused_follows : (seed : ℕ) (new : SitesValue D) → RefusedFollows told state own size alloc script disks seed all new
+  each_refused_follows seed new t b is few =
+      each_refused_leaves may told state own size alloc script disks all seed new t b.begun b.once b.fits (each_raised stay told state own alloc script disks all t b.begun b.coherent) is few

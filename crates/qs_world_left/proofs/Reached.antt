@@ -9,14 +9,15 @@ use Rattle.qs_world.specs.World.{Opening}
 use Rattle.qs_world_nodes.proofs.Beginning.{each_begins}
 use Rattle.qs_world_nodes.proofs.Histories.{each_may_begin}
 use Rattle.qs_world_nodes.proofs.Opened.{each_opening}
+use Rattle.qs_world_nodes.proofs.Refused.{each_refused}
 use Rattle.qs_world_nodes.proofs.Rounds.{each_broken, each_round, each_rounds}
 use Rattle.qs_world_nodes.specs.Lawful.{HaveCoherentLogs}
-use Rattle.qs_world_nodes.specs.Nodes.{AreSitesIn, plans_of}
+use Rattle.qs_world_nodes.specs.Nodes.{AreCellsIn, AreSitesIn, FewWerePut, plans_of}
 use Rattle.qs_world_nodes.specs.Openings.{SitOnce, opening_over}
 use Rattle.qs_world_opening.specs.Scripts.{Fits, MayBegin}
 use Rattle.qs_world_plans.specs.Order.{drawn_order, seeded}
 use Rattle.qs_world_rounds.specs.declared.rounds.Ending.{Ending}
-use Rattle.qs_world_sites.specs.Endings.{IsCutShort, IsEnding}
+use Rattle.qs_world_sites.specs.Endings.{IsCutShort, IsEnding, IsOutOfMemory}
 use Rattle.qs_world_sites.specs.Rounds.{Rounds}
 use Rattle.qs_world_sites.specs.Seats.{HasBegun}
 use Rattle.qs_world_sites.specs.Sites.{SitesValue, count_of}
@@ -25,6 +26,11 @@ use Rattle.rand_pcg.specs.Lcg.{Lcg}
 pub record AreReached {D : Type 0} (told : Type 0) (state : D → DiskState) (alloc : Global) (script : Script) (disks : List D) (all new : SitesValue D) : Type 0 where
   pub opens : IsOpening (opening_over alloc script disks all.sites)
   pub are : AreSitesIn told state (opening_over alloc script disks all.sites) (plans_of script) new.sites
+
+-- or, where memory was refused, their cells
+pub record AreLeftThere {D : Type 0} (told : Type 0) (state : D → DiskState) (alloc : Global) (script : Script) (disks : List D) (all new : SitesValue D) : Type 0 where
+  pub opens : IsOpening (opening_over alloc script disks all.sites)
+  pub are : AreCellsIn told state (opening_over alloc script disks all.sites) (plans_of script) new.sites
 
 module _ {D : Type 0} (may : (o : Opening) → MayBegin o) (told : Type 0) (state : D → DiskState) (own size : D → ℕ) (alloc : Global) (script : Script) (disks : List D) (all : SitesValue D)
     (t : told) (begun : HasBegun told state own alloc script disks all) (once : SitOnce script.seats) (fits : Fits (length disks) script) (coherent : HaveCoherentLogs alloc disks all.sites) where
@@ -52,4 +58,11 @@ module _ {D : Type 0} (may : (o : Opening) → MayBegin o) (told : Type 0) (stat
     opens = opens;
     are = each_broken told state own size o (plans_of script) (drawn_order (count_of is.before) is.drawn).0 node is.before new t is.broken
         (each_rounds told state own size o (plans_of script) (seeded seed) is.rounds all is.before is.drawn t is.earlier first);
+  }
+
+  pub refused_leaves : (seed : ℕ) (new : SitesValue D) → IsOutOfMemory told state own size seed all new → FewWerePut new.sites → AreLeftThere told state alloc script disks all new
+  refused_leaves seed new out few = record {
+    opens = opens;
+    are = each_refused told state own size o (plans_of script) (drawn_order (count_of out.before) out.drawn).0 out.before new t out.refused
+        (each_rounds told state own size o (plans_of script) (seeded seed) out.rounds all out.before out.drawn t out.earlier first) few;
   }

@@ -13,29 +13,31 @@ use Rattle.qs_slot.specs.Slot.{Present}
 use Rattle.qs_world.specs.Openings.{IsOpening}
 use Rattle.qs_world.specs.World.{Host, Opening}
 use Rattle.qs_world_left.proofs.Chosen.{ComesTo, comes, has_log, stamp_at, stamp_by}
-use Rattle.qs_world_left.proofs.Reached.{AreReached, cut_reaches, ending_reaches, rounds_reach}
+use Rattle.qs_world_left.proofs.Reached.{AreLeftThere, AreReached, cut_reaches, ending_reaches, refused_leaves, rounds_reach}
 use Rattle.qs_world_left.proofs.RunsLeave.{each_leaves_coherent, same_size}
-use Rattle.qs_world_left.specs.Disks.{AreImagesOf, HasSomeLog, LeaveCoherent, ShowLogs, disk_state, disks_of}
-use Rattle.qs_world_left.specs.Left.{CutShortLeavesCoherent, EndingsLeaveCoherent, RoundsLeaveCoherent, SitesLeaveCoherent, SitesLeaveLogs}
+use Rattle.qs_world_left.specs.Disks.{AreImagesOf, HasSomeLog, HaveLogs, LeaveCoherent, ShowLogs, disk_state, disks_of}
+use Rattle.qs_world_left.specs.Left.{CellsLeaveCoherent, CellsLeaveLogs, CutShortLeavesCoherent, EndingsLeaveCoherent, RefusedLeavesCoherent, RoundsLeaveCoherent, SitesLeaveCoherent, SitesLeaveLogs}
 use Rattle.qs_world_left.specs.Packets.{AreLeft}
 use Rattle.qs_world_left.specs.Standing.{up_at, up_by}
 use Rattle.qs_world_merge.proofs.OfOneRun.{each_is_of_one_run}
 use Rattle.qs_world_merge.specs.MergedRuns.{untimed}
 use Rattle.qs_world_merge.specs.Observed.{AreOfLocalRuns, IsOfOneRun, Observed}
 use Rattle.qs_world_nodes.proofs.Places.{found, low_of, same_some}
-use Rattle.qs_world_nodes.proofs.Telling.{keep}
-use Rattle.qs_world_nodes.specs.Nodes.{AreSitesIn, FewWerePut, journal_at, journal_by, plans_of, trace_at, trace_by}
+use Rattle.qs_world_nodes.proofs.Keeping.{each_cells}
+use Rattle.qs_world_nodes.specs.Nodes.{AreCellsIn, FewWerePut, journal_at, journal_by, plans_of, trace_at, trace_by}
 use Rattle.qs_world_nodes.specs.Openings.{opening_over}
 use Rattle.qs_world_opening.specs.Coherent.{AreCoherentLogs}
 use Rattle.qs_world_opening.specs.Scripts.{MayBegin}
 use Rattle.qs_world_rounds.specs.Rounds.{Cast}
 use Rattle.qs_world_rounds.specs.declared.rounds.Ending.{Ending}
+use Rattle.qs_world_seats.proofs.Cellular.{each_site_cell}
+use Rattle.qs_world_seats.specs.Cells.{IsCellIn}
 use Rattle.qs_world_sites.specs.Sites.{SitesValue}
 use Rattle.qs_world_traces.proofs.LinksBring.{each_link_brings}
 use Rattle.qs_world_traces.specs.Links.{observed_by}
 use Rattle.rand_pcg.specs.Lcg.{Lcg}
 
-module _ {D : Type 0} (told : Type 0) (state : D → DiskState) (o : Opening) (plans : ℕ → ℕ → List LinkFault) (sites : List (Cast D)) (t : told) (opens : IsOpening o) (are : AreSitesIn told state o plans sites) (few : FewWerePut sites)
+module _ {D : Type 0} (told : Type 0) (state : D → DiskState) (o : Opening) (plans : ℕ → ℕ → List LinkFault) (sites : List (Cast D)) (t : told) (opens : IsOpening o) (are : AreCellsIn told state o plans sites)
     (images : ℕ → List ℕ) (left_are : AreImagesOf (disks_of state sites) images) (presents : ℕ → Present) (records : ℕ → List Record) (show : ShowLogs (length (disks_of state sites)) images presents records) where
   abbrev observed : ℕ → Observed
   observed n = observed_by (journal_at sites n) (trace_at sites n)
@@ -47,7 +49,7 @@ module _ {D : Type 0} (told : Type 0) (state : D → DiskState) (o : Opening) (p
 
   comes_at : (n : ℕ) (a : Cast D) → slice_get sites n ≡ Some a → ComesTo o n (stamp_at sites n) (observed n) (up_at sites n) (presents n).value.inc (records n)
   comes_at n a is = subst (λ (x : _). ComesTo o n (stamp_by x) (observed_by (journal_by x) (trace_by x)) (up_by x) (presents n).value.inc (records n)) (sym is)
-      (comes told state o n t a.node.seat.ends a.clients a.node.seat.node (are.each n a is).there.there (images n)
+      (comes told state o n t a.node.seat.node (are.each n a is) (images n)
       (left_are n (disk_state state a) (slice_get-map (disk_state state) sites n ∙ ap (λ (x : _). option_map (disk_state state) x) is)) (presents n) (records n)
       (show n (low (low_of sites n a is))))
     where
@@ -66,7 +68,7 @@ module _ {D : Type 0} (told : Type 0) (state : D → DiskState) (o : Opening) (p
   local n low = (each n low).to.local
 
   one : IsOfOneRun o observed local
-  one = each_is_of_one_run o observed local (each_link_brings o.size plans (journal_at sites) (trace_at sites) (keep told state o plans sites are few))
+  one = each_is_of_one_run o observed local (each_link_brings o.size plans (journal_at sites) (trace_at sites) are.keep)
 
   sized : one.world.size ≡ o.size
   sized = same_size o (untimed one.moves) one.world opens one.run
@@ -84,15 +86,25 @@ module _ {D : Type 0} (told : Type 0) (state : D → DiskState) (o : Opening) (p
   chosen_coherent alloc = subst (λ (size : ℕ). AreCoherentLogs alloc size (λ n. (presents n).value.inc + 1) records) (omega (arith, sized, count, are.count))
       (each_leaves_coherent o (untimed one.moves) one.world alloc (λ n. (presents n).value.inc + 1) records opens one.run left)
 
-pub each_sites_leave : {D : Type 0} (told : Type 0) (state : D → DiskState) (o : Opening) (plans : ℕ → ℕ → List LinkFault) (sites : List (Cast D)) → SitesLeaveCoherent told state o plans sites
-each_sites_leave told state o plans sites t opens are few alloc images left_are presents records show = chosen_coherent told state o plans sites t opens are few images left_are presents records show alloc
+pub each_cells_leave : {D : Type 0} (told : Type 0) (state : D → DiskState) (o : Opening) (plans : ℕ → ℕ → List LinkFault) (sites : List (Cast D)) → CellsLeaveCoherent told state o plans sites
+each_cells_leave told state o plans sites t opens are alloc images left_are presents records show = chosen_coherent told state o plans sites t opens are images left_are presents records show alloc
 
-pub each_sites_have_logs : {D : Type 0} (told : Type 0) (state : D → DiskState) (o : Opening) (plans : ℕ → ℕ → List LinkFault) (sites : List (Cast D)) → SitesLeaveLogs told state o plans sites
-each_sites_have_logs {D} told state o plans sites t are n disk of_disk image at = by (found sites n (omega (arith, low_of (disks_of state sites) n disk of_disk, length-map sites (disk_state state))))
+pub each_sites_leave : {D : Type 0} (told : Type 0) (state : D → DiskState) (o : Opening) (plans : ℕ → ℕ → List LinkFault) (sites : List (Cast D)) → SitesLeaveCoherent told state o plans sites
+each_sites_leave told state o plans sites t opens are few = each_cells_leave told state o plans sites t opens (each_cells told state o plans sites are few)
+
+-- each image has a log
+have_logs : {D : Type 0} (told : Type 0) (state : D → DiskState) (o : Opening) (sites : List (Cast D)) → told → ((n : ℕ) (a : Cast D) → slice_get sites n ≡ Some a → IsCellIn told state o n a.node.seat.node) → HaveLogs (disks_of state sites)
+have_logs {D} told state o sites t cells n disk of_disk image at = by (found sites n (omega (arith, low_of (disks_of state sites) n disk of_disk, length-map sites (disk_state state))))
   where
     by : (a : Cast D) × (slice_get sites n ≡ Some a) → HasSomeLog image
-    by (a, is) = has_log told state o n t a.node.seat.ends a.clients a.node.seat.node (are.each n a is).there.there image
+    by (a, is) = has_log told state o n t a.node.seat.node (cells n a is) image
         (subst (λ (d : DiskState). IsImage d.now image) (same_some disk (disk_state state a) (sym of_disk ∙ (slice_get-map (disk_state state) sites n ∙ ap (λ (x : _). option_map (disk_state state) x) is))) at)
+
+pub each_cells_have_logs : {D : Type 0} (told : Type 0) (state : D → DiskState) (o : Opening) (plans : ℕ → ℕ → List LinkFault) (sites : List (Cast D)) → CellsLeaveLogs told state o plans sites
+each_cells_have_logs told state o plans sites t are = have_logs told state o sites t are.each
+
+pub each_sites_have_logs : {D : Type 0} (told : Type 0) (state : D → DiskState) (o : Opening) (plans : ℕ → ℕ → List LinkFault) (sites : List (Cast D)) → SitesLeaveLogs told state o plans sites
+each_sites_have_logs told state o plans sites t are = have_logs told state o sites t (λ n a is. each_site_cell told state o n a (are.each n a is))
 
 -- ---- of a run that has begun
 
@@ -108,3 +120,8 @@ module _ {D : Type 0} (may : (o : Opening) → MayBegin o) (told : Type 0) (stat
 
   pub each_cut_leaves : (seed : ℕ) (node : NodeNo) (new : SitesValue D) → CutShortLeavesCoherent told state own size alloc script disks seed node all new
   each_cut_leaves seed node new t begun once fits coherent is few = leave new t (cut_reaches may told state own size alloc script disks all t begun once fits coherent seed node new is) few
+
+  pub each_refused_leaves : (seed : ℕ) (new : SitesValue D) → RefusedLeavesCoherent told state own size alloc script disks seed all new
+  each_refused_leaves seed new t begun once fits coherent out few =
+      let left : AreLeftThere told state alloc script disks all new = refused_leaves may told state own size alloc script disks all t begun once fits coherent seed new out few in
+      each_cells_leave told state (opening_over alloc script disks all.sites) (plans_of script) new.sites t left.opens left.are

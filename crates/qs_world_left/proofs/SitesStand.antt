@@ -23,11 +23,11 @@ use Rattle.qs_world.specs.Openings.{IsOpening}
 use Rattle.qs_world.specs.World.{Host, Opening}
 use Rattle.qs_world_left.proofs.Chosen.{ComesTo, HasLog, RunsTo, comes, runs, stamp_by}
 use Rattle.qs_world_left.proofs.LastStamps.{IsLast, run_last}
-use Rattle.qs_world_left.proofs.Reached.{AreReached, cut_reaches, ending_reaches, rounds_reach}
+use Rattle.qs_world_left.proofs.Reached.{AreLeftThere, AreReached, cut_reaches, ending_reaches, refused_leaves, rounds_reach}
 use Rattle.qs_world_left.proofs.RunsLeave.{same_size}
 use Rattle.qs_world_left.proofs.RunsStand.{each_run_stands}
 use Rattle.qs_world_left.specs.Disks.{disk_state, disks_of}
-use Rattle.qs_world_left.specs.Standing.{CutShortLeavesStanding, EndingsLeaveStanding, HaveStampsLeft, IsTold, RoundsLeaveStanding, SitesLeaveStanding, StandFor, StandsFor, up_at, up_by}
+use Rattle.qs_world_left.specs.Standing.{CellsLeaveStanding, CutShortLeavesStanding, EndingsLeaveStanding, HaveStampsLeft, IsTold, RefusedLeavesStanding, RoundsLeaveStanding, SitesLeaveStanding, StandFor, StandsFor, up_at, up_by}
 use Rattle.qs_world_merge.proofs.OfOneRun.{each_is_of_one_run}
 use Rattle.qs_world_merge.specs.LocalRuns.{client_at}
 use Rattle.qs_world_merge.specs.MergedByKey.{is_after}
@@ -35,8 +35,8 @@ use Rattle.qs_world_merge.specs.MergedRuns.{untimed}
 use Rattle.qs_world_merge.specs.Observed.{AreOfLocalRuns, IsOfOneRun, Observed, journals_of}
 use Rattle.qs_world_merge.specs.SameAt.{SameAt}
 use Rattle.qs_world_nodes.proofs.Places.{found, same_some}
-use Rattle.qs_world_nodes.proofs.Telling.{keep}
-use Rattle.qs_world_nodes.specs.Nodes.{AreSitesIn, FewWerePut, journal_at, journal_by, plans_of, trace_at, trace_by}
+use Rattle.qs_world_nodes.proofs.Keeping.{each_cells}
+use Rattle.qs_world_nodes.specs.Nodes.{AreCellsIn, FewWerePut, journal_at, journal_by, plans_of, trace_at, trace_by}
 use Rattle.qs_world_nodes.specs.Openings.{opening_over}
 use Rattle.qs_world_opening.proofs.Tests.{parts}
 use Rattle.qs_world_opening.specs.Scripts.{MayBegin}
@@ -64,7 +64,7 @@ within a b low = omega (arith, low)
 lower : (a b c : ℕ) → a ≤ b → b < c → a < c
 lower a b c upto below = omega (arith, upto, below)
 
-module _ {D : Type 0} (told : Type 0) (state : D → DiskState) (o : Opening) (plans : ℕ → ℕ → List LinkFault) (sites : List (Cast D)) (t : told) (opens : IsOpening o) (are : AreSitesIn told state o plans sites) (few : FewWerePut sites) (early : HaveStampsLeft sites)
+module _ {D : Type 0} (told : Type 0) (state : D → DiskState) (o : Opening) (plans : ℕ → ℕ → List LinkFault) (sites : List (Cast D)) (t : told) (opens : IsOpening o) (are : AreCellsIn told state o plans sites) (early : HaveStampsLeft sites)
     (k : ℕ) (in_k : k < o.size) (disk : DiskState) (of_k : slice_get (disks_of state sites) k ≡ Some disk) (image : List ℕ) (at : IsImage disk.now image) (present : Present) (records : List Record) (used : ℕ) (log : IsLog present records used image) where
   abbrev observed : ℕ → Observed
   observed n = observed_by (journal_at sites n) (trace_at sites n)
@@ -84,12 +84,12 @@ module _ {D : Type 0} (told : Type 0) (state : D → DiskState) (o : Opening) (p
           ∙ (ap (λ (j : ℕ). slice_get (disks_of state sites) j) (sym same) ∙ (slice_get-map (disk_state state) sites n ∙ ap (λ (x : _). option_map (disk_state state) x) is)))) at
 
       chosen : n ≡ k → ComesTo o n (stamp_by (Some a)) (observed_by (journal_by (Some a)) (trace_by (Some a))) (up_by (Some a)) present.value.inc records
-      chosen same = comes told state o n t a.node.seat.ends a.clients a.node.seat.node (are.each n a is).there.there image (its_disk same) present records (record { used = used; log = log })
+      chosen same = comes told state o n t a.node.seat.node (are.each n a is) image (its_disk same) present records (record { used = used; log = log })
 
       by : (b : Bool) → (n == k) ≡ b → Goes n (observed_by (journal_by (Some a)) (trace_by (Some a))) (up_by (Some a))
       by true e = let c : ComesTo o n (stamp_by (Some a)) (observed_by (journal_by (Some a)) (trace_by (Some a))) (up_by (Some a)) present.value.inc records = chosen (eqb-true n k e) in
           record { stamp = stamp_by (Some a); to = c.to; before = early n a is; has = λ same. c.has }
-      by false e = record { stamp = stamp_by (Some a); to = runs told state o n a.node.seat.ends a.clients a.node.seat.node (are.each n a is).there.there; before = early n a is; has = λ same. absurd (unlike n k e same) }
+      by false e = record { stamp = stamp_by (Some a); to = runs told state o n a.node.seat.node (are.each n a is); before = early n a is; has = λ same. absurd (unlike n k e same) }
 
   goes : (n : ℕ) → n < o.size → Goes n (observed n) (up_at sites n)
   goes n low = by (found sites n (omega (arith, low, are.count)))
@@ -103,7 +103,7 @@ module _ {D : Type 0} (told : Type 0) (state : D → DiskState) (o : Opening) (p
   local n low = (goes n low).to.local
 
   one : IsOfOneRun o observed local
-  one = each_is_of_one_run o observed local (each_link_brings o.size plans (journal_at sites) (trace_at sites) (keep told state o plans sites are few))
+  one = each_is_of_one_run o observed local (each_link_brings o.size plans (journal_at sites) (trace_at sites) are.keep)
 
   sized : one.world.size ≡ o.size
   sized = same_size o (untimed one.moves) one.world opens one.run
@@ -136,12 +136,15 @@ module _ {D : Type 0} (told : Type 0) (state : D → DiskState) (o : Opening) (p
       (subst (λ (l : List Entry). StandsFor (book_after (book_of o) l) k (one.world.network.up k) (present.value.inc + 1) (one.world.hosts k).log) (one.journal journal entries)
       (each_run_stands o (untimed one.moves) one.world k last_stamp (present.value.inc + 1) opens one.run order (subst (λ (i : ℕ). i < present.value.inc + 1) (sym same.network.inc) its.later))))
 
-pub each_sites_stand : {D : Type 0} (told : Type 0) (state : D → DiskState) (o : Opening) (plans : ℕ → ℕ → List LinkFault) (sites : List (Cast D)) (journal : List Entry) → SitesLeaveStanding told state o plans sites journal
-each_sites_stand told state o plans sites journal t opens are few early entries k disk of_k image at present records used log =
-    chosen_stands told state o plans sites t opens are few early k (low (slice_get_within (disks_of state sites) k disk of_k)) disk of_k image at present records used log journal entries
+pub each_cells_stand : {D : Type 0} (told : Type 0) (state : D → DiskState) (o : Opening) (plans : ℕ → ℕ → List LinkFault) (sites : List (Cast D)) (journal : List Entry) → CellsLeaveStanding told state o plans sites journal
+each_cells_stand told state o plans sites journal t opens are early entries k disk of_k image at present records used log =
+    chosen_stands told state o plans sites t opens are early k (low (slice_get_within (disks_of state sites) k disk of_k)) disk of_k image at present records used log journal entries
   where
     low : k < length (disks_of state sites) → k < o.size
     low is = omega (arith, is, length-map sites (disk_state state), are.count)
+
+pub each_sites_stand : {D : Type 0} (told : Type 0) (state : D → DiskState) (o : Opening) (plans : ℕ → ℕ → List LinkFault) (sites : List (Cast D)) (journal : List Entry) → SitesLeaveStanding told state o plans sites journal
+each_sites_stand told state o plans sites journal t opens are few early entries = each_cells_stand told state o plans sites journal t opens (each_cells told state o plans sites are few) early entries
 
 -- ---- of a run that has begun
 
@@ -161,3 +164,8 @@ module _ {D : Type 0} (may : (o : Opening) → MayBegin o) (told : Type 0) (stat
   pub each_cut_stands : (seed : ℕ) (node : NodeNo) (new : SitesValue D) (journal : List Entry) → CutShortLeavesStanding told state own size alloc script disks seed node all new journal
   each_cut_stands seed node new journal t begun once fits coherent is few early entries =
       stand new journal t (cut_reaches may told state own size alloc script disks all t begun once fits coherent seed node new is) few early entries
+
+  pub each_refused_stands : (seed : ℕ) (new : SitesValue D) (journal : List Entry) → RefusedLeavesStanding told state own size alloc script disks seed all new journal
+  each_refused_stands seed new journal t begun once fits coherent out few early entries =
+      let left : AreLeftThere told state alloc script disks all new = refused_leaves may told state own size alloc script disks all t begun once fits coherent seed new out few in
+      each_cells_stand told state (opening_over alloc script disks all.sites) (plans_of script) new.sites journal t left.opens left.are early entries

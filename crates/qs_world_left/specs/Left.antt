@@ -9,12 +9,12 @@ use Rattle.qs_world.specs.Openings.{IsOpening}
 use Rattle.qs_world.specs.World.{Opening}
 use Rattle.qs_world_left.specs.Disks.{AreCoherentDisks, AreCoherentImages, HaveLogs, LeaveCoherent, content_at, disks_of}
 use Rattle.qs_world_nodes.specs.Lawful.{HaveCoherentLogs}
-use Rattle.qs_world_nodes.specs.Nodes.{AreSitesIn, FewWerePut}
+use Rattle.qs_world_nodes.specs.Nodes.{AreCellsIn, AreSitesIn, FewWerePut}
 use Rattle.qs_world_nodes.specs.Openings.{SitOnce}
 use Rattle.qs_world_opening.specs.Scripts.{Fits}
 use Rattle.qs_world_rounds.specs.Rounds.{Cast}
 use Rattle.qs_world_rounds.specs.declared.rounds.Ending.{Ending}
-use Rattle.qs_world_sites.specs.Endings.{IsCutShort, IsEnding}
+use Rattle.qs_world_sites.specs.Endings.{IsCutShort, IsEnding, IsOutOfMemory}
 use Rattle.qs_world_sites.specs.Rounds.{Rounds}
 use Rattle.qs_world_sites.specs.Seats.{HasBegun}
 use Rattle.qs_world_sites.specs.Sites.{SitesValue}
@@ -29,6 +29,13 @@ SitesLeaveCoherent told state o plans sites = told → IsOpening o → AreSitesI
 -- each image has a log
 abbrev pub SitesLeaveLogs : {D : Type 0} → Type 0 → (D → DiskState) → Opening → (ℕ → ℕ → List LinkFault) → List (Cast D) → Type 0
 SitesLeaveLogs told state o plans sites = told → AreSitesIn told state o plans sites → HaveLogs (disks_of state sites)
+
+-- and so where their cells alone are known to be there, whose links keep their plans
+abbrev pub CellsLeaveCoherent : {D : Type 0} → Type 0 → (D → DiskState) → Opening → (ℕ → ℕ → List LinkFault) → List (Cast D) → Type 0
+CellsLeaveCoherent told state o plans sites = told → IsOpening o → AreCellsIn told state o plans sites → LeaveCoherent state sites
+
+abbrev pub CellsLeaveLogs : {D : Type 0} → Type 0 → (D → DiskState) → Opening → (ℕ → ℕ → List LinkFault) → List (Cast D) → Type 0
+CellsLeaveLogs told state o plans sites = told → AreCellsIn told state o plans sites → HaveLogs (disks_of state sites)
 
 -- ---- of a run that has begun with a script that fits, over logs that are coherent once they are raised
 
@@ -48,6 +55,12 @@ EndingsLeaveCoherent told state own size alloc script disks seed all new ending 
 abbrev pub CutShortLeavesCoherent : {D : Type 0} → Type 0 → (D → DiskState) → (D → ℕ) → (D → ℕ) → Global → Script → List D → ℕ → NodeNo → SitesValue D → SitesValue D → Type 0
 CutShortLeavesCoherent told state own size alloc script disks seed node all new =
     told → HasBegun told state own alloc script disks all → SitOnce script.seats → Fits (length disks) script → HaveCoherentLogs alloc disks all.sites → IsCutShort told state own size seed node all new → FewWerePut new.sites
+    → LeaveCoherent state new.sites
+
+-- and where memory was refused in a round, in whichever visit and within whichever step
+abbrev pub RefusedLeavesCoherent : {D : Type 0} → Type 0 → (D → DiskState) → (D → ℕ) → (D → ℕ) → Global → Script → List D → ℕ → SitesValue D → SitesValue D → Type 0
+RefusedLeavesCoherent told state own size alloc script disks seed all new =
+    told → HasBegun told state own alloc script disks all → SitOnce script.seats → Fits (length disks) script → HaveCoherentLogs alloc disks all.sites → IsOutOfMemory told state own size seed all new → FewWerePut new.sites
     → LeaveCoherent state new.sites
 
 -- ---- as it begins
@@ -88,3 +101,7 @@ EndingsFollow told state own size alloc script disks seed all new ending =
 abbrev pub CutShortFollows : {D : Type 0} → Type 0 → (D → DiskState) → (D → ℕ) → (D → ℕ) → Global → Script → List D → ℕ → NodeNo → SitesValue D → SitesValue D → Type 0
 CutShortFollows told state own size alloc script disks seed node all new =
     told → BeginsCoherent told state own alloc script disks all → IsCutShort told state own size seed node all new → FewWerePut new.sites → LeaveCoherent state new.sites
+
+abbrev pub RefusedFollows : {D : Type 0} → Type 0 → (D → DiskState) → (D → ℕ) → (D → ℕ) → Global → Script → List D → ℕ → SitesValue D → SitesValue D → Type 0
+RefusedFollows told state own size alloc script disks seed all new =
+    told → BeginsCoherent told state own alloc script disks all → IsOutOfMemory told state own size seed all new → FewWerePut new.sites → LeaveCoherent state new.sites

@@ -6,7 +6,7 @@ ghost use Rattle.qs_book_journal.specs.declared.entry.Entry.{Entry};
 ghost use Rattle.qs_book_script.specs.declared.script.Script.{Script};
 ghost use Rattle.qs_link.specs.declared.outgoing.LinkFault.{LinkFault};
 ghost use Rattle.qs_world.specs.World.{Opening};
-ghost use Rattle.qs_world_left.specs.Standing.{CutShortLeavesStanding, EachRunStands, EndingsLeaveStanding, RoundsLeaveStanding, SitesLeaveStanding};
+ghost use Rattle.qs_world_left.specs.Standing.{CellsLeaveStanding, CutShortLeavesStanding, EachRunStands, EndingsLeaveStanding, RefusedLeavesStanding, RoundsLeaveStanding, SitesLeaveStanding};
 ghost use Rattle.qs_world_rounds.specs.Rounds.{Cast};
 ghost use Rattle.qs_world_rounds.specs.declared.rounds.Ending.{Ending};
 ghost use Rattle.qs_world_sites.specs.Sites.{SitesValue};
@@ -31,6 +31,15 @@ pub fn runs_leave_standing_disks<D: Disk>()
         → EndingsLeaveStanding D.told D.state D.fault_count D.byte_count alloc script disks seed all new ending journal }
     ensures cut { (alloc : Global) (script : Script) (disks : List D) (seed : ℕ) (node : NodeNo) (all new : SitesValue D) (journal : List Entry)
         → CutShortLeavesStanding D.told D.state D.fault_count D.byte_count alloc script disks seed node all new journal }
+{
+    what_fits_may_begin();
+}
+
+/// And so it does where memory was refused in a round of the run, in whichever visit and within whichever step.
+pub fn refused_runs_leave_standing_disks<D: Disk>()
+    ensures cells { (o : Opening) (plans : ℕ → ℕ → List LinkFault) (sites : List (Cast D)) (journal : List Entry) → CellsLeaveStanding D.told D.state o plans sites journal }
+    ensures refused { (alloc : Global) (script : Script) (disks : List D) (seed : ℕ) (all new : SitesValue D) (journal : List Entry)
+        → RefusedLeavesStanding D.told D.state D.fault_count D.byte_count alloc script disks seed all new journal }
 {
     what_fits_may_begin();
 }
