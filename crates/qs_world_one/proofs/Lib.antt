@@ -32,7 +32,8 @@ pub mod Seated
 -- What its log says is of transactions.
 pub mod Named
 pub mod RoomyAlone
--- Its log has room.
+-- Its log has room, as the world that it is in gives it.
+pub mod RoomyCells
 pub mod Roomed
 -- Runs are made longer.
 pub mod Reaching

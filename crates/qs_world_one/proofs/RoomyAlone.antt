@@ -34,7 +34,8 @@ names_alone o opens alone moves new run = unended_named (recovery (new.hosts 0).
     next = each_run_coherent o moves new (over_log o.alloc (new.channels.inc 0 + 1) (new.hosts 0).log 0) opens run
         (is_next o.alloc (new.channels.inc 0 + 1) (new.hosts 0).log 0 new (j.size ∙ alone) refl (later (new.channels.inc 0)))
 
-new_of : (event : Event) (work : Work) → BeginsNew event work → fits.BeginsNew event work
+-- what is said of a node that is to make a sound step is what its room asks
+pub new_of : (event : Event) (work : Work) → BeginsNew event work → fits.BeginsNew event work
 new_of (events.Command client line label commands.Begin) work is = is
 new_of (events.Command client line label commands.Commit) work is = tt
 new_of (events.Command client line label commands.Abort) work is = tt

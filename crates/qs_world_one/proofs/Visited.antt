@@ -39,7 +39,7 @@ use Rattle.qs_world_one.proofs.Carried.{moved_in}
 use Rattle.qs_world_one.proofs.Clients.{stands_on}
 use Rattle.qs_world_one.proofs.Handing.{found_changed, found_other, same_or}
 use Rattle.qs_world_one.proofs.Reaching.{each_event}
-use Rattle.qs_world_one.proofs.Roomed.{seen_roomy}
+use Rattle.qs_world_one.proofs.RoomyCells.{seen_roomy}
 
 -- ---- nothing is due of a client
 
