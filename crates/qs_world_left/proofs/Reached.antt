@@ -1,5 +1,5 @@
 -- After any rounds of a run that has begun over coherent logs its sites are in a world that a run may begin with.
-use Rattle.std.proofs.Common.{ℕ, ◌-◌, List, length}
+use Rattle.std.proofs.Common.{ℕ, List, length}
 use Rattle.std.specs.Global.{Global}
 use Rattle.qs_base.specs.declared.identifiers.NodeNo.{NodeNo}
 use Rattle.qs_book_script.specs.declared.script.Script.{Script}
@@ -10,7 +10,7 @@ use Rattle.qs_world_nodes.proofs.Beginning.{each_begins}
 use Rattle.qs_world_nodes.proofs.Histories.{each_may_begin}
 use Rattle.qs_world_nodes.proofs.Opened.{each_opening}
 use Rattle.qs_world_nodes.proofs.Refused.{each_refused}
-use Rattle.qs_world_nodes.proofs.Rounds.{each_broken, each_round, each_rounds}
+use Rattle.qs_world_nodes.proofs.Rounds.{each_cut, each_ending, each_rounds}
 use Rattle.qs_world_nodes.specs.Lawful.{HaveCoherentLogs}
 use Rattle.qs_world_nodes.specs.Nodes.{AreCellsIn, AreSitesIn, FewWerePut, plans_of}
 use Rattle.qs_world_nodes.specs.Openings.{SitOnce, opening_over}
@@ -37,32 +37,24 @@ module _ {D : Type 0} (may : (o : Opening) → MayBegin o) (told : Type 0) (stat
   abbrev o : Opening
   o = opening_over alloc script disks all.sites
 
-  opens : IsOpening o
-  opens = each_may_begin may told state own alloc script disks all t begun fits coherent
+  pub may_open : IsOpening o
+  may_open = each_may_begin may told state own alloc script disks all t begun fits coherent
 
-  first : AreSitesIn told state o (plans_of script) all.sites
-  first = each_begins told state own alloc script disks all o t begun (each_opening told state own alloc script disks all begun once)
+  pub first_in : AreSitesIn told state o (plans_of script) all.sites
+  first_in = each_begins told state own alloc script disks all o t begun (each_opening told state own alloc script disks all begun once)
 
   pub rounds_reach : (rng : Lcg) (n : ℕ) (new : SitesValue D) (later : Lcg) → Rounds told state own size rng n all new later → AreReached told state alloc script disks all new
-  rounds_reach rng n new later rounds = record { opens = opens; are = each_rounds told state own size o (plans_of script) rng n all new later t rounds first }
+  rounds_reach rng n new later rounds = record { opens = may_open; are = each_rounds told state own size o (plans_of script) rng n all new later t rounds first_in }
 
   pub ending_reaches : (seed : ℕ) (new : SitesValue D) (ending : Ending) → IsEnding told state own size script seed all new ending → AreReached told state alloc script disks all new
-  ending_reaches seed new ending is = record {
-    opens = opens;
-    are = each_round told state own size o (plans_of script) (drawn_order (count_of is.ends.before) is.ends.drawn).0 is.ends.before new is.quiet t is.ends.last
-        (each_rounds told state own size o (plans_of script) (seeded seed) (ending.rounds - 1) all is.ends.before is.ends.drawn t is.ends.earlier first);
-  }
+  ending_reaches seed new ending is = record { opens = may_open; are = each_ending told state own size o (plans_of script) script seed all new ending t is first_in }
 
   pub cut_reaches : (seed : ℕ) (node : NodeNo) (new : SitesValue D) → IsCutShort told state own size seed node all new → AreReached told state alloc script disks all new
-  cut_reaches seed node new is = record {
-    opens = opens;
-    are = each_broken told state own size o (plans_of script) (drawn_order (count_of is.before) is.drawn).0 node is.before new t is.broken
-        (each_rounds told state own size o (plans_of script) (seeded seed) is.rounds all is.before is.drawn t is.earlier first);
-  }
+  cut_reaches seed node new is = record { opens = may_open; are = each_cut told state own size o (plans_of script) seed node all new t is first_in }
 
   pub refused_leaves : (seed : ℕ) (new : SitesValue D) → IsOutOfMemory told state own size seed all new → FewWerePut new.sites → AreLeftThere told state alloc script disks all new
   refused_leaves seed new out few = record {
-    opens = opens;
+    opens = may_open;
     are = each_refused told state own size o (plans_of script) (drawn_order (count_of out.before) out.drawn).0 out.before new t out.refused
-        (each_rounds told state own size o (plans_of script) (seeded seed) out.rounds all out.before out.drawn t out.earlier first) few;
+        (each_rounds told state own size o (plans_of script) (seeded seed) out.rounds all out.before out.drawn t out.earlier first_in) few;
   }

@@ -18,10 +18,10 @@ use Rattle.qs_world_seats.specs.Sites.{IsSiteIn}
 use Rattle.qs_world_sites.specs.Sites.{AreLinksCarried, CarriesLanes, Each, HasOtherLinks}
 
 -- the node and its links stay as the lanes to its clients are carried
-abbrev IsSamePost : {D : Type 0} → Post D → Post D → Type 0
+abbrev pub IsSamePost : {D : Type 0} → Post D → Post D → Type 0
 IsSamePost old new = (new.seat.node ≡ old.seat.node) × (new.links ≡ old.links)
 
-same_cell : {D : Type 0} (old new : CellValue D) (befores afters : List ClientCell) → CarriesAll old new befores afters → IsSamePost (post_of old) (post_of new)
+pub same_cell : {D : Type 0} (old new : CellValue D) (befores afters : List ClientCell) → CarriesAll old new befores afters → IsSamePost (post_of old) (post_of new)
 same_cell old new [] [] same = (ap (λ (c : CellValue _). c.seat.node) same, ap (λ (c : CellValue _). c.links) same)
 same_cell old new [] (a ∷ more) carries = absurd carries
 same_cell old new (b ∷ bs) [] carries = absurd carries

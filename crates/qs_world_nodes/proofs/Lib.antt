@@ -6,6 +6,8 @@ pub mod Planned
 pub mod Beginning
 -- Lanes and links are carried.
 pub mod Carrying
+-- What a visit of one site keeps rounds keep.
+pub mod Walking
 -- A visit.
 pub mod Visiting
 -- Rounds.

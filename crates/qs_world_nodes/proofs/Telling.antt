@@ -1,5 +1,5 @@
 -- What the cells of sites in the world tell, merged, is traced.
-use Rattle.std.proofs.Common.{subst, sym, ℕ, ◌-◌, List, arith, slice_get, ◌≡◌, Some}
+use Rattle.std.proofs.Common.{subst, sym, ℕ, List, arith, slice_get, ◌≡◌, Some}
 use Rattle.std.specs.Global.{Global}
 use Rattle.qs_base.specs.declared.identifiers.NodeNo.{NodeNo}
 use Rattle.qs_book_script.specs.declared.script.Script.{Script}
@@ -11,7 +11,7 @@ use Rattle.qs_world_nodes.proofs.Beginning.{each_begins}
 use Rattle.qs_world_nodes.proofs.Keeping.{each_cells}
 use Rattle.qs_world_nodes.proofs.Places.{found}
 use Rattle.qs_world_nodes.proofs.Refused.{each_refused}
-use Rattle.qs_world_nodes.proofs.Rounds.{each_broken, each_round, each_rounds}
+use Rattle.qs_world_nodes.proofs.Rounds.{each_cut, each_ending, each_rounds}
 use Rattle.qs_world_nodes.specs.Nodes.{AreCellsIn, journal_at, journal_by, plans_of, trace_at, trace_by}
 use Rattle.qs_world_nodes.specs.Running.{CellsAreTraced, CutShortIsTraced, EndingsAreTraced, RefusedIsTraced, RoundsAreTraced, SitesAreTraced}
 use Rattle.qs_world_plans.specs.Order.{drawn_order, seeded}
@@ -50,15 +50,11 @@ module _ {D : Type 0} (told : Type 0) (state : D → DiskState) (own size : D �
 
   pub each_ending_traced : (seed : ℕ) (all new : SitesValue D) (ending : Ending) → EndingsAreTraced told state own size alloc script disks o seed all new ending
   each_ending_traced seed all new ending t begun opens is few =
-      each_sites_traced told state o (plans_of script) new.sites
-      (each_round told state own size o (plans_of script) (drawn_order (count_of is.ends.before) is.ends.drawn).0 is.ends.before new is.quiet t is.ends.last
-      (each_rounds told state own size o (plans_of script) (seeded seed) (ending.rounds - 1) all is.ends.before is.ends.drawn t is.ends.earlier (each_begins told state own alloc script disks all o t begun opens))) few
+      each_sites_traced told state o (plans_of script) new.sites (each_ending told state own size o (plans_of script) script seed all new ending t is (each_begins told state own alloc script disks all o t begun opens)) few
 
   pub each_cut_traced : (seed : ℕ) (node : NodeNo) (all new : SitesValue D) → CutShortIsTraced told state own size alloc script disks o seed node all new
   each_cut_traced seed node all new t begun opens is few =
-      each_sites_traced told state o (plans_of script) new.sites
-      (each_broken told state own size o (plans_of script) (drawn_order (count_of is.before) is.drawn).0 node is.before new t is.broken
-      (each_rounds told state own size o (plans_of script) (seeded seed) is.rounds all is.before is.drawn t is.earlier (each_begins told state own alloc script disks all o t begun opens))) few
+      each_sites_traced told state o (plans_of script) new.sites (each_cut told state own size o (plans_of script) seed node all new t is (each_begins told state own alloc script disks all o t begun opens)) few
 
   pub each_refused_traced : (seed : ℕ) (all new : SitesValue D) → RefusedIsTraced told state own size alloc script disks o seed all new
   each_refused_traced seed all new t begun opens out few =

@@ -1,6 +1,5 @@
 -- A visit at any place leaves the sites in the world: it is one of one site, or of none.
 use Rattle.std.proofs.Common.{◌≡◌, ◌⊎◌, ◌∙◌, ap, inl, inr, refl, subst, sym, ℕ, zero, suc, ◌<◌, Bool, true, false, List, Option, Some, None, Result, Ok, Err, arith, slice_get, slice_set}
-use Rattle.qs_base.specs.declared.identifiers.NodeNo.{NodeNo}
 use Rattle.qs_cell.specs.Hearing.{Post}
 use Rattle.qs_cell.specs.Starts.{CellValue, post_of}
 use Rattle.qs_cell.specs.State.{StartsAgain}
@@ -14,16 +13,14 @@ use Rattle.qs_world_links.proofs.Carrying.{each_same}
 use Rattle.qs_world_links.proofs.Linked.{each_restarted, each_visited}
 use Rattle.qs_world_links.specs.Everywhere.{LinksAreTold, OthersStay}
 use Rattle.qs_world_nodes.proofs.Places.{low_of, posts_at, same_some, set_here, set_length, set_other}
+use Rattle.qs_world_nodes.proofs.Walking.{visit_keeps}
 use Rattle.qs_world_nodes.specs.Nodes.{AreSitesIn, post_at, post_by}
 use Rattle.qs_world_nodes.specs.Running.{VisitKeeps}
 use Rattle.qs_world_rounds.specs.Breaks as one
 use Rattle.qs_world_rounds.specs.Rounds.{Cast, NodeVisitIf, VisitAt, is_up}
 use Rattle.qs_world_seats.proofs.SitesGoOn.{each_fails, each_visit_at}
 use Rattle.qs_world_seats.specs.Sites.{IsSiteIn}
-use Rattle.qs_world_sites.specs.Breaks as breaks
-use Rattle.qs_world_sites.specs.Rounds as sites
 use Rattle.qs_world_sites.specs.Sites.{SitesValue}
-use Rattle.qs_world_sites.specs.declared.turn.Turn.{Turn}
 
 module _ {D : Type 0} (told : Type 0) (state : D → DiskState) (own size : D → ℕ) (o : Opening) (plans : ℕ → ℕ → List LinkFault) where
   -- ---- one site changes
@@ -82,43 +79,18 @@ module _ {D : Type 0} (told : Type 0) (state : D → DiskState) (own size : D �
     visit_told zero did (visit, same) = node_told (is_up site.node) did visit
     visit_told (suc at) did (same, visit) = same_told same
 
-    site_visited : (place : ℕ) (did : Bool) → told → VisitAt told state own size place site after did → AreSitesIn told state o plans (slice_set old k after)
+    pub site_visited : (place : ℕ) (did : Bool) → told → VisitAt told state own size place site after did → AreSitesIn told state o plans (slice_set old k after)
     site_visited place did t visit = site_changes (each_visit_at told state own size o k place site after did t visit (was.each k site got)) (visit_told place did visit)
 
     fails_told : (place : ℕ) → one.FailsAt told state own size place site after → (other : Post D) → LinksAreTold o.size plans (post_at other (slice_set old k after))
     fails_told zero (fails, same) = restarted_told (Err restart_faults.DiskFailed) fails.starts fails.links
     fails_told (suc at) fails = absurd fails
 
-    site_failed : (place : ℕ) → told → one.FailsAt told state own size place site after → AreSitesIn told state o plans (slice_set old k after)
+    pub site_failed : (place : ℕ) → told → one.FailsAt told state own size place site after → AreSitesIn told state o plans (slice_set old k after)
     site_failed place t fails = site_changes (each_fails told state own size o k place site after t fails (was.each k site got)) (fails_told place fails)
 
   -- ---- a visit
 
-  all_as : (old news : List (Cast D)) → news ≡ old → AreSitesIn told state o plans old → AreSitesIn told state o plans news
-  all_as old news same was = subst (λ (l : List (Cast D)). AreSitesIn told state o plans l) (sym same) was
-
-  of_site : (turn : Turn) (c : Option (Cast D)) (olds news : List (Cast D)) (did : Bool) → slice_get olds turn.site ≡ c → told → sites.VisitOfSite told state own size turn c olds news did
-      → AreSitesIn told state o plans olds → AreSitesIn told state o plans news
-  of_site turn None olds news did got t visit was = all_as olds news visit.0 was
-  of_site turn (Some site) olds news did got t (after, (visit, is)) was = all_as (slice_set olds turn.site after) news is (site_visited olds turn.site site after got was turn.place did t visit)
-
-  of_turn : (turn : Option Turn) (olds news : List (Cast D)) (did : Bool) → told → sites.VisitOfTurn told state own size turn olds news did → AreSitesIn told state o plans olds → AreSitesIn told state o plans news
-  of_turn None olds news did t visit was = all_as olds news visit.0 was
-  of_turn (Some turn) olds news did t visit was = of_site turn (slice_get olds turn.site) olds news did refl t visit was
-
   pub each_visit : (place : ℕ) (old new : SitesValue D) (did : Bool) → VisitKeeps told state own size o plans place old new did
-  each_visit place old new did t (visit, turns) was = of_turn (slice_get old.turns place) old.sites new.sites did t visit was
-
-  -- ---- a restart that fails
-
-  failed_site : (node : NodeNo) (turn : Turn) (c : Option (Cast D)) (olds news : List (Cast D)) → slice_get olds turn.site ≡ c → told → breaks.OfSite (breaks.FailsHere told state own size node) turn c olds news
-      → AreSitesIn told state o plans olds → AreSitesIn told state o plans news
-  failed_site node turn None olds news got t fails was = absurd fails
-  failed_site node turn (Some site) olds news got t (after, (fails, is)) was = all_as (slice_set olds turn.site after) news is (site_failed olds turn.site site after got was turn.place t fails.fails)
-
-  failed_turn : (node : NodeNo) (turn : Option Turn) (olds news : List (Cast D)) → told → breaks.OfTurn (breaks.FailsHere told state own size node) turn olds news → AreSitesIn told state o plans olds → AreSitesIn told state o plans news
-  failed_turn node None olds news t fails was = absurd fails
-  failed_turn node (Some turn) olds news t fails was = failed_site node turn (slice_get olds turn.site) olds news refl t fails was
-
-  pub each_failed : (node : NodeNo) (place : ℕ) (old new : SitesValue D) → told → breaks.FailsAt told state own size node place old new → AreSitesIn told state o plans old.sites → AreSitesIn told state o plans new.sites
-  each_failed node place old new t (fails, turns) was = failed_turn node (slice_get old.turns place) old.sites new.sites t fails was
+  each_visit place old new did t visit was = visit_keeps told state own size (λ (l : List (Cast D)). AreSitesIn told state o plans l)
+      (λ olds k at site after done got visited there. site_visited olds k site after got there at done t visited) place old new did visit was

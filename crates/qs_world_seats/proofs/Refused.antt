@@ -144,11 +144,11 @@ module _ {D : Type 0} (told : Type 0) (state : D → DiskState) (own size : D �
         by (states.Up running) due_is it (inr lost) = absurd (never_up running old.ends lost)
         by (states.Down stopped) due_is it there = absurd (cc due_is)
 
-  turns_stand : (sources : List _) (old new : Seat D) → TurnsAll told state own size sources old new → AreTurns told state own size o n clients due left_by sources → Stands old → Stands new
+  turns_stand : (sources : List _) (old new : Seat D) → TurnsAll told state own size sources old new → AreTurns told state own size clients due left_by sources → Stands old → Stands new
   turns_stand [] old new same all s = subst Stands (sym same) s
   turns_stand (source ∷ sources) old new (mid, (turn, rest)) all s = turns_stand sources mid new rest all.1 (turn_stands source all.0.0 all.0.1.0 old mid turn s)
 
-  some_leave : (sources : List _) (old new : Seat D) → TurnsSome told state own size sources old new → AreTurns told state own size o n clients due left_by sources → Stands old → Stays new.node
+  some_leave : (sources : List _) (old new : Seat D) → TurnsSome told state own size sources old new → AreTurns told state own size clients due left_by sources → Stands old → Stays new.node
   some_leave [] old new turns all s = absurd turns
   some_leave (source ∷ sources) old new (inl broken) all s = broken_leaves source all.0.0 all.0.1.0 old new broken s
   some_leave (source ∷ sources) old new (inr (mid, (turn, rest))) all s = some_leave sources mid new rest all.1 (turn_stands source all.0.0 all.0.1.0 old mid turn s)

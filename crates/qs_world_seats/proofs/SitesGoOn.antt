@@ -27,7 +27,7 @@ use Rattle.qs_world_seats.specs.Reached.{IsInWorld}
 use Rattle.qs_world_seats.specs.Sites.{IsSiteIn, NodeGoesOn, SiteCarries, SiteFails, SiteGoesOn, SiteLinks, SiteVisits}
 use Rattle.qs_world_seats.specs.Visiting.{AreOfClients, PostInWorld}
 
-not_memory : (cause : Option CrashCause) → is_refused cause ≡ false → cause ≢ Some causes.Memory
+pub not_memory : (cause : Option CrashCause) → is_refused cause ≡ false → cause ≢ Some causes.Memory
 not_memory cause granted is = absurd (cc (sym granted ∙ ap is_refused is))
 
 visit_keeps : (c : Option ClientCell) (at : ℕ) (olds news : List ClientCell) (did : Bool) → slice_get olds at ≡ c → ClientVisitAt at c olds news did → map number_of news ≡ map number_of olds
