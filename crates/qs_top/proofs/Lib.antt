@@ -29,6 +29,8 @@ mod NodesCame
 mod NodesGiven
 -- What it leaves.
 mod NodesLeft
+-- What it leaves where memory was refused.
+mod NodesUntold
 -- Its journal, and the disks that are named.
 mod NodesLawful
 -- It, by the disks of which it is and the text that was read.

@@ -43,7 +43,7 @@ use Rattle.qs_world_serial.specs.declared.serial.SiteTold.{SiteTold}
 use Rattle.qs_world_sites.specs.Breaks.{HasRisen}
 
 -- P of each disk, with what stands beside it
-each_of : {A B : Type 0} (P Q : ℕ → A → B → Type 0) (these : List A) (those : List B) → ((n : ℕ) (a : A) (b : B) → P n a b → Q n a b) → EachBeside P these those → EachBeside Q these those
+pub each_of : {A B : Type 0} (P Q : ℕ → A → B → Type 0) (these : List A) (those : List B) → ((n : ℕ) (a : A) (b : B) → P n a b → Q n a b) → EachBeside P these those → EachBeside Q these those
 each_of P Q these those so each = record { count = each.count; each = λ n a b a_is b_is. so n a b (each.each n a b a_is b_is) }
 
 -- ---- what is left

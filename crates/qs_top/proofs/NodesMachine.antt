@@ -1,6 +1,7 @@
 -- The reference machine over what the logs of many nodes held opens as the world of the run does; and the disks of the sites as they are left.
 use Rattle.std.proofs.Common.{◌≡◌, ◌∙◌, ap, refl, subst, sym, ℕ, zero, suc, ◌+◌, ◌<◌, List, [], ◌∷◌, ◌++◌, length, map, Option, Some, Result, Ok, append-nil, arith, slice_get}
 use Rattle.std.specs.Global.{Global}
+use Rattle.qs_base.specs.declared.memory.NoMemory.{NoMemory}
 use Rattle.qs_base_lemmas.proofs.Tests.{is_zero_plus}
 use Rattle.qs_book_machine.specs.Opening.{opening}
 use Rattle.qs_book_machine.specs.declared.opened.Opened.{Opened}
@@ -22,6 +23,7 @@ use Rattle.qs_world_nodes.proofs.Places.{found, low_of}
 use Rattle.qs_world_nodes.specs.Nodes.{OpensSites}
 use Rattle.qs_world_nodes.specs.Openings.{NodesHaveOpening, SitOnce, opening_over}
 use Rattle.qs_world_plans.specs.Plan.{setting_of}
+use Rattle.qs_world_rooms.specs.Rooms.{disk_size, sizes_of}
 use Rattle.qs_world_rounds.specs.Rounds.{Cast}
 use Rattle.qs_world_rounds.specs.Seats.{BeginsAt}
 use Rattle.qs_world_rounds.specs.declared.faults.RoundFault.{RoundFault}
@@ -54,10 +56,19 @@ same_maps f g (x ∷ xs) (y ∷ ys) count each = ap (λ (c : _). c ∷ map f xs)
 
 -- ---- of a run
 
+-- the disks that are left are those of the sites
+pub left_states : {D : Type 0} (told : Type 0) (state : D → DiskState) (own size : D → ℕ) (script : Script) (seed : ℕ) (ending : Result Ending RoundFault) (tells : Result (List SiteTold) NoMemory) (disks afters : List D)
+    (ran : HasRun told state own size script seed ending tells disks afters) → map state afters ≡ disks_of state ran.last.sites
+left_states told state own size script seed ending tells disks afters ran =
+    sym (same_maps (disk_state state) state ran.last.sites afters ran.leaves.count (λ n site after is at. sym (ap state (ran.leaves.each n site after is at).disk)))
+
 module _ {D : Type 0} (told : Type 0) (state : D → DiskState) (own size : D → ℕ) (script : Script) (seed : ℕ) (ending : Result Ending RoundFault) (tells : List SiteTold) (disks afters : List D) (ran : HasRun told state own size script seed ending (Ok tells) disks afters) where
-  -- the disks that are left are those of the sites
-  pub left_states : map state afters ≡ disks_of state ran.last.sites
-  left_states = sym (same_maps (disk_state state) state ran.last.sites afters ran.leaves.count (λ n site after is at. sym (ap state (ran.leaves.each n site after is at).disk)))
+  -- the numbers of their bytes, as the nodes began and as they are left
+  pub begun_sizes : map size disks ≡ sizes_of size ran.first.sites
+  begun_sizes = same_maps size (disk_size size) disks ran.first.sites ran.bytes.count (λ n disk site is at. sym (ran.bytes.each n disk site is at))
+
+  pub left_sizes : map size afters ≡ sizes_of size ran.last.sites
+  left_sizes = sym (same_maps (disk_size size) size ran.last.sites afters ran.leaves.count (λ n site after is at. sym (ap size (ran.leaves.each n site after is at).disk)))
 
   module _ (t : told) (once : SitOnce script.seats) (opens : NodesHaveOpening told state own ran.alloc script disks ran.first) where
     abbrev o : Opening

@@ -1,5 +1,5 @@
 -- A run of many nodes, by the disks of which it is and the text that was read.
-use Rattle.std.proofs.Common.{◌≡◌, ◌⊎◌, ◌∙◌, inl, ℕ, ◌^◌, ◌≤◌, Bool, List, length, Option, Ok, refl, subst, sym, arith}
+use Rattle.std.proofs.Common.{◌≡◌, ◌⊎◌, ◌∙◌, inl, inr, ℕ, ◌^◌, ◌≤◌, Bool, List, length, Option, Ok, refl, subst, sym, arith}
 use Rattle.std.proofs.lemmas.List.{length-take-le, take-append-drop}
 use Rattle.std.specs.Io.KnownBytes.{Appends}
 use Rattle.std.specs.Prelude.{drop, take}
@@ -13,7 +13,7 @@ use Rattle.qs_disk.specs.Disk.{DiskState}
 use Rattle.qs_io.specs.Streams.{GivesPart}
 use Rattle.qs_log.specs.Image.{IsDamaged}
 use Rattle.qs_text_script.specs.Script.{script_of}
-use Rattle.qs_top.specs.Disks.{AtNode, OfThese}
+use Rattle.qs_top.specs.Disks.{AtNode, IsOnlyTouched, OfThese}
 use Rattle.qs_top.specs.Inner.CameTo.{CameTo}
 use Rattle.qs_top.specs.Inner.Giving.{IsGiven, IsNoScript}
 use Rattle.qs_top.specs.Inner.OverNodes.{IsOverNodes}
@@ -21,6 +21,7 @@ use Rattle.qs_top.specs.Nodes.{HasLawfulOf, IsNotBegunOf, IsRefusedOf, IsShortOf
 use Rattle.qs_top.specs.Run.{IsNothing}
 use Rattle.qs_top.specs.Statuses.{Gives, IfNot, IsEnd, IsOfRounds, IsOfRun, Tells}
 use Rattle.qs_top.specs.Texts.{OfScriptOf, ReadWhole}
+use Rattle.qs_top.specs.Untold.{AreOnlyTouched, RanOutOfMemoryOf, StayCoherentOf}
 use Rattle.qs_top.specs.declared.outcome.Run.{Run}
 use Rattle.qs_top.specs.declared.whole.RunMade.{RunMade}
 use Rattle.qs_top.proofs.Given.{built_given, empty_given, fault_given, of_script_of, silent_given, status_made, touched_alone}
@@ -28,9 +29,11 @@ use Rattle.qs_top.proofs.NodesCame.{came_built, came_empty, came_silent, came_to
 use Rattle.qs_top.proofs.NodesGiven.{NodesLaws, nodes_cut_off, nodes_ended, nodes_refused, nodes_short}
 use Rattle.qs_top.proofs.NodesLawful.{nodes_damaged, nodes_fault, nodes_lawful}
 use Rattle.qs_top.proofs.NodesLeft.{nodes_leave}
+use Rattle.qs_top.proofs.NodesUntold.{UntoldLaws, nodes_coherent, nodes_out}
 use Rattle.qs_world_opening.specs.Scripts.{Fits}
 use Rattle.qs_world_nodes.proofs.Places.{same_some}
 use Rattle.qs_world_nodes.specs.Openings.{ReadSitOnce, SitOnce}
+use Rattle.qs_world_serial.specs.Serial.{EachBeside}
 
 -- by a script that was read no client sits at two nodes
 pub once_read : {l m : Option (List ℕ)} (nodes : ℕ) (script : Script) → ((nodes : ℕ) (text : List ℕ) (script : Script) → ReadSitOnce nodes text script) → ReadWhole 1048576 l m (λ text. script_of nodes text ≡ Ok script) → SitOnce script.seats
@@ -100,6 +103,18 @@ module _ {D K : Type 0} (told : Type 0) (state : D → DiskState) (own size : D 
     these_refused line clause is = of_script_of nodes script (λ script. OfThese nodes (IsRefusedOf told state own size seed nodes script line clause) old new) read
         (with_holds (nodes_refused told state own size seed nodes script shown faults_of given before after made run over.disks over.afters over.holds gave over.count once fits laws line clause is))
 
+    module _ (u : UntoldLaws told state own size) where
+      pub these_out : run.status ≡ statuses.NoMemory → OfThese nodes (AreOnlyTouched told state) old new ⊎ ReadWhole 1048576 l m (OfScriptOf nodes (λ script. OfThese nodes (RanOutOfMemoryOf told state own size seed script) old new))
+      these_out is = by (nodes_out told state own size seed nodes script shown faults_of given before after made run over.disks over.afters over.holds gave over.count once fits u is)
+        where
+          by : AreOnlyTouched told state over.disks over.afters ⊎ RanOutOfMemoryOf told state own size seed script over.disks over.afters
+              → OfThese nodes (AreOnlyTouched told state) old new ⊎ ReadWhole 1048576 l m (OfScriptOf nodes (λ script. OfThese nodes (RanOutOfMemoryOf told state own size seed script) old new))
+          by (inl touched) = inl (with_holds touched)
+          by (inr ran) = inr (of_script_of nodes script (λ script. OfThese nodes (RanOutOfMemoryOf told state own size seed script) old new) read (with_holds ran))
+
+      pub these_coherent : OfThese nodes (StayCoherentOf told state own size seed) old new
+      these_coherent = with_holds (nodes_coherent told state own size seed nodes script shown faults_of given before after made run over.disks over.afters over.holds gave over.count once fits u)
+
 -- ---- a run without a script
 
 alone_leaves : {D : Type 0} (told : Type 0) (state : D → DiskState) (nodes : ℕ) (status : Status) → IsNoScript status → (n : ℕ) (d : D) → LeavesOf told state nodes status n d d
@@ -118,8 +133,8 @@ alone_leaves told state nodes (statuses.Journal line) none n d = absurd none
 alone_leaves told state nodes (statuses.LastGeneration node) none n d = absurd none
 
 -- each disk is left alone
-pub none_leave : {D : Type 0} (told : Type 0) (state : D → DiskState) (nodes : ℕ) (status : Status) (disks : List D) → IsNoScript status → nodes ≤ 8 → 8 ≤ length disks → OfThese nodes (LeaveAll told state nodes status) disks disks
-none_leave {D} told state nodes status disks none few some = record {
+none_these : {D : Type 0} (nodes : ℕ) (P : List D → List D → Type 0) (disks : List D) → nodes ≤ 8 → 8 ≤ length disks → P (take nodes disks) (take nodes disks) → OfThese nodes P disks disks
+none_these nodes P disks few some holds = record {
   disks = take nodes disks;
   afters = take nodes disks;
   rest = drop nodes disks;
@@ -127,5 +142,19 @@ none_leave {D} told state nodes status disks none few some = record {
   new_is = sym (take-append-drop nodes disks);
   count = length-take-le nodes disks (omega (arith, few, some));
   count_after = length-take-le nodes disks (omega (arith, few, some));
-  holds = record { count = refl; each = λ n a b is other. subst (LeavesOf told state nodes status n a) (same_some a b (sym is ∙ other)) (alone_leaves told state nodes status none n a) };
+  holds = holds;
 }
+
+each_alone : {D : Type 0} (P : ℕ → D → D → Type 0) (disks : List D) → ((n : ℕ) (d : D) → P n d d) → EachBeside P disks disks
+each_alone P disks alone = record { count = refl; each = λ n a b is other. subst (P n a) (same_some a b (sym is ∙ other)) (alone n a) }
+
+pub none_leave : {D : Type 0} (told : Type 0) (state : D → DiskState) (nodes : ℕ) (status : Status) (disks : List D) → IsNoScript status → nodes ≤ 8 → 8 ≤ length disks → OfThese nodes (LeaveAll told state nodes status) disks disks
+none_leave told state nodes status disks none few some =
+    none_these nodes (LeaveAll told state nodes status) disks few some (each_alone (LeavesOf told state nodes status) (take nodes disks) (λ n d. alone_leaves told state nodes status none n d))
+
+pub none_touched : {D : Type 0} (told : Type 0) (state : D → DiskState) (nodes : ℕ) (disks : List D) → nodes ≤ 8 → 8 ≤ length disks → OfThese nodes (AreOnlyTouched told state) disks disks
+none_touched told state nodes disks few some =
+    none_these nodes (AreOnlyTouched told state) disks few some (each_alone (λ n disk end. IsOnlyTouched told state disk end) (take nodes disks) (λ n d yes. touched_alone (state d)))
+
+pub none_coherent : {D : Type 0} (told : Type 0) (state : D → DiskState) (own size : D → ℕ) (seed nodes : ℕ) (disks : List D) → nodes ≤ 8 → 8 ≤ length disks → OfThese nodes (StayCoherentOf told state own size seed) disks disks
+none_coherent told state own size seed nodes disks few some = none_these nodes (StayCoherentOf told state own size seed) disks few some (λ t coherent. inl coherent)

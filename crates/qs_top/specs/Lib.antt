@@ -18,3 +18,5 @@ pub mod Verdict
 pub mod Ends
 -- How a run judges its own journal.
 pub mod Verdicts
+-- What stands of a run of many nodes of which nothing is told.
+pub mod Untold

@@ -19,6 +19,7 @@ ghost use Rattle.qs_top.specs.Nodes.{HasLawfulOf, IsNotBegunOf, IsRefusedOf, IsS
 ghost use Rattle.qs_top.specs.Run.{IsNothing, IsNotBegun, IsWhole, IsShort, IsRefused, RanOutOfMemory};
 ghost use Rattle.qs_top.specs.Statuses.{IfNot, IsEnd, IsPastScript, IsOfRun, Gives, Tells};
 ghost use Rattle.qs_top.specs.Texts.{ReadWhole, OfScript, OfScriptOf};
+ghost use Rattle.qs_top.specs.Untold.{AreOnlyTouched, RanOutOfMemoryOf, StayCoherentOf};
 ghost use Rattle.qs_top.specs.Verdict.{IsUnlawfulText, IsVerdict, IsOfCheck};
 
 use crate::asking::{Asked, asked_by};
@@ -31,9 +32,13 @@ use qs_base::{Bytes, List};
 use qs_disk::Disk;
 use qs_io::{ReadFault, Sink, Source, give_all, read_text};
 use qs_text::{Script, ScriptFailed, Status, read_script};
-use qs_world_left::{disks_are_read, runs_follow_runs, runs_leave_standing_disks};
+use qs_world_left::{
+    disks_are_read, refused_runs_leave_standing_disks, runs_follow_runs, runs_leave_standing_disks,
+    touched_disks_stay_coherent,
+};
 use qs_world_nodes::{nodes_have_openings, rounds_are_lawful, rounds_are_runs_of_the_world};
 use qs_world_opening::scripts_fit;
+use qs_world_rooms::{roomy_disks_are_read, runs_leave_room};
 use qs_world_rounds::NODE_COUNT;
 use std::alloc::Global;
 use std::thread::Threads;
@@ -240,12 +245,17 @@ fn run_nodes<S: Source, K: Sink, D: Disk>(
     ensures refused { (line clause : ℕ) → result.status ≡ Status.Unlawful line clause
         → ReadWhole 1048576 (S.left source.old) (S.left source.new) (OfScriptOf nodes (λ script. OfThese nodes
         (IsRefusedOf D.told D.state D.fault_count D.byte_count seed nodes script line clause) disks.old.items disks.new.items)) }
+    ensures out_of_memory { result.status ≡ Status.NoMemory
+        → OfThese nodes (AreOnlyTouched D.told D.state) disks.old.items disks.new.items
+        ⊎ ReadWhole 1048576 (S.left source.old) (S.left source.new) (OfScriptOf nodes (λ script. OfThese nodes
+        (RanOutOfMemoryOf D.told D.state D.fault_count D.byte_count seed script) disks.old.items disks.new.items)) }
     ensures silent { IfNot (Gives result.status) (K.given sink.new ≡ K.given sink.old) }
     ensures empty { IfNot (Tells result.status) (IsNothing result.journal result.trace) }
     ensures bound { TakesAtMost 1048577 (S.left source.old) (S.left source.new) }
     ensures built { IsOfRun result.status }
     ensures others { AreOthers nodes disks.old.items disks.new.items }
     ensures left { OfThese nodes (LeaveAll D.told D.state nodes result.status) disks.old.items disks.new.items }
+    ensures coherent { OfThese nodes (StayCoherentOf D.told D.state D.fault_count D.byte_count seed) disks.old.items disks.new.items }
 {
     let script = match script_from(alloc, source, nodes) {
         Ok(script) => script,
@@ -258,6 +268,10 @@ fn run_nodes<S: Source, K: Sink, D: Disk>(
     disks_are_read();
     runs_follow_runs::<D>();
     runs_leave_standing_disks::<D>();
+    refused_runs_leave_standing_disks::<D>();
+    touched_disks_stay_coherent();
+    roomy_disks_are_read();
+    runs_leave_room::<D>();
     let made = run_over_nodes(alloc, disks, nodes, &script, seed, shown);
     give(sink, made)
 }
@@ -366,7 +380,7 @@ pub fn run<R: Threads + Sync, S: Source, K: Sink, D: Disk>(
     ensures roomy { IfNot (IsOfMany (asked_by (form_of words.now))) (OfFirst (StaysRoomy D.told D.state D.byte_count) disks.old.items disks.new.items) }
 
     // Of a run of many nodes, the like: of their scripts, of the rounds that they made over the links between them, of what they
-    // tell, merged by stamp and node, and of what each leaves on its disk.
+    // tell, merged by stamp and node, and of what each leaves on its disk, with room again where it had room.
     ensures nodes_script { (nodes seed : ℕ) (shown : Bool) → asked_by (form_of words.now) ≡ Some (Asked.SerialNodes nodes seed shown)
         → (line : ℕ) (fault : ScriptFault) → result.status ≡ Status.Script line fault
         → ReadWhole 1048576 (S.left source.old) (S.left source.new) (λ text. script_of nodes text ≡ Err (Fault line fault)) }
@@ -390,8 +404,17 @@ pub fn run<R: Threads + Sync, S: Source, K: Sink, D: Disk>(
         → (line clause : ℕ) → result.status ≡ Status.Unlawful line clause
         → ReadWhole 1048576 (S.left source.old) (S.left source.new) (OfScriptOf nodes (λ script. OfThese nodes
         (IsRefusedOf D.told D.state D.fault_count D.byte_count seed nodes script line clause) disks.old.items disks.new.items)) }
+    ensures nodes_out_of_memory { (nodes seed : ℕ) (shown : Bool) → asked_by (form_of words.now) ≡ Some (Asked.SerialNodes nodes seed shown) → result.status ≡ Status.NoMemory
+        → OfThese nodes (AreOnlyTouched D.told D.state) disks.old.items disks.new.items
+        ⊎ ReadWhole 1048576 (S.left source.old) (S.left source.new) (OfScriptOf nodes (λ script. OfThese nodes
+        (RanOutOfMemoryOf D.told D.state D.fault_count D.byte_count seed script) disks.old.items disks.new.items)) }
     ensures nodes_left { (nodes seed : ℕ) (shown : Bool) → asked_by (form_of words.now) ≡ Some (Asked.SerialNodes nodes seed shown)
         → OfThese nodes (LeaveAll D.told D.state nodes result.status) disks.old.items disks.new.items }
+
+    // And runs follow one another, whatever the status: where the logs were coherent they are so again, as long as fewer than 2^63 packets
+    // were put to each link.
+    ensures nodes_coherent { (nodes seed : ℕ) (shown : Bool) → asked_by (form_of words.now) ≡ Some (Asked.SerialNodes nodes seed shown)
+        → OfThese nodes (StayCoherentOf D.told D.state D.fault_count D.byte_count seed) disks.old.items disks.new.items }
 
     // Of a check: the text that was read is a history, and the verdict on it is what was given; no disk is opened.
     ensures unlawful { asked_by (form_of words.now) ≡ Some Asked.Check → (line clause : ℕ) → result.status ≡ Status.Unlawful line clause

@@ -9,6 +9,7 @@ use Rattle.qs_top.specs.Nodes.{IsNotBegunOf, IsRefusedOf, IsShortOf}
 use Rattle.qs_top.specs.declared.asking.Asked.TheVariants as Asked
 use Rattle.qs_top.specs.Run.{IsNotBegun, IsShort, IsRefused, RanOutOfMemory}
 use Rattle.qs_top.specs.Texts.{ReadWhole, OfScript, OfScriptOf}
+use Rattle.qs_top.specs.Untold.{AreOnlyTouched, RanOutOfMemoryOf, StayCoherentOf}
 use Rattle.qs_text_script.specs.Words.{form_of}
 use Rattle.qs_top.specs.Asking.{asked_by, nodes_of}
 use Rattle.qs_top.proofs.Given.{first_alone}
@@ -106,3 +107,20 @@ returns-in-Some-SerialNodes-clause-nodes_refused g c = λ nodes seed shown asked
     subst (λ (s : ℕ). ReadWhole 1048576 (g.S.Source.left c.args.source.now) (g.S.Source.left c.run_nodes.new.source) (OfScriptOf nodes (λ script. OfThese nodes (IsRefusedOf g.D.Disk.told g.D.Disk.state g.D.Disk.fault_count g.D.Disk.byte_count s nodes script line clause) c.args.disks.now.items c.run_nodes.new.disks.items))) same_seed
     (subst (λ (n : ℕ). ReadWhole 1048576 (g.S.Source.left c.args.source.now) (g.S.Source.left c.run_nodes.new.source) (OfScriptOf n (λ script. OfThese n (IsRefusedOf g.D.Disk.told g.D.Disk.state g.D.Disk.fault_count g.D.Disk.byte_count c.in-Some-SerialNodes.seed n script line clause) c.args.disks.now.items c.run_nodes.new.disks.items))) same
     (c.run_nodes.ensures.refused line clause is))
+
+pub returns-in-Some-SerialNodes-clause-nodes_out_of_memory : goal.returns-in-Some-SerialNodes-clause-nodes_out_of_memory
+returns-in-Some-SerialNodes-clause-nodes_out_of_memory g c = λ nodes seed shown asked is.
+    let same : c.in-Some-SerialNodes.nodes ≡ nodes = cc (c.asked_by.ensures, c.in-Some-SerialNodes.is, c.in-Some-SerialNodes.field-0-is, asked) in
+    let same_seed : c.in-Some-SerialNodes.seed ≡ seed = cc (c.asked_by.ensures, c.in-Some-SerialNodes.is, c.in-Some-SerialNodes.field-0-is, asked) in
+    subst (λ (s : ℕ). OfThese nodes (AreOnlyTouched g.D.Disk.told g.D.Disk.state) c.args.disks.now.items c.run_nodes.new.disks.items
+    ⊎ ReadWhole 1048576 (g.S.Source.left c.args.source.now) (g.S.Source.left c.run_nodes.new.source) (OfScriptOf nodes (λ script. OfThese nodes (RanOutOfMemoryOf g.D.Disk.told g.D.Disk.state g.D.Disk.fault_count g.D.Disk.byte_count s script) c.args.disks.now.items c.run_nodes.new.disks.items))) same_seed
+    (subst (λ (n : ℕ). OfThese n (AreOnlyTouched g.D.Disk.told g.D.Disk.state) c.args.disks.now.items c.run_nodes.new.disks.items
+    ⊎ ReadWhole 1048576 (g.S.Source.left c.args.source.now) (g.S.Source.left c.run_nodes.new.source) (OfScriptOf n (λ script. OfThese n (RanOutOfMemoryOf g.D.Disk.told g.D.Disk.state g.D.Disk.fault_count g.D.Disk.byte_count c.in-Some-SerialNodes.seed script) c.args.disks.now.items c.run_nodes.new.disks.items))) same
+    (c.run_nodes.ensures.out_of_memory is))
+
+pub returns-in-Some-SerialNodes-clause-nodes_coherent : goal.returns-in-Some-SerialNodes-clause-nodes_coherent
+returns-in-Some-SerialNodes-clause-nodes_coherent g c = λ nodes seed shown asked.
+    let same : c.in-Some-SerialNodes.nodes ≡ nodes = cc (c.asked_by.ensures, c.in-Some-SerialNodes.is, c.in-Some-SerialNodes.field-0-is, asked) in
+    let same_seed : c.in-Some-SerialNodes.seed ≡ seed = cc (c.asked_by.ensures, c.in-Some-SerialNodes.is, c.in-Some-SerialNodes.field-0-is, asked) in
+    subst (λ (s : ℕ). OfThese nodes (StayCoherentOf g.D.Disk.told g.D.Disk.state g.D.Disk.fault_count g.D.Disk.byte_count s) c.args.disks.now.items c.run_nodes.new.disks.items) same_seed
+    (subst (λ (n : ℕ). OfThese n (StayCoherentOf g.D.Disk.told g.D.Disk.state g.D.Disk.fault_count g.D.Disk.byte_count c.in-Some-SerialNodes.seed) c.args.disks.now.items c.run_nodes.new.disks.items) same c.run_nodes.ensures.coherent)

@@ -1,0 +1,55 @@
+-- What stands of a run of many nodes where memory was refused, of which nothing is told; and that a run leaves its disks coherent again, however it ended.
+use Rattle.std.specs.Prelude.{◌⊎◌, ℕ, List, Result, length, map}
+use Rattle.qs_base.specs.declared.memory.NoMemory.{NoMemory}
+use Rattle.qs_book_journal.specs.declared.entry.Entry.{Entry}
+use Rattle.qs_book_machine.specs.Lawful.{IsLawful, book_after}
+use Rattle.qs_book_script.specs.declared.script.Script.{Script}
+use Rattle.qs_disk.specs.Disk.{DiskState}
+use Rattle.qs_node_step.specs.declared.trace.Step.{Step}
+use Rattle.qs_top.specs.Disks.{IsOnlyTouched}
+use Rattle.qs_world.specs.Histories.{book_of}
+use Rattle.qs_world.specs.World.{Opening}
+use Rattle.qs_world_left.specs.Disks.{AreCoherentDisks}
+use Rattle.qs_world_left.specs.Standing.{DisksStandFor, HaveStampsLeft, IsTold, up_at}
+use Rattle.qs_world_merge.specs.MergedByKey.{IsMergedBy}
+use Rattle.qs_world_merge.specs.StepMoves.{step_key}
+use Rattle.qs_world_nodes.specs.Nodes.{FewWerePut, trace_at}
+use Rattle.qs_world_nodes.specs.Openings.{opening_over}
+use Rattle.qs_world_rounds.specs.Rounds.{Cast}
+use Rattle.qs_world_rounds.specs.declared.faults.RoundFault.{RoundFault}
+use Rattle.qs_world_rounds.specs.declared.rounds.Ending.{Ending}
+use Rattle.qs_world_serial.specs.Serial.{EachBeside, HasRun}
+use Rattle.qs_world_serial.specs.declared.serial.SiteTold.{SiteTold}
+
+-- whichever image a power cut leaves of each disk, another run may begin over them. All that the nodes made, merged, is lawful from what the logs held, and where no
+-- node came to the last stamp each image stands for the machine after it
+pub record AreLastingUntold {D : Type 0} (state : D → DiskState) (o : Opening) (nodes : ℕ) (sites : List (Cast D)) (afters : List D) : Type 0 where
+  pub coherent : AreCoherentDisks (map state afters)
+  pub lawful : (journal : List Entry) (trace : List Step) → IsTold nodes journal sites → IsMergedBy step_key nodes (trace_at sites) trace → IsLawful (book_of o) journal
+  pub stands : HaveStampsLeft sites → (journal : List Entry) → IsTold nodes journal sites → DisksStandFor (book_after (book_of o) journal) (up_at sites) (map state afters)
+
+-- each disk was changed at most by the raise of its log's incarnation
+abbrev pub AreOnlyTouched : {D : Type 0} → Type 0 → (D → DiskState) → List D → List D → Type 0
+AreOnlyTouched {D} told state disks afters = EachBeside (λ n (disk : D) after. IsOnlyTouched told state disk after) disks afters
+
+-- the nodes began, and memory was refused in their rounds, or behind them as what they made was gathered, judged or told. Where the logs were coherent, and fewer than
+-- 2^63 packets were put to each link, what is left lasts
+pub record RanOutOfMemoryOf {D : Type 0} (told : Type 0) (state : D → DiskState) (own size : D → ℕ) (seed : ℕ) (script : Script) (disks afters : List D) : Type 0 where
+  pub ending : Result Ending RoundFault
+  pub tells : Result (List SiteTold) NoMemory
+  pub ran : HasRun told state own size script seed ending tells disks afters
+  pub lasts : told → AreCoherentDisks (map state disks) → FewWerePut ran.last.sites → AreLastingUntold state (opening_over ran.alloc script disks ran.first.sites) (length disks) ran.last.sites afters
+
+-- ---- one run behind another
+
+-- the nodes ran, and the disks are coherent again where fewer than 2^63 packets were put to each link
+pub record RanCoherent {D : Type 0} (told : Type 0) (state : D → DiskState) (own size : D → ℕ) (seed : ℕ) (disks afters : List D) : Type 0 where
+  pub script : Script
+  pub ending : Result Ending RoundFault
+  pub tells : Result (List SiteTold) NoMemory
+  pub ran : HasRun told state own size script seed ending tells disks afters
+  pub coherent : FewWerePut ran.last.sites → AreCoherentDisks (map state afters)
+
+-- disks that were coherent are so again: they were changed at most by the raise of a log, or the nodes ran
+abbrev pub StayCoherentOf : {D : Type 0} → Type 0 → (D → DiskState) → (D → ℕ) → (D → ℕ) → ℕ → List D → List D → Type 0
+StayCoherentOf told state own size seed disks afters = told → AreCoherentDisks (map state disks) → AreCoherentDisks (map state afters) ⊎ RanCoherent told state own size seed disks afters
