@@ -3,14 +3,14 @@
 
 mod standard;
 
-ghost use Rattle.std.specs.Prelude.{◌≡◌, length, IfOk};
+ghost use Rattle.std.specs.Prelude.{◌≡◌, ◌≤◌, length, IfOk, OnOk};
 
 use crate::standard::{NULL, stand_ins};
 use qs_base::NoMemory;
 use qs_disk_file::{DiskFile, FileDisk};
 use qs_io::{StdSink, StdSource};
 use qs_text::{Status, StatusLine};
-use qs_top::run;
+use qs_top::{Run, run};
 use std::alloc::Global;
 use std::fs::Files;
 use std::io::ErrorKind;
@@ -59,11 +59,29 @@ fn disks<'a, R: Files>(rt: &'a R, alloc: Global) -> Result<Vec<FileDisk<&'a R>>,
     ensures { IfOk result (λ disks. length disks.items ≡ 8) }
 {
     let mut disks = Vec::new(alloc);
+    match add_disks(rt, alloc, &mut disks) {
+        Ok(()) => Ok(disks),
+        Err(NoMemory) => {
+            drop(disks);
+            Err(NoMemory)
+        }
+    }
+}
+
+/// Adds them to none.
+fn add_disks<'a, R: Files>(
+    rt: &'a R,
+    alloc: Global,
+    disks: &mut Vec<FileDisk<&'a R>>,
+) -> Result<(), NoMemory>
+    requires { length disks.old.items ≡ 0 }
+    ensures { OnOk result (length disks.new.items ≡ 8) }
+{
     for node in 0..DISK_COUNT {
         let path = format!(in alloc; "node{node}.disk")?;
         disks.push(FileDisk::new(rt, alloc, path.as_str())?)?;
     }
-    Ok(disks)
+    Ok(())
 }
 
 /// Tells on standard error why calls on disks failed, a line for each disk on which one did.
@@ -82,24 +100,54 @@ where
     R: Env + AllocGlobal + Files + Input + Print + Eprint + Threads + Sync,
     R::File: DiskFile,
 {
-    match (words_of(rt), disks(rt, alloc)) {
-        (Ok(words), Ok(mut disks)) => {
-            let mut source = StdSource::new(rt.reader());
-            let mut sink = StdSink::new(io::writer(rt));
-            let ran = run(
-                rt,
-                alloc,
-                words.as_slice(),
-                &mut source,
-                &mut sink,
-                &mut disks,
-            );
+    let words = match words_of(rt) {
+        Ok(words) => words,
+        Err(status) => return status,
+    };
+    let status = over_files(rt, alloc, words.as_slice());
+    drop(words);
+    status
+}
+
+/// Does what the words ask for over the files of the disks.
+fn over_files<R>(rt: &R, alloc: Global, words: &[String]) -> Status
+where
+    R: Env + AllocGlobal + Files + Input + Print + Eprint + Threads + Sync,
+    R::File: DiskFile,
+{
+    match disks(rt, alloc) {
+        Ok(mut disks) => {
+            let status = over_disks(rt, alloc, words, &mut disks);
             tell_troubles(rt, disks.as_slice());
-            ran.status
+            drop(disks);
+            status
         }
-        (Err(status), _) => status,
-        (Ok(_), Err(NoMemory)) => Status::NoMemory,
+        Err(NoMemory) => Status::NoMemory,
     }
+}
+
+/// Does what the words ask for over these disks.
+fn over_disks<'a, R>(
+    rt: &'a R,
+    alloc: Global,
+    words: &[String],
+    disks: &mut Vec<FileDisk<&'a R>>,
+) -> Status
+where
+    R: Env + AllocGlobal + Files + Input + Print + Eprint + Threads + Sync,
+    R::File: DiskFile,
+    requires { 8 ≤ length disks.old.items }
+{
+    let mut source = StdSource::new(rt.reader());
+    let mut sink = StdSink::new(io::writer(rt));
+    let Run {
+        status,
+        journal,
+        trace,
+    } = run(rt, alloc, words, &mut source, &mut sink, disks);
+    drop(journal);
+    drop(trace);
+    status
 }
 
 /// Does what the program's words ask for, from standard input to standard output, tells the status
