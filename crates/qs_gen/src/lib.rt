@@ -8,6 +8,7 @@ ghost use Rattle.std.specs.Prelude.{◌≡◌, IfOk};
 ghost use Rattle.qs_gen.specs.Load.{load_script};
 
 use crate::draft::Draft;
+pub use lines::NODE_COUNT;
 use qs_base::{Bytes, NoMemory};
 use std::alloc::Global;
 

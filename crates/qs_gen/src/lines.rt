@@ -6,7 +6,7 @@ use std::alloc::{AllocError, Global};
 use std::fmt;
 
 /// How many nodes a load script is for.
-const NODE_COUNT: u8 = 4;
+pub const NODE_COUNT: u8 = 4;
 
 /// A word that this divides ends its transaction by an abort.
 const ABORT_DIVISOR: u32 = 8;

@@ -5,11 +5,8 @@
 
 use crate::scripts::judge_script;
 use anyhow::{Context, Error, bail};
-use qs_gen::load_script;
+use qs_gen::{NODE_COUNT, load_script};
 use sha2::{Digest, Sha256};
-
-/// How many nodes a load script is for.
-const NODES: u8 = 4;
 
 /// How many of its lines are printed: the clients, and the first transaction.
 const SHOWN: usize = 14;
@@ -33,7 +30,7 @@ fn show_script<R: AllocGlobal + Print>(rt: &R, script: &[u8]) -> Result<(), Erro
     for line in text.lines().take(SHOWN) {
         println!(rt; "  |{line}")?;
     }
-    judge_script(rt, script, NODES)
+    judge_script(rt, script, NODE_COUNT)
 }
 
 /// Prints its length and its digest.

@@ -115,6 +115,7 @@ fn print_form<R: AllocGlobal + Print>(rt: &R, line: &str) -> Result<(), Error> {
             },
         ) => println!(rt; "  run nodes {nodes} serial {serial:?} journal {journal}")?,
         Ok(Form::Check) => println!(rt; "  check")?,
+        Ok(Form::Load { seed }) => println!(rt; "  load seed {seed}")?,
         Err(_) => println!(rt; "  usage")?,
     }
     Ok(())

@@ -2,6 +2,7 @@
 #![tactic(auto)]
 
 mod answers;
+mod given;
 mod journal;
 mod labels;
 mod operations;
@@ -9,6 +10,7 @@ mod output;
 mod pieces;
 mod totals;
 
+pub use given::{Shown, given_text};
 pub use journal::journal_text;
 pub use output::out_text;
 pub use qs_text_script::{

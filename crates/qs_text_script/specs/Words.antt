@@ -3,7 +3,7 @@ use Rattle.std.specs.Prelude.{ℕ, true, false, ◌&&◌, Bool, List, [], ◌∷
 use Rattle.std.specs.Global.{Global}
 use Rattle.qs_base.specs.Order.{same_bytes}
 use Rattle.qs_text_script.specs.declared.form.Form.{Form}
-use Rattle.qs_text_script.specs.declared.form.Form.TheVariants.{Run, Check}
+use Rattle.qs_text_script.specs.declared.form.Form.TheVariants.{Run, Check, Load}
 use Rattle.qs_text_script.specs.declared.words.Options.{Options}
 use Rattle.qs_book_script.specs.Numbers.{number_of}
 
@@ -59,14 +59,24 @@ abbrev pub check_form : List (String Global) → Option Form
 check_form [] = Some Check
 check_form (word ∷ words) = None
 
+abbrev pub load_with : Option ℕ → Option Form
+load_with None = None
+load_with (Some seed) = Some (Load seed)
+
+-- load has SEED behind it, and nothing more
+abbrev pub load_form : List (String Global) → Option Form
+load_form (word ∷ []) = load_with (number_of (string_bytes word))
+load_form words = None
+
 -- the form that begins with that word
 abbrev pub form_with : List ℕ → List (String Global) → Option Form
 form_with first words =
     if same_bytes first (codes "run") then run_form (options_of no_options words)
     else if same_bytes first (codes "check") then check_form words
+    else if same_bytes first (codes "load") then load_form words
     else None
 
--- run N [--serial SEED] [--journal], or check
+-- run N [--serial SEED] [--journal], check, or load SEED
 abbrev pub form_of : List (String Global) → Option Form
 form_of [] = None
 form_of (first ∷ words) = form_with (string_bytes first) words

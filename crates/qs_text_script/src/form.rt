@@ -12,6 +12,10 @@ pub enum Form {
     },
     /// A history is read and judged.
     Check,
+    /// The load script of the seed is run on the nodes that it is for.
+    Load {
+        seed: u64,
+    },
 }
 
 /// Why words are refused.

@@ -1,7 +1,7 @@
 //! Reads the words after the program's name.
 ghost use Rattle.std.specs.Prelude.{◌≡◌, string_bytes};
 ghost use Rattle.std.specs.Option.{ok_or};
-ghost use Rattle.qs_text_script.specs.Words.{with_nodes, with_serial, with_journal, is_seed_word, with_option, with_word, options_of, no_options, run_with, run_form, check_form, form_with, form_of};
+ghost use Rattle.qs_text_script.specs.Words.{with_nodes, with_serial, with_journal, is_seed_word, with_option, with_word, options_of, no_options, run_with, run_form, check_form, load_with, load_form, form_with, form_of};
 
 use crate::form::{Form, WordsFault};
 use qs_book_script::{is_word, number_of};
@@ -26,8 +26,8 @@ pub struct Options {
 }
 
 /// The form that the words are of: `run N [--serial SEED] [--journal]`, in any order behind `run`
-/// and with `--serial=SEED` too, or `check`. N is from 1 to 8, SEED a number of 64 bits; no number
-/// has leading zeros, and nothing is said twice. It takes no memory.
+/// and with `--serial=SEED` too, `check`, or `load SEED`. N is from 1 to 8, SEED a number of 64 bits;
+/// no number has leading zeros, and nothing is said twice. It takes no memory.
 pub fn read_words(words: &[String]) -> Result<Form, WordsFault>
     ensures { result ≡ ok_or (form_of words.now) WordsFault.Usage }
 {
@@ -52,6 +52,8 @@ fn form_with(first: &str, words: &[String]) -> Option<Form>
         run_form(options_of(words))
     } else if first == "check" {
         check_form(words)
+    } else if first == "load" {
+        load_form(words)
     } else {
         None
     }
@@ -65,6 +67,22 @@ fn check_form(words: &[String]) -> Option<Form>
         [] => Some(Form::Check),
         [_, ..] => None,
     }
+}
+
+/// `load` has its seed, and no further words.
+fn load_form(words: &[String]) -> Option<Form>
+    ensures { result ≡ load_form words.now }
+{
+    match words {
+        [word] => load_with(number_of(word.as_str().as_bytes())),
+        _ => None,
+    }
+}
+
+fn load_with(seed: Option<u64>) -> Option<Form>
+    ensures { result ≡ load_with seed }
+{
+    Some(Form::Load { seed: seed? })
 }
 
 /// A run needs its number of nodes.

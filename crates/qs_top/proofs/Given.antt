@@ -27,21 +27,16 @@ use Rattle.qs_top.specs.Texts.{OfScript, OfScriptOf, ReadWhole}
 use Rattle.qs_top.specs.declared.outcome.Run.{Run}
 use Rattle.qs_top.specs.declared.whole.RunMade.{RunMade}
 use Rattle.qs_top.proofs.StatusLemmas.{end_gives, end_logged, end_or, rounds_of_run}
+use Rattle.qs_text.specs.declared.given.Shown.{Shown}
 
 -- ---- the text
 
-pub of_script_of : {l m : Option (List ℕ)} (nodes : ℕ) (script : Script) (P : Script → Type 0) → ReadWhole 1048576 l m (λ text. script_of nodes text ≡ Ok script) → P script → ReadWhole 1048576 l m (OfScriptOf nodes P)
-of_script_of nodes script P read holds = record { text = read.text; consumed = read.consumed; whole = read.whole; holds = record { script = script; read = read.holds; holds = holds } }
-
 pub of_script : {l m : Option (List ℕ)} (script : Script) (P : Script → Type 0) → ReadWhole 1048576 l m (λ text. script_of node_count text ≡ Ok script) → P script → ReadWhole 1048576 l m (OfScript P)
-of_script script P read holds = of_script_of node_count script P read holds
+of_script script P read holds = record { text = read.text; consumed = read.consumed; whole = read.whole; holds = record { script = script; read = read.holds; holds = holds } }
 
 -- a script that was read fits
-pub fit_of : {l m : Option (List ℕ)} (nodes : ℕ) (script : Script) → 1 ≤ nodes → nodes ≤ 16 → ((nodes : ℕ) (text : List ℕ) (read : Script) → ScriptFits nodes text read) → ReadWhole 1048576 l m (λ text. script_of nodes text ≡ Ok script) → Fits nodes script
-fit_of nodes script some few fits read = fits nodes read.text script some few read.holds
-
 pub fit : {l m : Option (List ℕ)} (script : Script) → ((nodes : ℕ) (text : List ℕ) (read : Script) → ScriptFits nodes text read) → ReadWhole 1048576 l m (λ text. script_of node_count text ≡ Ok script) → Fits node_count script
-fit script fits read = fit_of node_count script (omega arith) (omega arith) fits read
+fit script fits read = fits node_count read.text script (omega arith) (omega arith) read.holds
 
 pub map_both : {A B C E : Type 0} → (A → C) → (B → E) → A ⊎ B → C ⊎ E
 map_both f g (inl a) = inl (f a)
@@ -173,7 +168,7 @@ module _ {K : Type 0} (faults : K → ℕ) (given : K → Option (List ℕ)) (be
 
 -- ---- the run
 
-module _ {D K : Type 0} (told : Type 0) (state : D → DiskState) (own size : D → ℕ) (seed : ℕ) (script : Script) (shown : Bool) (faults : K → ℕ) (given : K → Option (List ℕ)) (before after : K) (made : RunMade) (run : Run) (disk end : D) (over : IsOver told state own size seed script shown made disk end) (gave : IsGiven faults given before after made run) (fits : Fits node_count script) where
+module _ {D K : Type 0} (told : Type 0) (state : D → DiskState) (own size : D → ℕ) (seed : ℕ) (script : Script) (shown : Shown) (faults : K → ℕ) (given : K → Option (List ℕ)) (before after : K) (made : RunMade) (run : Run) (disk end : D) (over : IsOver told state own size seed script shown made disk end) (gave : IsGiven faults given before after made run) (fits : Fits node_count script) where
   status_or : (run.status ≡ made.status) ⊎ ((run.status ≡ statuses.WriteFault) × ((bytes : List ℕ) × (made.output ≡ Some bytes)))
   status_or = status_of_given faults given before after made run gave
 

@@ -33,7 +33,9 @@ mod NodesLeft
 mod NodesUntold
 -- Its journal, and the disks that are named.
 mod NodesLawful
--- It, by the disks of which it is and the text that was read.
+-- The text of its script, be it made or read.
+mod TextLemmas
+-- It, by the disks of which it is and that text.
 mod NodesThese
 -- How many nodes are asked for.
 mod Forms

@@ -23,8 +23,9 @@ use Rattle.qs_world_serial.specs.Serial.{HasRun, IsRun}
 use Rattle.qs_world_serial.specs.declared.serial.SerialRun.{SerialRun}
 use Rattle.qs_world_serial.specs.declared.serial.SerialRun.TheVariants as runs
 use Rattle.qs_world_serial.specs.declared.serial.SiteTold.{SiteTold}
+use Rattle.qs_text.specs.declared.given.Shown.{Shown}
 
-module _ {D : Type 0} (told : Type 0) (state : D → DiskState) (own size : D → ℕ) (seed : ℕ) (script : Script) (shown : Bool) (made : RunMade) (disks afters : List D) where
+module _ {D : Type 0} (told : Type 0) (state : D → DiskState) (own size : D → ℕ) (seed : ℕ) (script : Script) (shown : Shown) (made : RunMade) (disks afters : List D) where
   abbrev Came : Type 0
   Came = CameTo told state own size seed script shown made disks afters
 

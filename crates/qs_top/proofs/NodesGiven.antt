@@ -62,6 +62,7 @@ use Rattle.qs_world_traces.specs.Links.{observed_by}
 use Rattle.qs_world_traces.specs.Traced.{IsTraced}
 use Rattle.qs_book_conformance.specs.Conforming.{Conforms}
 use Rattle.std.specs.Global.{Global}
+use Rattle.qs_text.specs.declared.given.Shown.{Shown}
 
 -- the laws of the rounds of many nodes
 pub record NodesLaws {D : Type 0} (told : Type 0) (state : D → DiskState) (own size : D → ℕ) : Type 0 where
@@ -204,7 +205,7 @@ module _ {D : Type 0} (told : Type 0) (state : D → DiskState) (own size : D �
 
 -- ---- the run
 
-module _ {D K : Type 0} (told : Type 0) (state : D → DiskState) (own size : D → ℕ) (seed nodes : ℕ) (script : Script) (shown : Bool) (faults_of : K → ℕ) (given : K → Option (List ℕ)) (before after : K) (made : RunMade) (run : Run) (disks afters : List D) (over : IsOverNodes told state own size seed script shown made disks afters) (gave : IsGiven faults_of given before after made run) (count : length disks ≡ nodes) (once : SitOnce script.seats) (fits : Fits nodes script) (laws : NodesLaws told state own size) where
+module _ {D K : Type 0} (told : Type 0) (state : D → DiskState) (own size : D → ℕ) (seed nodes : ℕ) (script : Script) (shown : Shown) (faults_of : K → ℕ) (given : K → Option (List ℕ)) (before after : K) (made : RunMade) (run : Run) (disks afters : List D) (over : IsOverNodes told state own size seed script shown made disks afters) (gave : IsGiven faults_of given before after made run) (count : length disks ≡ nodes) (once : SitOnce script.seats) (fits : Fits nodes script) (laws : NodesLaws told state own size) where
   came : CameTo told state own size seed script shown made disks afters
   came = came_to told state own size seed script shown made disks afters over
 

@@ -35,6 +35,7 @@ use Rattle.qs_world_rounds.specs.declared.rounds.Ending.{Ending}
 use Rattle.qs_world_serial.specs.Serial.{HasRun}
 use Rattle.qs_world_serial.specs.declared.serial.SiteTold.{SiteTold}
 use Rattle.qs_world_sites.specs.Breaks.{HasRisen}
+use Rattle.qs_text.specs.declared.given.Shown.{Shown}
 
 in_front : {A : Type 0} (xs rest : List A) (n : ℕ) (x : A) → slice_get xs n ≡ Some x → slice_get (xs ++ rest) n ≡ Some x
 in_front [] rest n x is = absurd (cc is)
@@ -50,7 +51,7 @@ none_lawful told state nodes journal old new none = record { opened = []; lawful
         by : (n : ℕ) → n ≡ 0 → 0 < n → ⊥
         by n is_none some = omega (arith, is_none, some)
 
-module _ {D K : Type 0} (told : Type 0) (state : D → DiskState) (own size : D → ℕ) (seed nodes : ℕ) (script : Script) (shown : Bool) (faults_of : K → ℕ) (given : K → Option (List ℕ)) (before after : K) (made : RunMade) (run : Run) (disks afters : List D) (over : IsOverNodes told state own size seed script shown made disks afters) (gave : IsGiven faults_of given before after made run)
+module _ {D K : Type 0} (told : Type 0) (state : D → DiskState) (own size : D → ℕ) (seed nodes : ℕ) (script : Script) (shown : Shown) (faults_of : K → ℕ) (given : K → Option (List ℕ)) (before after : K) (made : RunMade) (run : Run) (disks afters : List D) (over : IsOverNodes told state own size seed script shown made disks afters) (gave : IsGiven faults_of given before after made run)
     (old new rest : List D) (old_is : old ≡ disks ++ rest) (new_is : new ≡ afters ++ rest) (count : length disks ≡ nodes) (count_after : length afters ≡ nodes) where
   came : CameTo told state own size seed script shown made disks afters
   came = came_to told state own size seed script shown made disks afters over

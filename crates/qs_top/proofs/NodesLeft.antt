@@ -41,6 +41,7 @@ use Rattle.qs_world_rounds.specs.Rounds.{Cast}
 use Rattle.qs_world_serial.specs.Serial.{EachBeside, HasRun, IsNotOpened, IsTouchedDisk, IsTouchedUpTo}
 use Rattle.qs_world_serial.specs.declared.serial.SiteTold.{SiteTold}
 use Rattle.qs_world_sites.specs.Breaks.{HasRisen}
+use Rattle.qs_text.specs.declared.given.Shown.{Shown}
 
 -- P of each disk, with what stands beside it
 pub each_of : {A B : Type 0} (P Q : ℕ → A → B → Type 0) (these : List A) (those : List B) → ((n : ℕ) (a : A) (b : B) → P n a b → Q n a b) → EachBeside P these those → EachBeside Q these those
@@ -77,7 +78,7 @@ module _ {D : Type 0} (told : Type 0) (state : D → DiskState) (own size : D �
 
 -- ---- the run
 
-module _ {D K : Type 0} (told : Type 0) (state : D → DiskState) (own size : D → ℕ) (seed nodes : ℕ) (script : Script) (shown : Bool) (faults_of : K → ℕ) (given : K → Option (List ℕ)) (before after : K) (made : RunMade) (run : Run) (disks afters : List D) (over : IsOverNodes told state own size seed script shown made disks afters) (gave : IsGiven faults_of given before after made run) (count : length disks ≡ nodes) where
+module _ {D K : Type 0} (told : Type 0) (state : D → DiskState) (own size : D → ℕ) (seed nodes : ℕ) (script : Script) (shown : Shown) (faults_of : K → ℕ) (given : K → Option (List ℕ)) (before after : K) (made : RunMade) (run : Run) (disks afters : List D) (over : IsOverNodes told state own size seed script shown made disks afters) (gave : IsGiven faults_of given before after made run) (count : length disks ≡ nodes) where
   came : CameTo told state own size seed script shown made disks afters
   came = came_to told state own size seed script shown made disks afters over
 

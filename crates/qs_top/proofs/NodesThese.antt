@@ -20,26 +20,24 @@ use Rattle.qs_top.specs.Inner.OverNodes.{IsOverNodes}
 use Rattle.qs_top.specs.Nodes.{HasLawfulOf, IsNotBegunOf, IsRefusedOf, IsShortOf, IsWholeOf, LeaveAll, LeavesOf}
 use Rattle.qs_top.specs.Run.{IsNothing}
 use Rattle.qs_top.specs.Statuses.{Gives, IfNot, IsEnd, IsOfRounds, IsOfRun, Tells}
-use Rattle.qs_top.specs.Texts.{OfScriptOf, ReadWhole}
+use Rattle.qs_top.specs.Texts.{HasText, OfScriptOf}
 use Rattle.qs_top.specs.Untold.{AreOnlyTouched, RanOutOfMemoryOf, StayCoherentOf}
 use Rattle.qs_top.specs.declared.outcome.Run.{Run}
 use Rattle.qs_top.specs.declared.whole.RunMade.{RunMade}
-use Rattle.qs_top.proofs.Given.{built_given, empty_given, fault_given, of_script_of, silent_given, status_made, touched_alone}
+use Rattle.qs_top.proofs.Given.{built_given, empty_given, fault_given, silent_given, status_made, touched_alone}
 use Rattle.qs_top.proofs.NodesCame.{came_built, came_empty, came_silent, came_to}
 use Rattle.qs_top.proofs.NodesGiven.{NodesLaws, nodes_cut_off, nodes_ended, nodes_refused, nodes_short}
 use Rattle.qs_top.proofs.NodesLawful.{nodes_damaged, nodes_fault, nodes_lawful}
 use Rattle.qs_top.proofs.NodesLeft.{nodes_leave}
+use Rattle.qs_top.proofs.TextLemmas.{text_of_script}
 use Rattle.qs_top.proofs.NodesUntold.{UntoldLaws, nodes_coherent, nodes_out}
 use Rattle.qs_world_opening.specs.Scripts.{Fits}
 use Rattle.qs_world_nodes.proofs.Places.{same_some}
-use Rattle.qs_world_nodes.specs.Openings.{ReadSitOnce, SitOnce}
+use Rattle.qs_world_nodes.specs.Openings.{SitOnce}
 use Rattle.qs_world_serial.specs.Serial.{EachBeside}
+use Rattle.qs_text.specs.declared.given.Shown.{Shown}
 
--- by a script that was read no client sits at two nodes
-pub once_read : {l m : Option (List ℕ)} (nodes : ℕ) (script : Script) → ((nodes : ℕ) (text : List ℕ) (script : Script) → ReadSitOnce nodes text script) → ReadWhole 1048576 l m (λ text. script_of nodes text ≡ Ok script) → SitOnce script.seats
-once_read nodes script reads read = reads nodes read.text script read.holds
-
-module _ {D K : Type 0} (told : Type 0) (state : D → DiskState) (own size : D → ℕ) (seed nodes : ℕ) (script : Script) (shown : Bool) (faults_of : K → ℕ) (given : K → Option (List ℕ)) (before after : K) (made : RunMade) (run : Run) (old new : List D)
+module _ {D K : Type 0} (told : Type 0) (state : D → DiskState) (own size : D → ℕ) (seed nodes : ℕ) (script : Script) (shown : Shown) (faults_of : K → ℕ) (given : K → Option (List ℕ)) (before after : K) (made : RunMade) (run : Run) (old new : List D)
     (over : OfThese nodes (λ disks afters. IsOverNodes told state own size seed script shown made disks afters) old new) (gave : IsGiven faults_of given before after made run) where
   with_holds : {P : List D → List D → Type 0} → P over.disks over.afters → OfThese nodes P old new
   with_holds holds = record { disks = over.disks; afters = over.afters; rest = over.rest; old_is = over.old_is; new_is = over.new_is; count = over.count; count_after = over.count_after; holds = holds }
@@ -84,33 +82,33 @@ module _ {D K : Type 0} (told : Type 0) (state : D → DiskState) (own size : D 
   pub these_leave : OfThese nodes (LeaveAll told state nodes run.status) old new
   these_leave = with_holds (nodes_leave told state own size seed nodes script shown faults_of given before after made run over.disks over.afters over.holds gave over.count)
 
-  module _ {l m : Option (List ℕ)} (read : ReadWhole 1048576 l m (λ text. script_of nodes text ≡ Ok script)) (once : SitOnce script.seats) (fits : Fits nodes script) (laws : NodesLaws told state own size) where
-    pub these_ended : IsEnd run.status → ReadWhole 1048576 l m (OfScriptOf nodes (λ script. OfThese nodes (IsWholeOf told state own size seed nodes script shown (λ status. run.status ≡ status) (Appends (given before) (given after)) run.journal run.trace) old new))
-    these_ended e = of_script_of nodes script (λ script. OfThese nodes (IsWholeOf told state own size seed nodes script shown (λ status. run.status ≡ status) (Appends (given before) (given after)) run.journal run.trace) old new) read
+  module _ {l m : Option (List ℕ)} (read : HasText shown l m (λ text. script_of nodes text ≡ Ok script)) (once : SitOnce script.seats) (fits : Fits nodes script) (laws : NodesLaws told state own size) where
+    pub these_ended : IsEnd run.status → HasText shown l m (OfScriptOf nodes (λ script. OfThese nodes (IsWholeOf told state own size seed nodes script shown (λ status. run.status ≡ status) (Appends (given before) (given after)) run.journal run.trace) old new))
+    these_ended e = text_of_script shown nodes script (λ script. OfThese nodes (IsWholeOf told state own size seed nodes script shown (λ status. run.status ≡ status) (Appends (given before) (given after)) run.journal run.trace) old new) read
         (with_holds (nodes_ended told state own size seed nodes script shown faults_of given before after made run over.disks over.afters over.holds gave over.count once fits laws e))
 
-    pub these_cut_off : run.status ≡ statuses.WriteFault → ReadWhole 1048576 l m (OfScriptOf nodes (λ script. OfThese nodes (IsWholeOf told state own size seed nodes script shown IsEnd (GivesPart (given before) (given after)) run.journal run.trace) old new))
-    these_cut_off fault = of_script_of nodes script (λ script. OfThese nodes (IsWholeOf told state own size seed nodes script shown IsEnd (GivesPart (given before) (given after)) run.journal run.trace) old new) read
+    pub these_cut_off : run.status ≡ statuses.WriteFault → HasText shown l m (OfScriptOf nodes (λ script. OfThese nodes (IsWholeOf told state own size seed nodes script shown IsEnd (GivesPart (given before) (given after)) run.journal run.trace) old new))
+    these_cut_off fault = text_of_script shown nodes script (λ script. OfThese nodes (IsWholeOf told state own size seed nodes script shown IsEnd (GivesPart (given before) (given after)) run.journal run.trace) old new) read
         (with_holds (nodes_cut_off told state own size seed nodes script shown faults_of given before after made run over.disks over.afters over.holds gave over.count once fits laws fault))
 
     pub these_short : (node : NodeNo) → run.status ≡ statuses.DiskFault node
-        → ReadWhole 1048576 l m (OfScriptOf nodes (λ script. OfThese nodes (λ disks afters. IsNotBegunOf told state own size node run.journal run.trace disks afters ⊎ IsShortOf told state own size seed nodes script node run.journal run.trace disks afters) old new))
-    these_short node is = of_script_of nodes script (λ script. OfThese nodes (λ disks afters. IsNotBegunOf told state own size node run.journal run.trace disks afters ⊎ IsShortOf told state own size seed nodes script node run.journal run.trace disks afters) old new) read
+        → HasText shown l m (OfScriptOf nodes (λ script. OfThese nodes (λ disks afters. IsNotBegunOf told state own size node run.journal run.trace disks afters ⊎ IsShortOf told state own size seed nodes script node run.journal run.trace disks afters) old new))
+    these_short node is = text_of_script shown nodes script (λ script. OfThese nodes (λ disks afters. IsNotBegunOf told state own size node run.journal run.trace disks afters ⊎ IsShortOf told state own size seed nodes script node run.journal run.trace disks afters) old new) read
         (with_holds (nodes_short told state own size seed nodes script shown faults_of given before after made run over.disks over.afters over.holds gave over.count once fits laws node is))
 
     pub these_refused : (line clause : ℕ) → run.status ≡ statuses.Unlawful line clause
-        → ReadWhole 1048576 l m (OfScriptOf nodes (λ script. OfThese nodes (IsRefusedOf told state own size seed nodes script line clause) old new))
-    these_refused line clause is = of_script_of nodes script (λ script. OfThese nodes (IsRefusedOf told state own size seed nodes script line clause) old new) read
+        → HasText shown l m (OfScriptOf nodes (λ script. OfThese nodes (IsRefusedOf told state own size seed nodes script line clause) old new))
+    these_refused line clause is = text_of_script shown nodes script (λ script. OfThese nodes (IsRefusedOf told state own size seed nodes script line clause) old new) read
         (with_holds (nodes_refused told state own size seed nodes script shown faults_of given before after made run over.disks over.afters over.holds gave over.count once fits laws line clause is))
 
     module _ (u : UntoldLaws told state own size) where
-      pub these_out : run.status ≡ statuses.NoMemory → OfThese nodes (AreOnlyTouched told state) old new ⊎ ReadWhole 1048576 l m (OfScriptOf nodes (λ script. OfThese nodes (RanOutOfMemoryOf told state own size seed script) old new))
+      pub these_out : run.status ≡ statuses.NoMemory → OfThese nodes (AreOnlyTouched told state) old new ⊎ HasText shown l m (OfScriptOf nodes (λ script. OfThese nodes (RanOutOfMemoryOf told state own size seed script) old new))
       these_out is = by (nodes_out told state own size seed nodes script shown faults_of given before after made run over.disks over.afters over.holds gave over.count once fits u is)
         where
           by : AreOnlyTouched told state over.disks over.afters ⊎ RanOutOfMemoryOf told state own size seed script over.disks over.afters
-              → OfThese nodes (AreOnlyTouched told state) old new ⊎ ReadWhole 1048576 l m (OfScriptOf nodes (λ script. OfThese nodes (RanOutOfMemoryOf told state own size seed script) old new))
+              → OfThese nodes (AreOnlyTouched told state) old new ⊎ HasText shown l m (OfScriptOf nodes (λ script. OfThese nodes (RanOutOfMemoryOf told state own size seed script) old new))
           by (inl touched) = inl (with_holds touched)
-          by (inr ran) = inr (of_script_of nodes script (λ script. OfThese nodes (RanOutOfMemoryOf told state own size seed script) old new) read (with_holds ran))
+          by (inr ran) = inr (text_of_script shown nodes script (λ script. OfThese nodes (RanOutOfMemoryOf told state own size seed script) old new) read (with_holds ran))
 
       pub these_coherent : OfThese nodes (StayCoherentOf told state own size seed) old new
       these_coherent = with_holds (nodes_coherent told state own size seed nodes script shown faults_of given before after made run over.disks over.afters over.holds gave over.count once fits u)

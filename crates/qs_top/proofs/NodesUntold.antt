@@ -42,6 +42,7 @@ use Rattle.qs_world_rounds.specs.declared.rounds.Ending.{Ending}
 use Rattle.qs_world_serial.specs.Serial.{EachBeside, HasRun, IsTouchedDisk, IsTouchedUpTo}
 use Rattle.qs_world_serial.specs.declared.serial.SiteTold.{SiteTold}
 use Rattle.qs_world_sites.specs.Sites.{SitesValue}
+use Rattle.qs_text.specs.declared.given.Shown.{Shown}
 
 -- the laws where memory was refused, and of disks that were only touched, beside the others
 pub record UntoldLaws {D : Type 0} (told : Type 0) (state : D → DiskState) (own size : D → ℕ) : Type 0 where
@@ -129,7 +130,7 @@ module _ {D : Type 0} (told : Type 0) (state : D → DiskState) (own size : D �
 
 -- ---- the run
 
-module _ {D K : Type 0} (told : Type 0) (state : D → DiskState) (own size : D → ℕ) (seed nodes : ℕ) (script : Script) (shown : Bool) (faults_of : K → ℕ) (given : K → Option (List ℕ)) (before after : K) (made : RunMade) (run : Run) (disks afters : List D) (over : IsOverNodes told state own size seed script shown made disks afters) (gave : IsGiven faults_of given before after made run) (count : length disks ≡ nodes) (once : SitOnce script.seats) (fits : Fits nodes script) (u : UntoldLaws told state own size) where
+module _ {D K : Type 0} (told : Type 0) (state : D → DiskState) (own size : D → ℕ) (seed nodes : ℕ) (script : Script) (shown : Shown) (faults_of : K → ℕ) (given : K → Option (List ℕ)) (before after : K) (made : RunMade) (run : Run) (disks afters : List D) (over : IsOverNodes told state own size seed script shown made disks afters) (gave : IsGiven faults_of given before after made run) (count : length disks ≡ nodes) (once : SitOnce script.seats) (fits : Fits nodes script) (u : UntoldLaws told state own size) where
   came : CameTo told state own size seed script shown made disks afters
   came = came_to told state own size seed script shown made disks afters over
 

@@ -36,6 +36,7 @@ use Rattle.qs_top.specs.declared.whole.RunMade.{RunMade}
 use Rattle.qs_top.proofs.Coherent.{refused_by_script}
 use Rattle.qs_top.proofs.Held.{held_in, world_in}
 use Rattle.qs_top.proofs.StatusLemmas.{IsFaultStatus, end_built, end_leaves, end_refuses, refusal_built, refusal_leaves, same_node, status_ends, status_tells}
+use Rattle.qs_text.specs.declared.given.Shown.{Shown}
 
 -- ---- nothing was made
 
@@ -51,7 +52,7 @@ nothing_lawful told state script disk opened journal is = record {
 
 -- ---- all rounds were made
 
-module _ {D : Type 0} (told : Type 0) (state : D → DiskState) (own size : D → ℕ) (seed : ℕ) (script : Script) (shown : Bool) (alloc : Global) (disk after : D) (first last : Cast D) (begins : HasBegun told state own alloc script disk first) (room : told → IsRoomyDisk (size disk) (state disk) → BeganRoomy (began_over state size disk first.node.seat.node)) (start : IsSameStart first.node last.node) (each : told → EachImage (HasLog last.node.opened) (state after).now) (left : IsLeftBy told state last.node after) (made : RunMade) where
+module _ {D : Type 0} (told : Type 0) (state : D → DiskState) (own size : D → ℕ) (seed : ℕ) (script : Script) (shown : Shown) (alloc : Global) (disk after : D) (first last : Cast D) (begins : HasBegun told state own alloc script disk first) (room : told → IsRoomyDisk (size disk) (state disk) → BeganRoomy (began_over state size disk first.node.seat.node)) (start : IsSameStart first.node last.node) (each : told → EachImage (HasLog last.node.opened) (state after).now) (left : IsLeftBy told state last.node after) (made : RunMade) where
   -- what stands at the end, where the log was coherent
   abbrev EndHolds : Type 0
   EndHolds = Fits node_count script → told → IsCoherentDisk (state disk) → HoldsAtEnd state size (began_over state size disk first.node.seat.node) (opening_over alloc script begins.started.running.host.log) last.node

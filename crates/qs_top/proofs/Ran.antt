@@ -33,6 +33,7 @@ use Rattle.qs_top.specs.declared.whole.RunMade.{RunMade}
 use Rattle.qs_top.proofs.Late.{never_late}
 use Rattle.qs_top.proofs.Overs.{at_end_untold, over_end, over_short, over_untold}
 use Rattle.qs_top.proofs.Unopened.{over_refused}
+use Rattle.qs_text.specs.declared.given.Shown.{Shown}
 
 -- the laws of runs of one node, whatever they came to
 pub record RunLaws {D : Type 0} (told : Type 0) (state : D → DiskState) (own size : D → ℕ) : Type 0 where
@@ -49,7 +50,7 @@ pub record IsLeft {D : Type 0} (told : Type 0) (state : D → DiskState) (last :
   pub stands : told → LogStands state node.seat.node
   pub logged : told → EachImage (HasLog node.opened) (state after).now
 
-module _ {D : Type 0} (told : Type 0) (state : D → DiskState) (own size : D → ℕ) (seed : ℕ) (script : Script) (shown : Bool) (alloc : Global) (disk after : D) (first last : Cast D) (begins : HasBegun told state own alloc script disk first) (bytes : size (disk_of first.node.seat.node).disk ≡ size disk) (start : IsSameStart first.node last.node) (made : RunMade) (node : CellValue D) (journal : List Entry) (trace : List Step) (left : IsLeft told state last node journal trace after) (laws : RunLaws told state own size) (image : told → IsImage (state disk).now (state disk).content) where
+module _ {D : Type 0} (told : Type 0) (state : D → DiskState) (own size : D → ℕ) (seed : ℕ) (script : Script) (shown : Shown) (alloc : Global) (disk after : D) (first last : Cast D) (begins : HasBegun told state own alloc script disk first) (bytes : size (disk_of first.node.seat.node).disk ≡ size disk) (start : IsSameStart first.node last.node) (made : RunMade) (node : CellValue D) (journal : List Entry) (trace : List Step) (left : IsLeft told state last node journal trace after) (laws : RunLaws told state own size) (image : told → IsImage (state disk).now (state disk).content) where
   after_is : after ≡ (disk_of last.node.seat.node).disk
   after_is = left.disk ∙ ap (λ (cell : CellValue D). (disk_of cell.seat.node).disk) left.node_is
 

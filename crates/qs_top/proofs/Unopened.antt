@@ -27,6 +27,7 @@ use Rattle.qs_top.specs.declared.whole.RunMade.{RunMade}
 use Rattle.qs_top.proofs.Coherent.{Later, touched_coherent, touched_roomy}
 use Rattle.qs_top.proofs.Overs.{nothing_lawful}
 use Rattle.qs_top.proofs.StatusLemmas.{IsFaultStatus, same_node}
+use Rattle.qs_text.specs.declared.given.Shown.{Shown}
 
 -- those of a log that was not opened
 abbrev IsUnopened : Status → Type 0
@@ -85,7 +86,7 @@ damage_node _ = first_node
 pub nothing_opened : Opened
 nothing_opened = opened_with (setting_of (record { seats = []; quotas = []; audit = None; faults = []; lines = []; count = 0 }) node_count first_node 1) (recovered_of [])
 
-module _ {D : Type 0} (told : Type 0) (state : D → DiskState) (own size : D → ℕ) (seed : ℕ) (script : Script) (shown : Bool) (disk after : D) (made : RunMade) (nothing : IsNothingMade made) where
+module _ {D : Type 0} (told : Type 0) (state : D → DiskState) (own size : D → ℕ) (seed : ℕ) (script : Script) (shown : Shown) (disk after : D) (made : RunMade) (nothing : IsNothingMade made) where
   over_unopened : IsUnopened made.status → (Fits node_count script → IsOnlyTouched told state disk after ⊎ RanOutOfMemory told state own size seed script disk after) → (Fits node_count script → Leaves told state made.status disk after) → (Fits node_count script → StaysCoherent told state disk after) → (Fits node_count script → StaysRoomy told state size disk after) → ((node : NodeNo) → made.status ≡ statuses.DiskFault node → IsOnlyTouched told state disk after × (told → MayLeaveUnraised (state disk) (state after))) → ((node : NodeNo) → made.status ≡ statuses.DiskFault node → IsFaultOver own node disk after) → ((node : NodeNo) (at : ℕ) → made.status ≡ statuses.Damaged node at → IsDamageOver told state node at disk after)
       → IsOver told state own size seed script shown made disk after
   over_unopened unopened ran leaves stays spacious touched fault damage = record {

@@ -1,5 +1,5 @@
 -- What the top call promises of a run of many nodes: what its journal is, how it ended, and what is left on the disks.
-use Rattle.std.specs.Prelude.{◌≡◌, ◌⊎◌, ◌<◌, ℕ, Bool, List, [], Result, Ok, Err, get_or, length, map}
+use Rattle.std.specs.Prelude.{◌≡◌, ◌⊎◌, ◌<◌, ℕ, List, [], Result, Ok, Err, get_or, length, map}
 use Rattle.qs_base.specs.declared.identifiers.NodeNo.{NodeNo}
 use Rattle.qs_book_conformance.specs.Conforming.{Conforms}
 use Rattle.qs_book_journal.specs.Merge.{IsMerged}
@@ -35,6 +35,7 @@ use Rattle.qs_world_rounds.specs.declared.rounds.Ending.{Ending}
 use Rattle.qs_world_serial.specs.Serial.{EachBeside, HasRun, IsNotOpened}
 use Rattle.qs_world_serial.specs.declared.serial.SiteTold.{SiteTold}
 use Rattle.qs_world_traces.specs.Traced.{IsTraced}
+use Rattle.qs_text.specs.declared.given.Shown.{Shown}
 
 -- ---- the journal
 
@@ -100,7 +101,7 @@ pub record AreTold {D : Type 0} (told : Type 0) (state : D → DiskState) (own s
 -- ---- how a run ended
 
 -- with all its rounds, so that it has this status, and of its output that much was given
-pub record IsWholeOf {D : Type 0} (told : Type 0) (state : D → DiskState) (own size : D → ℕ) (seed nodes : ℕ) (script : Script) (shown : Bool) (Has : Status → Type 0) (Gave : List ℕ → Type 0) (journal : List Entry) (trace : List Step) (disks afters : List D) : Type 0 where
+pub record IsWholeOf {D : Type 0} (told : Type 0) (state : D → DiskState) (own size : D → ℕ) (seed nodes : ℕ) (script : Script) (shown : Shown) (Has : Status → Type 0) (Gave : List ℕ → Type 0) (journal : List Entry) (trace : List Step) (disks afters : List D) : Type 0 where
   pub ending : Ending
   pub tells : List SiteTold
   pub ran : HasRun told state own size script seed (Ok ending) (Ok tells) disks afters

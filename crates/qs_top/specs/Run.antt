@@ -1,5 +1,5 @@
 -- What the top call promises of a run: what its journal is, how it ended, and what was given.
-use Rattle.std.specs.Prelude.{◌≡◌, ◌⊎◌, ◌<◌, ℕ, ◌+◌, Bool, List, [], ◌∷◌, is_none, length}
+use Rattle.std.specs.Prelude.{◌≡◌, ◌⊎◌, ◌<◌, ℕ, ◌+◌, List, [], ◌∷◌, is_none, length}
 use Rattle.std.specs.Global.{Global}
 use Rattle.qs_cell.specs.Starts.{CellValue, journal_of, trace_of}
 use Rattle.qs_cell.specs.State.{LogStands, cause_of, disk_of}
@@ -26,11 +26,12 @@ use Rattle.qs_slot.specs.Slot.{Present}
 use Rattle.qs_book_script.specs.declared.script.Script.{Script}
 use Rattle.qs_book_script.specs.declared.status.Status.{Status}
 use Rattle.qs_node_step.specs.declared.trace.Step.{Step}
-use Rattle.qs_text.specs.Output.{out_of}
+use Rattle.qs_text.specs.Given.{given_of}
 use Rattle.qs_top.specs.Ends.{status_of}
 use Rattle.qs_top.specs.Verdicts.{IsRefusedAt, rule_of_script}
 use Rattle.qs_world.specs.World.{start}
 use Rattle.qs_top.specs.Disks.{OfFirst, IsHeldIn, IsOnlyTouched}
+use Rattle.qs_text.specs.declared.given.Shown.{Shown}
 
 -- ---- the rounds
 
@@ -106,14 +107,15 @@ pub record IsNothing (journal : List Entry) (trace : List Step) : Type 0 where
 
 -- ---- how a run ended
 
-abbrev pub output_from : Script → List Entry → Bool → BookValue → List ℕ
-output_from script journal shown book = out_of script journal (book_after book journal) shown
+-- what is to be given: the output, or the line of a load
+abbrev pub output_from : Script → List Entry → Shown → BookValue → List ℕ
+output_from script journal shown book = given_of script journal (book_after book journal) shown
 
-abbrev pub output_of : Script → List Entry → Bool → Opened → List ℕ
+abbrev pub output_of : Script → List Entry → Shown → Opened → List ℕ
 output_of script journal shown opened = output_from script journal shown (machine_over opened)
 
 -- with all its rounds, so that it has this status, and of its output that much was given
-pub record IsWhole {D : Type 0} (told : Type 0) (state : D → DiskState) (own size : D → ℕ) (seed : ℕ) (script : Script) (shown : Bool) (Has : Status → Type 0) (Gave : List ℕ → Type 0) (journal : List Entry) (trace : List Step) (disk after : D) : Type 0 where
+pub record IsWhole {D : Type 0} (told : Type 0) (state : D → DiskState) (own size : D → ℕ) (seed : ℕ) (script : Script) (shown : Shown) (Has : Status → Type 0) (Gave : List ℕ → Type 0) (journal : List Entry) (trace : List Step) (disk after : D) : Type 0 where
   pub node : CellValue D
   pub ending : Ending
   pub ran : HasRun told state own size seed script disk node ending

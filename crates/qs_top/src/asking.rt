@@ -1,18 +1,19 @@
 //! What the words ask for.
 ghost use Rattle.std.specs.Prelude.{◌≡◌};
 ghost use Rattle.qs_text_script.specs.Words.{form_of};
-ghost use Rattle.qs_top.specs.Asking.{asked_in, asked_by, serial_run};
+ghost use Rattle.qs_top.specs.Asking.{asked_in, asked_by, serial_run, shown_with};
 
-use qs_text::{Form, read_words};
+use qs_gen::NODE_COUNT as LOAD_NODES;
+use qs_text::{Form, Shown, read_words};
 use qs_world_rounds::NODE_COUNT;
 
 /// What the words ask for, as far as it is carried out at this stage.
 #[derive(Clone, Copy)]
 pub enum Asked {
     /// A run of one node in one thread.
-    Serial { seed: u64, journal: bool },
-    /// A run of more than one node, and of at most eight, in one thread.
-    SerialNodes { nodes: u8, seed: u64, journal: bool },
+    Serial { seed: u64, shown: Shown },
+    /// A run of more than one node, and of at most eight, in one thread; or a load, of which its line is shown.
+    SerialNodes { nodes: u8, seed: u64, shown: Shown },
     /// A history is to be judged.
     Check,
 }
@@ -27,7 +28,8 @@ pub fn asked_by(words: &[String]) -> Option<Asked>
     }
 }
 
-/// What a form asks for: of runs those with a seed.
+/// What a form asks for: of runs those with a seed. A load is a run of the nodes that its script is for, in an order that is drawn from
+/// the seed of the script.
 fn asked_in(form: Form) -> Option<Asked>
     ensures { result ≡ asked_in form }
 {
@@ -36,21 +38,33 @@ fn asked_in(form: Form) -> Option<Asked>
             nodes,
             serial: Some(seed),
             journal,
-        } => serial_run(nodes, seed, journal),
+        } => serial_run(nodes, seed, shown_with(journal)),
         Form::Run { .. } => None,
         Form::Check => Some(Asked::Check),
+        Form::Load { seed } => Some(Asked::SerialNodes {
+            nodes: LOAD_NODES,
+            seed,
+            shown: Shown::Load { seed },
+        }),
     }
 }
 
-fn serial_run(nodes: u8, seed: u64, journal: bool) -> Option<Asked>
-    ensures { result ≡ serial_run nodes seed journal }
+/// The output, with the history or without.
+fn shown_with(journal: bool) -> Shown
+    ensures { result ≡ shown_with journal }
+{
+    if journal { Shown::Journal } else { Shown::Output }
+}
+
+fn serial_run(nodes: u8, seed: u64, shown: Shown) -> Option<Asked>
+    ensures { result ≡ serial_run nodes seed shown }
 {
     match nodes {
-        NODE_COUNT => Some(Asked::Serial { seed, journal }),
+        NODE_COUNT => Some(Asked::Serial { seed, shown }),
         2..=8 => Some(Asked::SerialNodes {
             nodes,
             seed,
-            journal,
+            shown,
         }),
         _ => None,
     }

@@ -13,7 +13,7 @@ use qs_book::Opened;
 use qs_book_journal::{Entry, merge};
 use qs_disk::Disk;
 use qs_node_step::Step;
-use qs_text::{Script, Status};
+use qs_text::{Script, Shown, Status};
 use qs_world_nodes::merge_steps;
 use qs_world_serial::{SerialRun, SiteTold, run_serial};
 use std::alloc::Global;
@@ -37,15 +37,15 @@ struct Apart {
     traces: List<List<Step>>,
 }
 
-/// Runs a script on so many nodes over the logs of the first disks, in the order that the seed draws; the history is to be shown or not. Each
-/// disk is in its place again.
+/// Runs a script on so many nodes over the logs of the first disks, in the order that the seed draws; this is to be shown of it. Each disk
+/// is in its place again.
 pub fn run_over_nodes<D: Disk>(
     alloc: Global,
     disks: &mut Vec<D>,
     nodes: u8,
     script: &Script,
     seed: u64,
-    shown: bool,
+    shown: Shown,
 ) -> RunMade
     requires some { 1 ≤ nodes }
     requires few { nodes ≤ 8 }
@@ -70,7 +70,7 @@ fn look_at<D: Disk>(disks: &[D])
 }
 
 /// What came of a run.
-fn made_of_run(alloc: Global, script: &Script, shown: bool, ran: SerialRun) -> RunMade
+fn made_of_run(alloc: Global, script: &Script, shown: Shown, ran: SerialRun) -> RunMade
     ensures { IsMadeOfRun script.now shown ran result }
 {
     match ran {

@@ -1,9 +1,10 @@
 //! The top call.
-ghost use Rattle.std.specs.Prelude.{◌≡◌, ◌≢◌, ◌↔◌, ◌≤◌, ◌⊎◌, ◌^◌, ⊤, ℕ, Bool, List, [], Ok, Err, None, Some, length, IfOk, IfErr};
+ghost use Rattle.std.specs.Prelude.{◌≡◌, ◌≢◌, ◌↔◌, ◌≤◌, ◌⊎◌, ◌^◌, ⊤, ℕ, List, [], Ok, Err, None, Some, length, IfOk, IfErr};
 ghost use Rattle.std.specs.Io.KnownBytes.{Appends};
 ghost use Rattle.qs_base.specs.Causes.{Rose};
 ghost use Rattle.qs_base.specs.declared.identifiers.NodeNo.{NodeNo};
 ghost use Rattle.qs_log.specs.Image.{IsDamaged};
+ghost use Rattle.qs_gen.specs.Load.{load_script};
 ghost use Rattle.qs_io.specs.Streams.{TakesAtMost, GivesPart};
 ghost use Rattle.qs_text_history.specs.Journal.{IsFault};
 ghost use Rattle.qs_world_rounds.specs.Seats.{node_count};
@@ -13,12 +14,12 @@ ghost use Rattle.qs_text_script.specs.declared.reading.ScriptFailed.TheVariants.
 ghost use Rattle.qs_book_script.specs.declared.status.ScriptFault.{ScriptFault};
 ghost use Rattle.qs_top.specs.Asking.{asked_by, nodes_of, IsOfMany};
 ghost use Rattle.qs_top.specs.Disks.{OfFirst, OfThese, AtNode, IsOnlyTouched, Leaves, StaysCoherent, StaysRoomy, AreOthers};
-ghost use Rattle.qs_top.specs.Inner.Giving.{IsGiven, IsGivenOf, IsNoScript};
+ghost use Rattle.qs_top.specs.Inner.Giving.{IsGiven, IsGivenOf, IsNoScript, IsTextFault};
 ghost use Rattle.qs_top.specs.Inner.Over.{IsOver};
 ghost use Rattle.qs_top.specs.Nodes.{HasLawfulOf, IsNotBegunOf, IsRefusedOf, IsShortOf, IsWholeOf, LeaveAll};
 ghost use Rattle.qs_top.specs.Run.{IsNothing, IsNotBegun, IsWhole, IsShort, IsRefused, RanOutOfMemory};
 ghost use Rattle.qs_top.specs.Statuses.{IfNot, IsEnd, IsPastScript, IsOfRun, Gives, Tells};
-ghost use Rattle.qs_top.specs.Texts.{ReadWhole, OfScript, OfScriptOf};
+ghost use Rattle.qs_top.specs.Texts.{HasText, ReadWhole, OfScript, OfScriptOf};
 ghost use Rattle.qs_top.specs.Untold.{AreOnlyTouched, RanOutOfMemoryOf, StayCoherentOf};
 ghost use Rattle.qs_top.specs.Verdict.{IsUnlawfulText, IsVerdict, IsOfCheck};
 
@@ -30,8 +31,9 @@ use crate::whole::{RunMade, run_over};
 use core::mem;
 use qs_base::{Bytes, List};
 use qs_disk::Disk;
+use qs_gen::load_script;
 use qs_io::{ReadFault, Sink, Source, give_all, read_text};
-use qs_text::{Script, ScriptFailed, Status, read_script};
+use qs_text::{Script, ScriptFailed, Shown, Status, read_script};
 use qs_world_left::{
     disks_are_read, refused_runs_leave_standing_disks, runs_follow_runs, runs_leave_standing_disks,
     touched_disks_stay_coherent,
@@ -72,10 +74,53 @@ fn script_from<S: Source>(alloc: Global, source: &mut S, nodes: u8) -> Result<Sc
         Err(ReadFault::Failed) => return Err(Status::ReadFault),
         Err(ReadFault::NoMemory) => return Err(Status::NoMemory),
     };
-    match read_script(alloc, text.as_slice(), nodes) {
+    script_in(alloc, text.as_slice(), nodes)
+}
+
+/// The script of a run of so many nodes that a text is; else the status of a run without one.
+fn script_in(alloc: Global, text: &[u8], nodes: u8) -> Result<Script, Status>
+    ensures read { IfOk result (λ script. script_of nodes text.now ≡ Ok script) }
+    ensures fault { (line : ℕ) (fault : ScriptFault) → result ≡ Err (Status.Script line fault) → script_of nodes text.now ≡ Err (Fault line fault) }
+    ensures none { IfErr result IsTextFault }
+{
+    match read_script(alloc, text, nodes) {
         Ok(script) => Ok(script),
         Err(ScriptFailed::Fault { line, fault }) => Err(Status::Script { line, fault }),
         Err(ScriptFailed::NoMemory) => Err(Status::NoMemory),
+    }
+}
+
+/// The load script of a seed, as one of a run of so many nodes; else the status of a run without one.
+fn script_of_load(alloc: Global, seed: u64, nodes: u8) -> Result<Script, Status>
+    ensures read { IfOk result (λ script. script_of nodes (load_script seed) ≡ Ok script) }
+    ensures fault { (line : ℕ) (fault : ScriptFault) → result ≡ Err (Status.Script line fault) → script_of nodes (load_script seed) ≡ Err (Fault line fault) }
+    ensures none { IfErr result IsTextFault }
+{
+    let Ok(text) = load_script(alloc, seed) else {
+        return Err(Status::NoMemory);
+    };
+    script_in(alloc, text.as_slice(), nodes)
+}
+
+/// The script of a run of so many nodes of which this is shown: a load's is made from its seed, and any other is what the source
+/// holds; else the status of a run without one.
+fn script_for<S: Source>(
+    alloc: Global,
+    source: &mut S,
+    nodes: u8,
+    shown: Shown,
+) -> Result<Script, Status>
+    ensures read { IfOk result (λ script. HasText shown (S.left source.old) (S.left source.new) (λ text. script_of nodes text ≡ Ok script)) }
+    ensures fault { (line : ℕ) (fault : ScriptFault) → result ≡ Err (Status.Script line fault)
+        → HasText shown (S.left source.old) (S.left source.new) (λ text. script_of nodes text ≡ Err (Fault line fault)) }
+    ensures rose { result ≡ Err Status.ReadFault → Rose (S.faults source.old) (S.faults source.new) }
+    ensures none { IfErr result IsNoScript }
+    ensures bound { TakesAtMost 1048577 (S.left source.old) (S.left source.new) }
+    ensures untaken { (seed : ℕ) → shown ≡ Shown.Load seed → S.left source.new ≡ S.left source.old }
+{
+    match shown {
+        Shown::Load { seed } => script_of_load(alloc, seed, nodes),
+        Shown::Output | Shown::Journal => script_from(alloc, source, nodes),
     }
 }
 
@@ -85,7 +130,7 @@ fn run_first<D: Disk>(
     disks: &mut Vec<D>,
     script: &Script,
     seed: u64,
-    shown: bool,
+    shown: Shown,
 ) -> RunMade
     requires disks { 8 ≤ length disks.old.items }
     ensures over { OfFirst (λ disk after. IsOver D.told D.state D.fault_count D.byte_count seed script.now shown result disk after) disks.old.items disks.new.items }
@@ -99,7 +144,7 @@ fn over_place<D: Disk>(
     place: &mut D,
     script: &Script,
     seed: u64,
-    shown: bool,
+    shown: Shown,
 ) -> RunMade
     ensures over { IsOver D.told D.state D.fault_count D.byte_count seed script.now shown result place.old place.new }
 {
@@ -148,7 +193,7 @@ fn give<K: Sink>(sink: &mut K, made: RunMade) -> Run
 fn run_source<S: Source, K: Sink, D: Disk>(
     alloc: Global,
     seed: u64,
-    shown: bool,
+    shown: Shown,
     source: &mut S,
     sink: &mut K,
     disks: &mut Vec<D>,
@@ -203,13 +248,13 @@ fn run_source<S: Source, K: Sink, D: Disk>(
     give(sink, made)
 }
 
-/// Reads a script from the source, runs it on so many nodes over the logs of the first disks, and gives the output to the
-/// sink.
+/// Runs a script, that of a load or one that is read from the source, on so many nodes over the logs of the first disks, and gives what is to
+/// be shown of it to the sink.
 fn run_nodes<S: Source, K: Sink, D: Disk>(
     alloc: Global,
     nodes: u8,
     seed: u64,
-    shown: bool,
+    shown: Shown,
     source: &mut S,
     sink: &mut K,
     disks: &mut Vec<D>,
@@ -226,38 +271,39 @@ fn run_nodes<S: Source, K: Sink, D: Disk>(
     ensures damaged { (node : NodeNo) (at : ℕ) → result.status ≡ Status.Damaged node at
         → AtNode nodes node (λ disk after. D.told → IsDamaged (2 ^ 61) (D.state disk).content at) disks.old.items disks.new.items }
     ensures script { (line : ℕ) (fault : ScriptFault) → result.status ≡ Status.Script line fault
-        → ReadWhole 1048576 (S.left source.old) (S.left source.new) (λ text. script_of nodes text ≡ Err (Fault line fault)) }
+        → HasText shown (S.left source.old) (S.left source.new) (λ text. script_of nodes text ≡ Err (Fault line fault)) }
     ensures past_script { IsPastScript result.status
-        → ReadWhole 1048576 (S.left source.old) (S.left source.new) (OfScriptOf nodes (λ script. ⊤)) }
+        → HasText shown (S.left source.old) (S.left source.new) (OfScriptOf nodes (λ script. ⊤)) }
     ensures ended { IsEnd result.status
-        → ReadWhole 1048576 (S.left source.old) (S.left source.new) (OfScriptOf nodes (λ script. OfThese nodes
+        → HasText shown (S.left source.old) (S.left source.new) (OfScriptOf nodes (λ script. OfThese nodes
         (IsWholeOf D.told D.state D.fault_count D.byte_count seed nodes script shown (λ status. result.status ≡ status) (Appends (K.given sink.old) (K.given sink.new)) result.journal result.trace)
         disks.old.items disks.new.items)) }
     ensures cut_off { result.status ≡ Status.WriteFault
-        → ReadWhole 1048576 (S.left source.old) (S.left source.new) (OfScriptOf nodes (λ script. OfThese nodes
+        → HasText shown (S.left source.old) (S.left source.new) (OfScriptOf nodes (λ script. OfThese nodes
         (IsWholeOf D.told D.state D.fault_count D.byte_count seed nodes script shown IsEnd (GivesPart (K.given sink.old) (K.given sink.new)) result.journal result.trace)
         disks.old.items disks.new.items)) }
     ensures cut_short { (node : NodeNo) → result.status ≡ Status.DiskFault node
-        → ReadWhole 1048576 (S.left source.old) (S.left source.new) (OfScriptOf nodes (λ script. OfThese nodes
+        → HasText shown (S.left source.old) (S.left source.new) (OfScriptOf nodes (λ script. OfThese nodes
         (λ firsts afters. IsNotBegunOf D.told D.state D.fault_count D.byte_count node result.journal result.trace firsts afters
         ⊎ IsShortOf D.told D.state D.fault_count D.byte_count seed nodes script node result.journal result.trace firsts afters)
         disks.old.items disks.new.items)) }
     ensures refused { (line clause : ℕ) → result.status ≡ Status.Unlawful line clause
-        → ReadWhole 1048576 (S.left source.old) (S.left source.new) (OfScriptOf nodes (λ script. OfThese nodes
+        → HasText shown (S.left source.old) (S.left source.new) (OfScriptOf nodes (λ script. OfThese nodes
         (IsRefusedOf D.told D.state D.fault_count D.byte_count seed nodes script line clause) disks.old.items disks.new.items)) }
     ensures out_of_memory { result.status ≡ Status.NoMemory
         → OfThese nodes (AreOnlyTouched D.told D.state) disks.old.items disks.new.items
-        ⊎ ReadWhole 1048576 (S.left source.old) (S.left source.new) (OfScriptOf nodes (λ script. OfThese nodes
+        ⊎ HasText shown (S.left source.old) (S.left source.new) (OfScriptOf nodes (λ script. OfThese nodes
         (RanOutOfMemoryOf D.told D.state D.fault_count D.byte_count seed script) disks.old.items disks.new.items)) }
     ensures silent { IfNot (Gives result.status) (K.given sink.new ≡ K.given sink.old) }
     ensures empty { IfNot (Tells result.status) (IsNothing result.journal result.trace) }
     ensures bound { TakesAtMost 1048577 (S.left source.old) (S.left source.new) }
+    ensures untaken { (seed : ℕ) → shown ≡ Shown.Load seed → S.left source.new ≡ S.left source.old }
     ensures built { IsOfRun result.status }
     ensures others { AreOthers nodes disks.old.items disks.new.items }
     ensures left { OfThese nodes (LeaveAll D.told D.state nodes result.status) disks.old.items disks.new.items }
     ensures coherent { OfThese nodes (StayCoherentOf D.told D.state D.fault_count D.byte_count seed) disks.old.items disks.new.items }
 {
-    let script = match script_from(alloc, source, nodes) {
+    let script = match script_for(alloc, source, nodes, shown) {
         Ok(script) => script,
         Err(status) => return ended(alloc, status),
     };
@@ -277,7 +323,7 @@ fn run_nodes<S: Source, K: Sink, D: Disk>(
 }
 
 /// What the words ask for. They are those after the program's name: `run N --serial SEED`, N from 1 to 8, with `--journal` or
-/// without, in any order behind `run`, or `check`. A form that is not carried out yet is `Usage`.
+/// without, in any order behind `run`; `check`; or `load SEED`. A form that is not carried out yet is `Usage`.
 ///
 /// `run` reads a script from the source, opens the logs of the first N disks in order and raises their incarnations, and runs
 /// the script on N nodes over them, in rounds whose orders are drawn from the seed. It judges its own journal, and gives the
@@ -290,6 +336,9 @@ fn run_nodes<S: Source, K: Sink, D: Disk>(
 /// is told. `Unfinished` comes only after a quiet round or with all rounds spent, and tells who waits by the journal. `Unlawful`
 /// comes only where the run's own journal does not conform to the script: the line is that of the entry in the history, and the
 /// clause 0 for a rule of the script.
+///
+/// `load` runs the load script of the seed on four nodes, as `run 4 --serial SEED` would, and gives one line in place of the output: how
+/// many commands it has, how many of its transactions committed and aborted, and the digest of that output. Nothing is taken of the source.
 ///
 /// `check` reads a history from the source and judges it: where it is lawful, `lawful E` and a line feed go to the sink, E the
 /// number of its entries, and else nothing. At most 67,108,865 bytes are taken of the source. No disk is opened, and the journal
@@ -318,21 +367,21 @@ pub fn run<R: Threads + Sync, S: Source, K: Sink, D: Disk>(
         → AtNode (nodes_of (asked_by (form_of words.now))) node (λ disk after. D.told → IsDamaged (2 ^ 61) (D.state disk).content at) disks.old.items disks.new.items }
 
     // Of a run of one node. A script fault is the first of the text, and a disk is opened for a script alone.
-    ensures script { (seed : ℕ) (shown : Bool) → asked_by (form_of words.now) ≡ Some (Asked.Serial seed shown)
+    ensures script { (seed : ℕ) (shown : Shown) → asked_by (form_of words.now) ≡ Some (Asked.Serial seed shown)
         → (line : ℕ) (fault : ScriptFault) → result.status ≡ Status.Script line fault
         → ReadWhole 1048576 (S.left source.old) (S.left source.new) (λ text. script_of node_count text ≡ Err (Fault line fault)) }
-    ensures past_script { (seed : ℕ) (shown : Bool) → asked_by (form_of words.now) ≡ Some (Asked.Serial seed shown) → IsPastScript result.status
+    ensures past_script { (seed : ℕ) (shown : Shown) → asked_by (form_of words.now) ≡ Some (Asked.Serial seed shown) → IsPastScript result.status
         → ReadWhole 1048576 (S.left source.old) (S.left source.new) (OfScript (λ script. ⊤)) }
 
     // A run that ended made its rounds, the journal is its node's and conforms to the script, the first disk is the one that
     // the node leaves, the status is that of the journal and of how the rounds ended, and the output was given whole; at a write
     // fault a part of it was. Where the log was coherent, whatever a power cut leaves of the disk stands for the machine: a restart
     // over it is lawful, and takes up what the machine has, committed and pending.
-    ensures ended { (seed : ℕ) (shown : Bool) → asked_by (form_of words.now) ≡ Some (Asked.Serial seed shown) → IsEnd result.status
+    ensures ended { (seed : ℕ) (shown : Shown) → asked_by (form_of words.now) ≡ Some (Asked.Serial seed shown) → IsEnd result.status
         → ReadWhole 1048576 (S.left source.old) (S.left source.new) (OfScript (λ script. OfFirst
         (IsWhole D.told D.state D.fault_count D.byte_count seed script shown (λ status. result.status ≡ status) (Appends (K.given sink.old) (K.given sink.new)) result.journal result.trace)
         disks.old.items disks.new.items)) }
-    ensures cut_off { (seed : ℕ) (shown : Bool) → asked_by (form_of words.now) ≡ Some (Asked.Serial seed shown) → result.status ≡ Status.WriteFault
+    ensures cut_off { (seed : ℕ) (shown : Shown) → asked_by (form_of words.now) ≡ Some (Asked.Serial seed shown) → result.status ≡ Status.WriteFault
         → ReadWhole 1048576 (S.left source.old) (S.left source.new) (OfScript (λ script. OfFirst
         (IsWhole D.told D.state D.fault_count D.byte_count seed script shown IsEnd (GivesPart (K.given sink.old) (K.given sink.new)) result.journal result.trace)
         disks.old.items disks.new.items)) }
@@ -341,12 +390,12 @@ pub fn run<R: Threads + Sync, S: Source, K: Sink, D: Disk>(
     // the one that the node leaves; where it failed as the log was opened nothing is told, and a power cut may still leave the
     // log with its incarnation not raised, which it is in each image once a node began. Where the judge refuses what a node made, the line and the clause are told; where the log was
     // coherent each entry is lawful, it is for a rule of the script, and what is left on the disk stands for the machine too.
-    ensures cut_short { (seed : ℕ) (shown : Bool) → asked_by (form_of words.now) ≡ Some (Asked.Serial seed shown)
+    ensures cut_short { (seed : ℕ) (shown : Shown) → asked_by (form_of words.now) ≡ Some (Asked.Serial seed shown)
         → (node : NodeNo) → result.status ≡ Status.DiskFault node
         → OfFirst (IsNotBegun D.told D.state result.journal result.trace) disks.old.items disks.new.items
         ⊎ ReadWhole 1048576 (S.left source.old) (S.left source.new) (OfScript (λ script. OfFirst
         (IsShort D.told D.state D.fault_count D.byte_count seed script result.journal result.trace) disks.old.items disks.new.items)) }
-    ensures refused { (seed : ℕ) (shown : Bool) → asked_by (form_of words.now) ≡ Some (Asked.Serial seed shown)
+    ensures refused { (seed : ℕ) (shown : Shown) → asked_by (form_of words.now) ≡ Some (Asked.Serial seed shown)
         → (line clause : ℕ) → result.status ≡ Status.Unlawful line clause
         → ReadWhole 1048576 (S.left source.old) (S.left source.new) (OfScript (λ script. OfFirst
         (IsRefused D.told D.state D.fault_count D.byte_count seed script line clause) disks.old.items disks.new.items)) }
@@ -354,7 +403,7 @@ pub fn run<R: Threads + Sync, S: Source, K: Sink, D: Disk>(
     // Where memory was refused the node did not begin, and the disk was changed at most by the raise; or it began, and memory was
     // refused in its rounds, or behind them as what it made was judged or told. A restart within a run never finds its log
     // damaged, over a disk that tells: each was answered, but for the last one where its disk failed or memory was refused in it.
-    ensures out_of_memory { (seed : ℕ) (shown : Bool) → asked_by (form_of words.now) ≡ Some (Asked.Serial seed shown) → result.status ≡ Status.NoMemory
+    ensures out_of_memory { (seed : ℕ) (shown : Shown) → asked_by (form_of words.now) ≡ Some (Asked.Serial seed shown) → result.status ≡ Status.NoMemory
         → OfFirst (IsOnlyTouched D.told D.state) disks.old.items disks.new.items
         ⊎ ReadWhole 1048576 (S.left source.old) (S.left source.new) (OfScript (λ script. OfFirst
         (RanOutOfMemory D.told D.state D.fault_count D.byte_count seed script) disks.old.items disks.new.items)) }
@@ -363,8 +412,9 @@ pub fn run<R: Threads + Sync, S: Source, K: Sink, D: Disk>(
     ensures silent { IfNot (Gives result.status) (K.given sink.new ≡ K.given sink.old) }
     ensures empty { IfNot (Tells result.status) (IsNothing result.journal result.trace) }
 
-    // What was taken of the source: nothing on Usage, and never more than the limit and one byte.
+    // What was taken of the source: nothing on Usage and by a load, and never more than the limit and one byte.
     ensures unread { result.status ≡ Status.Usage → S.left source.new ≡ S.left source.old }
+    ensures unread_load { (nodes seed at : ℕ) → asked_by (form_of words.now) ≡ Some (Asked.SerialNodes nodes seed (Shown.Load at)) → S.left source.new ≡ S.left source.old }
     ensures bound { asked_by (form_of words.now) ≢ Some Asked.Check → TakesAtMost 1048577 (S.left source.old) (S.left source.new) }
     ensures built { asked_by (form_of words.now) ≢ Some Asked.Check → IsOfRun result.status }
 
@@ -379,41 +429,42 @@ pub fn run<R: Threads + Sync, S: Source, K: Sink, D: Disk>(
     ensures coherent { IfNot (IsOfMany (asked_by (form_of words.now))) (OfFirst (StaysCoherent D.told D.state) disks.old.items disks.new.items) }
     ensures roomy { IfNot (IsOfMany (asked_by (form_of words.now))) (OfFirst (StaysRoomy D.told D.state D.byte_count) disks.old.items disks.new.items) }
 
-    // Of a run of many nodes, the like: of their scripts, of the rounds that they made over the links between them, of what they
-    // tell, merged by stamp and node, and of what each leaves on its disk, with room again where it had room.
-    ensures nodes_script { (nodes seed : ℕ) (shown : Bool) → asked_by (form_of words.now) ≡ Some (Asked.SerialNodes nodes seed shown)
+    // Of a run of many nodes, and of a load, the like: of their scripts, of the rounds that they made over the links between them, of
+    // what they tell, merged by stamp and node, and of what each leaves on its disk, with room again where it had room. The script of a load
+    // is made from its seed, and nothing is taken of the source; what is given of it is its line.
+    ensures nodes_script { (nodes seed : ℕ) (shown : Shown) → asked_by (form_of words.now) ≡ Some (Asked.SerialNodes nodes seed shown)
         → (line : ℕ) (fault : ScriptFault) → result.status ≡ Status.Script line fault
-        → ReadWhole 1048576 (S.left source.old) (S.left source.new) (λ text. script_of nodes text ≡ Err (Fault line fault)) }
-    ensures nodes_past_script { (nodes seed : ℕ) (shown : Bool) → asked_by (form_of words.now) ≡ Some (Asked.SerialNodes nodes seed shown) → IsPastScript result.status
-        → ReadWhole 1048576 (S.left source.old) (S.left source.new) (OfScriptOf nodes (λ script. ⊤)) }
-    ensures nodes_ended { (nodes seed : ℕ) (shown : Bool) → asked_by (form_of words.now) ≡ Some (Asked.SerialNodes nodes seed shown) → IsEnd result.status
-        → ReadWhole 1048576 (S.left source.old) (S.left source.new) (OfScriptOf nodes (λ script. OfThese nodes
+        → HasText shown (S.left source.old) (S.left source.new) (λ text. script_of nodes text ≡ Err (Fault line fault)) }
+    ensures nodes_past_script { (nodes seed : ℕ) (shown : Shown) → asked_by (form_of words.now) ≡ Some (Asked.SerialNodes nodes seed shown) → IsPastScript result.status
+        → HasText shown (S.left source.old) (S.left source.new) (OfScriptOf nodes (λ script. ⊤)) }
+    ensures nodes_ended { (nodes seed : ℕ) (shown : Shown) → asked_by (form_of words.now) ≡ Some (Asked.SerialNodes nodes seed shown) → IsEnd result.status
+        → HasText shown (S.left source.old) (S.left source.new) (OfScriptOf nodes (λ script. OfThese nodes
         (IsWholeOf D.told D.state D.fault_count D.byte_count seed nodes script shown (λ status. result.status ≡ status) (Appends (K.given sink.old) (K.given sink.new)) result.journal result.trace)
         disks.old.items disks.new.items)) }
-    ensures nodes_cut_off { (nodes seed : ℕ) (shown : Bool) → asked_by (form_of words.now) ≡ Some (Asked.SerialNodes nodes seed shown) → result.status ≡ Status.WriteFault
-        → ReadWhole 1048576 (S.left source.old) (S.left source.new) (OfScriptOf nodes (λ script. OfThese nodes
+    ensures nodes_cut_off { (nodes seed : ℕ) (shown : Shown) → asked_by (form_of words.now) ≡ Some (Asked.SerialNodes nodes seed shown) → result.status ≡ Status.WriteFault
+        → HasText shown (S.left source.old) (S.left source.new) (OfScriptOf nodes (λ script. OfThese nodes
         (IsWholeOf D.told D.state D.fault_count D.byte_count seed nodes script shown IsEnd (GivesPart (K.given sink.old) (K.given sink.new)) result.journal result.trace)
         disks.old.items disks.new.items)) }
-    ensures nodes_cut_short { (nodes seed : ℕ) (shown : Bool) → asked_by (form_of words.now) ≡ Some (Asked.SerialNodes nodes seed shown)
+    ensures nodes_cut_short { (nodes seed : ℕ) (shown : Shown) → asked_by (form_of words.now) ≡ Some (Asked.SerialNodes nodes seed shown)
         → (node : NodeNo) → result.status ≡ Status.DiskFault node
-        → ReadWhole 1048576 (S.left source.old) (S.left source.new) (OfScriptOf nodes (λ script. OfThese nodes
+        → HasText shown (S.left source.old) (S.left source.new) (OfScriptOf nodes (λ script. OfThese nodes
         (λ firsts afters. IsNotBegunOf D.told D.state D.fault_count D.byte_count node result.journal result.trace firsts afters
         ⊎ IsShortOf D.told D.state D.fault_count D.byte_count seed nodes script node result.journal result.trace firsts afters)
         disks.old.items disks.new.items)) }
-    ensures nodes_refused { (nodes seed : ℕ) (shown : Bool) → asked_by (form_of words.now) ≡ Some (Asked.SerialNodes nodes seed shown)
+    ensures nodes_refused { (nodes seed : ℕ) (shown : Shown) → asked_by (form_of words.now) ≡ Some (Asked.SerialNodes nodes seed shown)
         → (line clause : ℕ) → result.status ≡ Status.Unlawful line clause
-        → ReadWhole 1048576 (S.left source.old) (S.left source.new) (OfScriptOf nodes (λ script. OfThese nodes
+        → HasText shown (S.left source.old) (S.left source.new) (OfScriptOf nodes (λ script. OfThese nodes
         (IsRefusedOf D.told D.state D.fault_count D.byte_count seed nodes script line clause) disks.old.items disks.new.items)) }
-    ensures nodes_out_of_memory { (nodes seed : ℕ) (shown : Bool) → asked_by (form_of words.now) ≡ Some (Asked.SerialNodes nodes seed shown) → result.status ≡ Status.NoMemory
+    ensures nodes_out_of_memory { (nodes seed : ℕ) (shown : Shown) → asked_by (form_of words.now) ≡ Some (Asked.SerialNodes nodes seed shown) → result.status ≡ Status.NoMemory
         → OfThese nodes (AreOnlyTouched D.told D.state) disks.old.items disks.new.items
-        ⊎ ReadWhole 1048576 (S.left source.old) (S.left source.new) (OfScriptOf nodes (λ script. OfThese nodes
+        ⊎ HasText shown (S.left source.old) (S.left source.new) (OfScriptOf nodes (λ script. OfThese nodes
         (RanOutOfMemoryOf D.told D.state D.fault_count D.byte_count seed script) disks.old.items disks.new.items)) }
-    ensures nodes_left { (nodes seed : ℕ) (shown : Bool) → asked_by (form_of words.now) ≡ Some (Asked.SerialNodes nodes seed shown)
+    ensures nodes_left { (nodes seed : ℕ) (shown : Shown) → asked_by (form_of words.now) ≡ Some (Asked.SerialNodes nodes seed shown)
         → OfThese nodes (LeaveAll D.told D.state nodes result.status) disks.old.items disks.new.items }
 
     // And runs follow one another, whatever the status: where the logs were coherent they are so again, as long as fewer than 2^63 packets
     // were put to each link.
-    ensures nodes_coherent { (nodes seed : ℕ) (shown : Bool) → asked_by (form_of words.now) ≡ Some (Asked.SerialNodes nodes seed shown)
+    ensures nodes_coherent { (nodes seed : ℕ) (shown : Shown) → asked_by (form_of words.now) ≡ Some (Asked.SerialNodes nodes seed shown)
         → OfThese nodes (StayCoherentOf D.told D.state D.fault_count D.byte_count seed) disks.old.items disks.new.items }
 
     // Of a check: the text that was read is a history, and the verdict on it is what was given; no disk is opened.
@@ -433,16 +484,14 @@ pub fn run<R: Threads + Sync, S: Source, K: Sink, D: Disk>(
     ensures check_disks { asked_by (form_of words.now) ≡ Some Asked.Check → disks.new.items ≡ disks.old.items }
 {
     match asked_by(words) {
-        Some(Asked::Serial { seed, journal }) => {
-            run_source(alloc, seed, journal, source, sink, disks)
-        }
+        Some(Asked::Serial { seed, shown }) => run_source(alloc, seed, shown, source, sink, disks),
         Some(
             Asked::SerialNodes {
                 nodes,
                 seed,
-                journal,
+                shown,
             },
-        ) => run_nodes(alloc, nodes, seed, journal, source, sink, disks),
+        ) => run_nodes(alloc, nodes, seed, shown, source, sink, disks),
         Some(Asked::Check) => ended(alloc, check_source(alloc, source, sink)),
         None => ended(alloc, Status::Usage),
     }

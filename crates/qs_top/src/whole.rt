@@ -12,7 +12,7 @@ use qs_cell::CellOpen;
 use qs_disk::{Disk, Fused};
 use qs_log::OpenFault;
 use qs_node_step::Step;
-use qs_text::{Script, Status};
+use qs_text::{Script, Shown, Status};
 use qs_world_one::{refused_runs_leave_coherent_logs, runs_end_lawful};
 use qs_world_opening::logs_stay_coherent;
 use qs_world_rounds::{Ending, NODE, RoundFault, rounds_of, start};
@@ -41,14 +41,14 @@ pub(crate) fn nothing_made(alloc: Global, status: Status) -> RunMade
     }
 }
 
-/// Runs a script on one node over the log of its disk, in the order that the seed draws; the history is to be shown or not.
-/// The disk is handed back.
+/// Runs a script on one node over the log of its disk, in the order that the seed draws; this is to be shown of it. The disk
+/// is handed back.
 pub fn run_over<D: Disk>(
     alloc: Global,
     disk: D,
     script: &Script,
     seed: u64,
-    shown: bool,
+    shown: Shown,
 ) -> (D, RunMade)
     ensures over { IsOver D.told D.state D.fault_count D.byte_count seed script.now shown result.1 disk result.0 }
 {
@@ -91,7 +91,7 @@ pub(crate) fn not_opened(node: NodeNo, why: OpenFault) -> Status
 fn made_of(
     alloc: Global,
     script: &Script,
-    shown: bool,
+    shown: Shown,
     ending: Result<Ending, RoundFault>,
     opened: Result<Opened, NoMemory>,
     journal: List<Entry>,
@@ -109,7 +109,7 @@ fn made_of(
 pub(crate) fn made_from(
     alloc: Global,
     script: &Script,
-    shown: bool,
+    shown: Shown,
     ending: Result<Ending, RoundFault>,
     opened: &[Opened],
     journal: List<Entry>,
@@ -132,7 +132,7 @@ pub(crate) fn made_from(
 fn ended(
     alloc: Global,
     script: &Script,
-    shown: bool,
+    shown: Shown,
     ending: Ending,
     opened: &[Opened],
     journal: List<Entry>,

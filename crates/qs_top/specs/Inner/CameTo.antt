@@ -1,5 +1,5 @@
 -- The ends that a run over the disks of many nodes may come to, and what was made at each.
-use Rattle.std.specs.Prelude.{◌⊎◌, ⊤, ℕ, Bool, List, Result, Ok, Err}
+use Rattle.std.specs.Prelude.{◌⊎◌, ⊤, ℕ, List, Result, Ok, Err}
 use Rattle.qs_base.specs.declared.identifiers.NodeNo.{NodeNo}
 use Rattle.qs_base.specs.declared.memory.NoMemory.{NoMemory}
 use Rattle.qs_book_journal.specs.declared.entry.Entry.{Entry}
@@ -16,9 +16,10 @@ use Rattle.qs_world_rounds.specs.declared.faults.RoundFault.TheVariants as fault
 use Rattle.qs_world_rounds.specs.declared.rounds.Ending.{Ending}
 use Rattle.qs_world_serial.specs.Serial.{EachBeside, HasRun, IsNotOpened, IsTouchedDisk}
 use Rattle.qs_world_serial.specs.declared.serial.SiteTold.{SiteTold}
+use Rattle.qs_text.specs.declared.given.Shown.{Shown}
 
 -- all its rounds were made, and it is told
-pub record CameToEnd {D : Type 0} (told : Type 0) (state : D → DiskState) (own size : D → ℕ) (seed : ℕ) (script : Script) (shown : Bool) (made : RunMade) (disks afters : List D) : Type 0 where
+pub record CameToEnd {D : Type 0} (told : Type 0) (state : D → DiskState) (own size : D → ℕ) (seed : ℕ) (script : Script) (shown : Shown) (made : RunMade) (disks afters : List D) : Type 0 where
   pub ending : Ending
   pub tells : List SiteTold
   pub ran : HasRun told state own size script seed (Ok ending) (Ok tells) disks afters
@@ -73,7 +74,7 @@ pub record CameToNoMemory {D : Type 0} (told : Type 0) (state : D → DiskState)
   pub nothing : IsOutOfMemory made
   pub left : EachBeside (λ n. IsTouchedDisk told state size) disks afters ⊎ HasRunSo told state own size seed script disks afters
 
-abbrev pub CameTo : {D : Type 0} → Type 0 → (D → DiskState) → (D → ℕ) → (D → ℕ) → ℕ → Script → Bool → RunMade → List D → List D → Type 0
+abbrev pub CameTo : {D : Type 0} → Type 0 → (D → DiskState) → (D → ℕ) → (D → ℕ) → ℕ → Script → Shown → RunMade → List D → List D → Type 0
 CameTo told state own size seed script shown made disks afters =
     CameToEnd told state own size seed script shown made disks afters
     ⊎ (CameShort told state own size seed script made disks afters

@@ -8,6 +8,12 @@ use Rattle.qs_book_script.specs.declared.status.Status.TheVariants as statuses
 use Rattle.qs_top.specs.declared.outcome.Run.{Run}
 use Rattle.qs_top.specs.declared.whole.RunMade.{RunMade}
 
+-- the statuses of a run whose text is no script
+abbrev pub IsTextFault : Status → Type 0
+IsTextFault (statuses.Script line fault) = ⊤
+IsTextFault statuses.NoMemory = ⊤
+IsTextFault _ = ⊥
+
 -- the statuses of a run without a script
 abbrev pub IsNoScript : Status → Type 0
 IsNoScript (statuses.Script line fault) = ⊤

@@ -1,5 +1,5 @@
 -- How what a run made is judged, before its output is given.
-use Rattle.std.specs.Prelude.{◌≡◌, ◌⊎◌, ℕ, Bool, List, Some, None, Result, Ok, Err}
+use Rattle.std.specs.Prelude.{◌≡◌, ◌⊎◌, ℕ, List, Some, None, Result, Ok, Err}
 use Rattle.qs_base.specs.declared.identifiers.NodeNo.{NodeNo}
 use Rattle.qs_base.specs.declared.memory.NoMemory.{NoMemory}
 use Rattle.qs_book_conformance.specs.Conforming.{Conforms}
@@ -20,6 +20,7 @@ use Rattle.qs_top.specs.Ends.{status_of}
 use Rattle.qs_top.specs.Verdicts.{IsRefusal, IsRefusedAt}
 use Rattle.qs_top.specs.Run.{IsNothing, machine_over, output_from}
 use Rattle.qs_top.specs.declared.whole.RunMade.{RunMade}
+use Rattle.qs_text.specs.declared.given.Shown.{Shown}
 
 -- the status of a run whose node's log was not opened
 abbrev pub not_opened : NodeNo → OpenFault → Status
@@ -45,12 +46,12 @@ pub record IsFailed (script : Script) (book : BookValue) (journal : List Entry) 
   pub refused : (line clause : ℕ) → made.status ≡ statuses.Unlawful line clause → IsRefusedAt script book journal line clause
 
 -- the journal of a run that came to its end
-pub record IsPassedEnd (script : Script) (shown : Bool) (ending : Ending) (book : BookValue) (journal : List Entry) (trace : List Step) (made : RunMade) : Type 0 where
+pub record IsPassedEnd (script : Script) (shown : Shown) (ending : Ending) (book : BookValue) (journal : List Entry) (trace : List Step) (made : RunMade) : Type 0 where
   pub passed : IsPassed script book journal trace made
   pub status : made.status ≡ status_of ending.rounds ending.settled (waiting_of script journal)
   pub output : made.output ≡ Some (output_from script journal shown book)
 
-abbrev pub IsJudgedEnd : Script → Bool → Ending → BookValue → List Entry → List Step → RunMade → Type 0
+abbrev pub IsJudgedEnd : Script → Shown → Ending → BookValue → List Entry → List Step → RunMade → Type 0
 IsJudgedEnd script shown ending book journal trace made = IsPassedEnd script shown ending book journal trace made ⊎ IsFailed script book journal made
 
 -- the journal of a run whose node's disk failed
@@ -69,13 +70,13 @@ pub record IsOutOfMemory (made : RunMade) : Type 0 where
   pub nothing : IsNothingMade made
   pub status : made.status ≡ statuses.NoMemory
 
-abbrev pub IsMadeFrom : Script → Bool → Result Ending RoundFault → BookValue → List Entry → List Step → RunMade → Type 0
+abbrev pub IsMadeFrom : Script → Shown → Result Ending RoundFault → BookValue → List Entry → List Step → RunMade → Type 0
 IsMadeFrom script shown (Ok ending) book journal trace made = IsJudgedEnd script shown ending book journal trace made
 IsMadeFrom script shown (Err (round_faults.DiskFault node)) book journal trace made = IsJudgedShort script node book journal trace made
 IsMadeFrom script shown (Err round_faults.Damaged) book journal trace made = IsOutOfMemory made
 IsMadeFrom script shown (Err round_faults.NoMemory) book journal trace made = IsOutOfMemory made
 
 -- of the only node, where memory was had for what its log held
-abbrev pub IsMadeOf : Script → Bool → Result Ending RoundFault → Result Opened NoMemory → List Entry → List Step → RunMade → Type 0
+abbrev pub IsMadeOf : Script → Shown → Result Ending RoundFault → Result Opened NoMemory → List Entry → List Step → RunMade → Type 0
 IsMadeOf script shown ending (Ok opened) journal trace made = IsMadeFrom script shown ending (machine_over opened) journal trace made
 IsMadeOf script shown ending (Err fault) journal trace made = IsOutOfMemory made

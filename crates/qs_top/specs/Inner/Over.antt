@@ -1,5 +1,5 @@
 -- What a run over one disk comes to, before its output is given.
-use Rattle.std.specs.Prelude.{◌≡◌, ◌⊎◌, ◌<◌, ℕ, Bool, List, length, Option, Some, None}
+use Rattle.std.specs.Prelude.{◌≡◌, ◌⊎◌, ◌<◌, ℕ, List, length, Option, Some, None}
 use Rattle.qs_base.specs.declared.identifiers.NodeNo.{NodeNo}
 use Rattle.qs_disk.specs.Disk.{DiskState}
 use Rattle.qs_book_journal.specs.declared.entry.Entry.{Entry}
@@ -13,6 +13,7 @@ use Rattle.qs_top.specs.Disks.{IsHeldIn, IsFaultOver, IsDamageOver, IsOnlyTouche
 use Rattle.qs_top.specs.Run.{machine_over, IsNothing, IsNotBegun, IsWhole, IsShort, IsRefused, RanOutOfMemory}
 use Rattle.qs_top.specs.Statuses.{IfNot, IsEnd, Tells, IsOfRounds}
 use Rattle.qs_top.specs.declared.whole.RunMade.{RunMade}
+use Rattle.qs_text.specs.declared.given.Shown.{Shown}
 
 -- the entries are lawful from what the log of the disk held
 pub record HasLawfulOver {D : Type 0} (told : Type 0) (state : D → DiskState) (script : Script) (journal : List Entry) (disk : D) : Type 0 where
@@ -24,7 +25,7 @@ pub record HasLawfulOver {D : Type 0} (told : Type 0) (state : D → DiskState) 
 abbrev pub IsOutput : Option (List ℕ) → List ℕ → Type 0
 IsOutput output bytes = output ≡ Some bytes
 
-pub record IsOver {D : Type 0} (told : Type 0) (state : D → DiskState) (own size : D → ℕ) (seed : ℕ) (script : Script) (shown : Bool) (made : RunMade) (disk after : D) : Type 0 where
+pub record IsOver {D : Type 0} (told : Type 0) (state : D → DiskState) (own size : D → ℕ) (seed : ℕ) (script : Script) (shown : Shown) (made : RunMade) (disk after : D) : Type 0 where
   pub lawful : HasLawfulOver told state script made.journal disk
   pub fault : (node : NodeNo) → made.status ≡ statuses.DiskFault node → IsFaultOver own node disk after
   pub damage : (node : NodeNo) (at : ℕ) → made.status ≡ statuses.Damaged node at → IsDamageOver told state node at disk after

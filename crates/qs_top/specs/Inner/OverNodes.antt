@@ -1,5 +1,5 @@
 -- What a run over the disks of many nodes comes to, before its output is given.
-use Rattle.std.specs.Prelude.{◌≡◌, ◌⊎◌, ℕ, Bool, List, Result, Ok, Err, map}
+use Rattle.std.specs.Prelude.{◌≡◌, ◌⊎◌, ℕ, List, Result, Ok, Err, map}
 use Rattle.qs_base.specs.declared.memory.NoMemory.{NoMemory}
 use Rattle.qs_base.specs.declared.identifiers.NodeNo.{NodeNo}
 use Rattle.qs_book_journal.specs.declared.entry.Entry.{Entry}
@@ -18,6 +18,7 @@ use Rattle.qs_world_serial.specs.Serial.{IsRun}
 use Rattle.qs_world_serial.specs.declared.serial.SerialRun.{SerialRun}
 use Rattle.qs_world_serial.specs.declared.serial.SerialRun.TheVariants as runs
 use Rattle.qs_world_serial.specs.declared.serial.SiteTold.{SiteTold}
+use Rattle.qs_text.specs.declared.given.Shown.{Shown}
 
 -- what all nodes tell
 pub record IsGathered (tells : List SiteTold) (all : Gathered) : Type 0 where
@@ -30,7 +31,7 @@ IsGatheredOf (Ok tells) all = IsGathered tells all
 IsGatheredOf (Err refused) all = ⊥
 
 -- it was merged, and judged
-pub record IsMadeOfTold (script : Script) (shown : Bool) (ending : Result Ending RoundFault) (tells : List SiteTold) (made : RunMade) : Type 0 where
+pub record IsMadeOfTold (script : Script) (shown : Shown) (ending : Result Ending RoundFault) (tells : List SiteTold) (made : RunMade) : Type 0 where
   pub journal : List Entry
   pub trace : List Step
   pub merged : AreMerged tells journal trace
@@ -41,14 +42,14 @@ pub record IsUnopenedMade (node : NodeNo) (why : OpenFault) (made : RunMade) : T
   pub nothing : IsNothingMade made
   pub status : made.status ≡ not_opened node why
 
-abbrev pub IsMadeOfRun : Script → Bool → SerialRun → RunMade → Type 0
+abbrev pub IsMadeOfRun : Script → Shown → SerialRun → RunMade → Type 0
 IsMadeOfRun script shown (runs.NotOpened node why) made = IsUnopenedMade node why made
 IsMadeOfRun script shown runs.NoMemory made = IsOutOfMemory made
 IsMadeOfRun script shown (runs.Ended ending (Ok tells)) made = IsOutOfMemory made ⊎ IsMadeOfTold script shown ending tells made
 IsMadeOfRun script shown (runs.Ended ending (Err refused)) made = IsOutOfMemory made
 
 -- the run over these disks, and what was made of it
-pub record IsOverNodes {D : Type 0} (told : Type 0) (state : D → DiskState) (own size : D → ℕ) (seed : ℕ) (script : Script) (shown : Bool) (made : RunMade) (disks afters : List D) : Type 0 where
+pub record IsOverNodes {D : Type 0} (told : Type 0) (state : D → DiskState) (own size : D → ℕ) (seed : ℕ) (script : Script) (shown : Shown) (made : RunMade) (disks afters : List D) : Type 0 where
   pub ran : SerialRun
   pub is : IsRun told state own size script seed ran disks afters
   pub made_of : IsMadeOfRun script shown ran made

@@ -8,8 +8,9 @@ use Rattle.qs_top.specs.Disks.{AtNode, IsOnlyTouched, OfFirst, OfThese, Leaves, 
 use Rattle.qs_top.specs.Nodes.{IsNotBegunOf, IsRefusedOf, IsShortOf}
 use Rattle.qs_top.specs.declared.asking.Asked.TheVariants as Asked
 use Rattle.qs_top.specs.Run.{IsNotBegun, IsShort, IsRefused, RanOutOfMemory}
-use Rattle.qs_top.specs.Texts.{ReadWhole, OfScript, OfScriptOf}
+use Rattle.qs_top.specs.Texts.{HasText, ReadWhole, OfScript, OfScriptOf}
 use Rattle.qs_top.specs.Untold.{AreOnlyTouched, RanOutOfMemoryOf, StayCoherentOf}
+use Rattle.qs_text.specs.declared.given.Shown.{Shown}
 use Rattle.qs_text_script.specs.Words.{form_of}
 use Rattle.qs_top.specs.Asking.{asked_by, nodes_of}
 use Rattle.qs_top.proofs.Given.{first_alone}
@@ -68,55 +69,63 @@ returns-in-None-clause-roomy g c = λ one. first_alone (StaysRoomy g.D.Disk.told
 
 pub returns-in-Some-Serial-clause-disk_fault : goal.returns-in-Some-Serial-clause-disk_fault
 returns-in-Some-Serial-clause-disk_fault g c = λ node is.
-    let asked : asked_by (form_of c.args.words.now) ≡ Some (Asked.Serial c.in-Some-Serial.seed c.in-Some-Serial.journal) = cc (c.asked_by.ensures, c.in-Some-Serial.is, c.in-Some-Serial.field-0-is) in
+    let asked : asked_by (form_of c.args.words.now) ≡ Some (Asked.Serial c.in-Some-Serial.seed c.in-Some-Serial.shown) = cc (c.asked_by.ensures, c.in-Some-Serial.is, c.in-Some-Serial.field-0-is) in
     subst (λ (n : ℕ). AtNode n node (λ disk after. Rose (g.D.Disk.fault_count disk) (g.D.Disk.fault_count after)) c.args.disks.now.items c.run_source.new.disks.items) (sym (ap nodes_of asked)) (c.run_source.ensures.disk_fault node is)
 
 pub returns-in-Some-Serial-clause-damaged : goal.returns-in-Some-Serial-clause-damaged
 returns-in-Some-Serial-clause-damaged g c = λ node at is.
-    let asked : asked_by (form_of c.args.words.now) ≡ Some (Asked.Serial c.in-Some-Serial.seed c.in-Some-Serial.journal) = cc (c.asked_by.ensures, c.in-Some-Serial.is, c.in-Some-Serial.field-0-is) in
+    let asked : asked_by (form_of c.args.words.now) ≡ Some (Asked.Serial c.in-Some-Serial.seed c.in-Some-Serial.shown) = cc (c.asked_by.ensures, c.in-Some-Serial.is, c.in-Some-Serial.field-0-is) in
     subst (λ (n : ℕ). AtNode n node (λ disk after. g.D.Disk.told → IsDamaged (2 ^ 61) (g.D.Disk.state disk).content at) c.args.disks.now.items c.run_source.new.disks.items) (sym (ap nodes_of asked)) (c.run_source.ensures.damaged node at is)
 
 pub returns-in-Some-SerialNodes-clause-disk_fault : goal.returns-in-Some-SerialNodes-clause-disk_fault
 returns-in-Some-SerialNodes-clause-disk_fault g c = λ node is.
-    let asked : asked_by (form_of c.args.words.now) ≡ Some (Asked.SerialNodes c.in-Some-SerialNodes.nodes c.in-Some-SerialNodes.seed c.in-Some-SerialNodes.journal) = cc (c.asked_by.ensures, c.in-Some-SerialNodes.is, c.in-Some-SerialNodes.field-0-is) in
+    let asked : asked_by (form_of c.args.words.now) ≡ Some (Asked.SerialNodes c.in-Some-SerialNodes.nodes c.in-Some-SerialNodes.seed c.in-Some-SerialNodes.shown) = cc (c.asked_by.ensures, c.in-Some-SerialNodes.is, c.in-Some-SerialNodes.field-0-is) in
     subst (λ (n : ℕ). AtNode n node (λ disk after. Rose (g.D.Disk.fault_count disk) (g.D.Disk.fault_count after)) c.args.disks.now.items c.run_nodes.new.disks.items) (sym (ap nodes_of asked)) (c.run_nodes.ensures.disk_fault node is)
 
 pub returns-in-Some-SerialNodes-clause-damaged : goal.returns-in-Some-SerialNodes-clause-damaged
 returns-in-Some-SerialNodes-clause-damaged g c = λ node at is.
-    let asked : asked_by (form_of c.args.words.now) ≡ Some (Asked.SerialNodes c.in-Some-SerialNodes.nodes c.in-Some-SerialNodes.seed c.in-Some-SerialNodes.journal) = cc (c.asked_by.ensures, c.in-Some-SerialNodes.is, c.in-Some-SerialNodes.field-0-is) in
+    let asked : asked_by (form_of c.args.words.now) ≡ Some (Asked.SerialNodes c.in-Some-SerialNodes.nodes c.in-Some-SerialNodes.seed c.in-Some-SerialNodes.shown) = cc (c.asked_by.ensures, c.in-Some-SerialNodes.is, c.in-Some-SerialNodes.field-0-is) in
     subst (λ (n : ℕ). AtNode n node (λ disk after. g.D.Disk.told → IsDamaged (2 ^ 61) (g.D.Disk.state disk).content at) c.args.disks.now.items c.run_nodes.new.disks.items) (sym (ap nodes_of asked)) (c.run_nodes.ensures.damaged node at is)
 
 pub returns-in-Some-SerialNodes-clause-nodes_script : goal.returns-in-Some-SerialNodes-clause-nodes_script
 returns-in-Some-SerialNodes-clause-nodes_script g c = λ nodes seed shown asked line fault is.
     let same : c.in-Some-SerialNodes.nodes ≡ nodes = cc (c.asked_by.ensures, c.in-Some-SerialNodes.is, c.in-Some-SerialNodes.field-0-is, asked) in
-    let same_seed : c.in-Some-SerialNodes.seed ≡ seed = cc (c.asked_by.ensures, c.in-Some-SerialNodes.is, c.in-Some-SerialNodes.field-0-is, asked) in
-    subst (λ (n : ℕ). ReadWhole 1048576 (g.S.Source.left c.args.source.now) (g.S.Source.left c.run_nodes.new.source) (λ text. script_of n text ≡ Err (Fault line fault))) same (c.run_nodes.ensures.script line fault is)
+    let same_shown : c.in-Some-SerialNodes.shown ≡ shown = cc (c.asked_by.ensures, c.in-Some-SerialNodes.is, c.in-Some-SerialNodes.field-0-is, asked) in
+    subst (λ (sh : Shown). HasText sh (g.S.Source.left c.args.source.now) (g.S.Source.left c.run_nodes.new.source) (λ text. script_of nodes text ≡ Err (Fault line fault))) same_shown
+    (subst (λ (n : ℕ). HasText c.in-Some-SerialNodes.shown (g.S.Source.left c.args.source.now) (g.S.Source.left c.run_nodes.new.source) (λ text. script_of n text ≡ Err (Fault line fault))) same (c.run_nodes.ensures.script line fault is))
 
 pub returns-in-Some-SerialNodes-clause-nodes_cut_short : goal.returns-in-Some-SerialNodes-clause-nodes_cut_short
 returns-in-Some-SerialNodes-clause-nodes_cut_short g c = λ nodes seed shown asked node is.
     let same : c.in-Some-SerialNodes.nodes ≡ nodes = cc (c.asked_by.ensures, c.in-Some-SerialNodes.is, c.in-Some-SerialNodes.field-0-is, asked) in
     let same_seed : c.in-Some-SerialNodes.seed ≡ seed = cc (c.asked_by.ensures, c.in-Some-SerialNodes.is, c.in-Some-SerialNodes.field-0-is, asked) in
-    subst (λ (s : ℕ). ReadWhole 1048576 (g.S.Source.left c.args.source.now) (g.S.Source.left c.run_nodes.new.source) (OfScriptOf nodes (λ script. OfThese nodes (λ firsts afters. IsNotBegunOf g.D.Disk.told g.D.Disk.state g.D.Disk.fault_count g.D.Disk.byte_count node c.run_nodes.result.journal c.run_nodes.result.trace firsts afters ⊎ IsShortOf g.D.Disk.told g.D.Disk.state g.D.Disk.fault_count g.D.Disk.byte_count s nodes script node c.run_nodes.result.journal c.run_nodes.result.trace firsts afters) c.args.disks.now.items c.run_nodes.new.disks.items))) same_seed
-    (subst (λ (n : ℕ). ReadWhole 1048576 (g.S.Source.left c.args.source.now) (g.S.Source.left c.run_nodes.new.source) (OfScriptOf n (λ script. OfThese n (λ firsts afters. IsNotBegunOf g.D.Disk.told g.D.Disk.state g.D.Disk.fault_count g.D.Disk.byte_count node c.run_nodes.result.journal c.run_nodes.result.trace firsts afters ⊎ IsShortOf g.D.Disk.told g.D.Disk.state g.D.Disk.fault_count g.D.Disk.byte_count c.in-Some-SerialNodes.seed n script node c.run_nodes.result.journal c.run_nodes.result.trace firsts afters) c.args.disks.now.items c.run_nodes.new.disks.items))) same
-    (c.run_nodes.ensures.cut_short node is))
+    let same_shown : c.in-Some-SerialNodes.shown ≡ shown = cc (c.asked_by.ensures, c.in-Some-SerialNodes.is, c.in-Some-SerialNodes.field-0-is, asked) in
+    subst (λ (sh : Shown). HasText sh (g.S.Source.left c.args.source.now) (g.S.Source.left c.run_nodes.new.source) (OfScriptOf nodes (λ script. OfThese nodes (λ firsts afters. IsNotBegunOf g.D.Disk.told g.D.Disk.state g.D.Disk.fault_count g.D.Disk.byte_count node c.run_nodes.result.journal c.run_nodes.result.trace firsts afters ⊎ IsShortOf g.D.Disk.told g.D.Disk.state g.D.Disk.fault_count g.D.Disk.byte_count seed nodes script node c.run_nodes.result.journal c.run_nodes.result.trace firsts afters) c.args.disks.now.items c.run_nodes.new.disks.items))) same_shown
+    (subst (λ (s : ℕ). HasText c.in-Some-SerialNodes.shown (g.S.Source.left c.args.source.now) (g.S.Source.left c.run_nodes.new.source) (OfScriptOf nodes (λ script. OfThese nodes (λ firsts afters. IsNotBegunOf g.D.Disk.told g.D.Disk.state g.D.Disk.fault_count g.D.Disk.byte_count node c.run_nodes.result.journal c.run_nodes.result.trace firsts afters ⊎ IsShortOf g.D.Disk.told g.D.Disk.state g.D.Disk.fault_count g.D.Disk.byte_count s nodes script node c.run_nodes.result.journal c.run_nodes.result.trace firsts afters) c.args.disks.now.items c.run_nodes.new.disks.items))) same_seed
+    (subst (λ (n : ℕ). HasText c.in-Some-SerialNodes.shown (g.S.Source.left c.args.source.now) (g.S.Source.left c.run_nodes.new.source) (OfScriptOf n (λ script. OfThese n (λ firsts afters. IsNotBegunOf g.D.Disk.told g.D.Disk.state g.D.Disk.fault_count g.D.Disk.byte_count node c.run_nodes.result.journal c.run_nodes.result.trace firsts afters ⊎ IsShortOf g.D.Disk.told g.D.Disk.state g.D.Disk.fault_count g.D.Disk.byte_count c.in-Some-SerialNodes.seed n script node c.run_nodes.result.journal c.run_nodes.result.trace firsts afters) c.args.disks.now.items c.run_nodes.new.disks.items))) same
+    (c.run_nodes.ensures.cut_short node is)))
 
 pub returns-in-Some-SerialNodes-clause-nodes_refused : goal.returns-in-Some-SerialNodes-clause-nodes_refused
 returns-in-Some-SerialNodes-clause-nodes_refused g c = λ nodes seed shown asked line clause is.
     let same : c.in-Some-SerialNodes.nodes ≡ nodes = cc (c.asked_by.ensures, c.in-Some-SerialNodes.is, c.in-Some-SerialNodes.field-0-is, asked) in
     let same_seed : c.in-Some-SerialNodes.seed ≡ seed = cc (c.asked_by.ensures, c.in-Some-SerialNodes.is, c.in-Some-SerialNodes.field-0-is, asked) in
-    subst (λ (s : ℕ). ReadWhole 1048576 (g.S.Source.left c.args.source.now) (g.S.Source.left c.run_nodes.new.source) (OfScriptOf nodes (λ script. OfThese nodes (IsRefusedOf g.D.Disk.told g.D.Disk.state g.D.Disk.fault_count g.D.Disk.byte_count s nodes script line clause) c.args.disks.now.items c.run_nodes.new.disks.items))) same_seed
-    (subst (λ (n : ℕ). ReadWhole 1048576 (g.S.Source.left c.args.source.now) (g.S.Source.left c.run_nodes.new.source) (OfScriptOf n (λ script. OfThese n (IsRefusedOf g.D.Disk.told g.D.Disk.state g.D.Disk.fault_count g.D.Disk.byte_count c.in-Some-SerialNodes.seed n script line clause) c.args.disks.now.items c.run_nodes.new.disks.items))) same
-    (c.run_nodes.ensures.refused line clause is))
+    let same_shown : c.in-Some-SerialNodes.shown ≡ shown = cc (c.asked_by.ensures, c.in-Some-SerialNodes.is, c.in-Some-SerialNodes.field-0-is, asked) in
+    subst (λ (sh : Shown). HasText sh (g.S.Source.left c.args.source.now) (g.S.Source.left c.run_nodes.new.source) (OfScriptOf nodes (λ script. OfThese nodes (IsRefusedOf g.D.Disk.told g.D.Disk.state g.D.Disk.fault_count g.D.Disk.byte_count seed nodes script line clause) c.args.disks.now.items c.run_nodes.new.disks.items))) same_shown
+    (subst (λ (s : ℕ). HasText c.in-Some-SerialNodes.shown (g.S.Source.left c.args.source.now) (g.S.Source.left c.run_nodes.new.source) (OfScriptOf nodes (λ script. OfThese nodes (IsRefusedOf g.D.Disk.told g.D.Disk.state g.D.Disk.fault_count g.D.Disk.byte_count s nodes script line clause) c.args.disks.now.items c.run_nodes.new.disks.items))) same_seed
+    (subst (λ (n : ℕ). HasText c.in-Some-SerialNodes.shown (g.S.Source.left c.args.source.now) (g.S.Source.left c.run_nodes.new.source) (OfScriptOf n (λ script. OfThese n (IsRefusedOf g.D.Disk.told g.D.Disk.state g.D.Disk.fault_count g.D.Disk.byte_count c.in-Some-SerialNodes.seed n script line clause) c.args.disks.now.items c.run_nodes.new.disks.items))) same
+    (c.run_nodes.ensures.refused line clause is)))
 
 pub returns-in-Some-SerialNodes-clause-nodes_out_of_memory : goal.returns-in-Some-SerialNodes-clause-nodes_out_of_memory
 returns-in-Some-SerialNodes-clause-nodes_out_of_memory g c = λ nodes seed shown asked is.
     let same : c.in-Some-SerialNodes.nodes ≡ nodes = cc (c.asked_by.ensures, c.in-Some-SerialNodes.is, c.in-Some-SerialNodes.field-0-is, asked) in
     let same_seed : c.in-Some-SerialNodes.seed ≡ seed = cc (c.asked_by.ensures, c.in-Some-SerialNodes.is, c.in-Some-SerialNodes.field-0-is, asked) in
-    subst (λ (s : ℕ). OfThese nodes (AreOnlyTouched g.D.Disk.told g.D.Disk.state) c.args.disks.now.items c.run_nodes.new.disks.items
-    ⊎ ReadWhole 1048576 (g.S.Source.left c.args.source.now) (g.S.Source.left c.run_nodes.new.source) (OfScriptOf nodes (λ script. OfThese nodes (RanOutOfMemoryOf g.D.Disk.told g.D.Disk.state g.D.Disk.fault_count g.D.Disk.byte_count s script) c.args.disks.now.items c.run_nodes.new.disks.items))) same_seed
+    let same_shown : c.in-Some-SerialNodes.shown ≡ shown = cc (c.asked_by.ensures, c.in-Some-SerialNodes.is, c.in-Some-SerialNodes.field-0-is, asked) in
+    subst (λ (sh : Shown). OfThese nodes (AreOnlyTouched g.D.Disk.told g.D.Disk.state) c.args.disks.now.items c.run_nodes.new.disks.items
+    ⊎ HasText sh (g.S.Source.left c.args.source.now) (g.S.Source.left c.run_nodes.new.source) (OfScriptOf nodes (λ script. OfThese nodes (RanOutOfMemoryOf g.D.Disk.told g.D.Disk.state g.D.Disk.fault_count g.D.Disk.byte_count seed script) c.args.disks.now.items c.run_nodes.new.disks.items))) same_shown
+    (subst (λ (s : ℕ). OfThese nodes (AreOnlyTouched g.D.Disk.told g.D.Disk.state) c.args.disks.now.items c.run_nodes.new.disks.items
+    ⊎ HasText c.in-Some-SerialNodes.shown (g.S.Source.left c.args.source.now) (g.S.Source.left c.run_nodes.new.source) (OfScriptOf nodes (λ script. OfThese nodes (RanOutOfMemoryOf g.D.Disk.told g.D.Disk.state g.D.Disk.fault_count g.D.Disk.byte_count s script) c.args.disks.now.items c.run_nodes.new.disks.items))) same_seed
     (subst (λ (n : ℕ). OfThese n (AreOnlyTouched g.D.Disk.told g.D.Disk.state) c.args.disks.now.items c.run_nodes.new.disks.items
-    ⊎ ReadWhole 1048576 (g.S.Source.left c.args.source.now) (g.S.Source.left c.run_nodes.new.source) (OfScriptOf n (λ script. OfThese n (RanOutOfMemoryOf g.D.Disk.told g.D.Disk.state g.D.Disk.fault_count g.D.Disk.byte_count c.in-Some-SerialNodes.seed script) c.args.disks.now.items c.run_nodes.new.disks.items))) same
-    (c.run_nodes.ensures.out_of_memory is))
+    ⊎ HasText c.in-Some-SerialNodes.shown (g.S.Source.left c.args.source.now) (g.S.Source.left c.run_nodes.new.source) (OfScriptOf n (λ script. OfThese n (RanOutOfMemoryOf g.D.Disk.told g.D.Disk.state g.D.Disk.fault_count g.D.Disk.byte_count c.in-Some-SerialNodes.seed script) c.args.disks.now.items c.run_nodes.new.disks.items))) same
+    (c.run_nodes.ensures.out_of_memory is)))
 
 pub returns-in-Some-SerialNodes-clause-nodes_coherent : goal.returns-in-Some-SerialNodes-clause-nodes_coherent
 returns-in-Some-SerialNodes-clause-nodes_coherent g c = λ nodes seed shown asked.
