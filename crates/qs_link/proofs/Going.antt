@@ -1,9 +1,8 @@
 -- What was put to a link goes out by its plan: one induction over the packets.
-use Rattle.std.proofs.Common.{◌≡◌, ℕ, ◌+◌, ◌<◌, refl, sym, subst, ap, ◌∙◌, arith, List, [], ◌∷◌, ◌++◌, length}
-use Rattle.std.specs.Prelude.{◌^◌}
+use Rattle.std.proofs.Common.{◌≡◌, ℕ, ◌+◌, refl, sym, subst, ap, ◌∙◌, arith, List, [], ◌∷◌, ◌++◌, length}
 use Rattle.std.proofs.lemmas.List.{append_assoc, length-append, append-nil}
 use Rattle.qs_link.specs.Lane.{DrawValue, Fed, Drawn, IsFifo, on_way}
-use Rattle.qs_link.specs.Plan.{OutgoingValue, PutOne, PutNone, HoldsSome, IsFresh, next, fate, own, due}
+use Rattle.qs_link.specs.Plan.{OutgoingValue, PutOne, PutNone, HoldsSome, IsFresh, fate, own, due}
 use Rattle.qs_link.specs.declared.outgoing.LinkFault.{LinkFault}
 use Rattle.qs_link.specs.Planned.{held_of, goes_out, still_held, HasPut, PutAll, IsLink, Carried}
 use Rattle.qs_packet.specs.declared.packet.Packet.{Packet}
@@ -16,13 +15,10 @@ pub record Gone (before xs : List Packet) (o p : OutgoingValue) : Type 0 where
   pub has : HasPut (before ++ xs) p
   pub plan : p.plan ≡ o.plan
 
-next_number : (count n : ℕ) → count ≡ n → n + 1 < 2 ^ 63 → next count ≡ n + 1
-next_number count n e low = omega (arith, e, low)
-
-put_one : (before : List Packet) (x : Packet) (o a b : OutgoingValue) → HoldsSome o.plan → length before + 1 < 2 ^ 63 → HasPut before o → PutNone o a → PutOne x a b
+put_one : (before : List Packet) (x : Packet) (o a b : OutgoingValue) → HoldsSome o.plan → HasPut before o → PutNone o a → PutOne x a b
     → Fed (own (fate o.plan (length before + 1)) x ++ due (length before + 1) (held_of o.plan 0 before)) o.feed b.feed × HasPut (before ++ x ∷ []) b
-put_one before x o a b some low has none one =
-    let number : next a.count ≡ length before + 1 = next_number a.count (length before) (none.count ∙ has.count) low in
+put_one before x o a b some has none one =
+    let number : a.count + 1 ≡ length before + 1 = ap (λ (n : ℕ). n + 1) (none.count ∙ has.count) in
     let held : a.held ≡ still_held o.plan before = none.held ∙ has.held in
     let plan : b.plan ≡ o.plan = one.plan ∙ none.plan in
     let out : Fed (own (fate o.plan (length before + 1)) x ++ due (length before + 1) (still_held o.plan before)) a.feed b.feed =
@@ -31,23 +27,22 @@ put_one before x o a b some low has none one =
     ≡ own (fate o.plan (length before + 1)) x ++ due (length before + 1) (held_of o.plan 0 before) =
     ap (λ (l : List Packet). own (fate o.plan (length before + 1)) x ++ l) (due_still o.plan before) in
     let stays : b.held ≡ still_held o.plan (before ++ x ∷ []) =
-    one.held ∙ rw (number, held, none.plan) (still_more o.plan before x some low) in (
+    one.held ∙ rw (number, held, none.plan) (still_more o.plan before x some (omega (arith, one.few, number))) in (
       fed_trans [] (own (fate o.plan (length before + 1)) x ++ due (length before + 1) (held_of o.plan 0 before)) o.feed a.feed b.feed none.out
           (subst (λ (l : List Packet). Fed l a.feed b.feed) items out),
       record { count = one.count ∙ number ∙ sym (length-append before (x ∷ [])); held = rw plan stays },
     )
 
-pub put_all : (xs before : List Packet) (o p : OutgoingValue) → HoldsSome o.plan → length before + length xs < 2 ^ 63 → HasPut before o → PutAll xs o p → Gone before xs o p
-put_all [] before o p some low has none = record {
+pub put_all : (xs before : List Packet) (o p : OutgoingValue) → HoldsSome o.plan → HasPut before o → PutAll xs o p → Gone before xs o p
+put_all [] before o p some has none = record {
   fed = none.out;
   has = rw (append-nil before) (record { count = none.count ∙ has.count; held = rw none.plan (none.held ∙ has.held) });
   plan = none.plan;
 }
-put_all (x ∷ xs) before o p some low has s =
-    let one = put_one before x o s.pushed s.after some (omega (arith, low)) has s.none s.one in
+put_all (x ∷ xs) before o p some has s =
+    let one = put_one before x o s.pushed s.after some has s.none s.one in
     let plan : s.after.plan ≡ o.plan = s.one.plan ∙ s.none.plan in
-    let low_too : length (before ++ x ∷ []) + length xs < 2 ^ 63 = omega (arith, low, length-append before (x ∷ [])) in
-    let rest = put_all xs (before ++ x ∷ []) s.after p (rw plan some) low_too one.1 s.others in
+    let rest = put_all xs (before ++ x ∷ []) s.after p (rw plan some) one.1 s.others in
     let out : Fed (goes_out o.plan (before ++ x ∷ []) xs) s.after.feed p.feed = rw (← plan) rest.fed in
     record {
       fed = fed_trans (own (fate o.plan (length before + 1)) x ++ due (length before + 1) (held_of o.plan 0 before)) (goes_out o.plan (before ++ x ∷ []) xs) o.feed s.after.feed p.feed one.0 out;
@@ -68,10 +63,10 @@ goes_out_append plan before (x ∷ xs) ys =
 pub begins : (o : OutgoingValue) (i : DrawValue Packet) (plan : List LinkFault) → IsFresh plan o → on_way o.feed i ≡ [] → IsLink [] [] o i
 begins o i plan fresh none = record { has = record { count = fresh.count; held = fresh.held }; way = none }
 
-pub goes_on : (put taken xs ts : List Packet) (o p : OutgoingValue) (i j : DrawValue Packet) → HoldsSome o.plan → length put + length xs < 2 ^ 63 → IsLink put taken o i
+pub goes_on : (put taken xs ts : List Packet) (o p : OutgoingValue) (i j : DrawValue Packet) → HoldsSome o.plan → IsLink put taken o i
     → IsFifo o.feed i → IsFifo p.feed j → PutAll xs o p → Drawn ts i j → IsLink (put ++ xs) (taken ++ ts) p j
-goes_on put taken xs ts o p i j some low link was is puts drawn =
-    let gone = put_all xs put o p some low link.has puts in
+goes_on put taken xs ts o p i j some link was is puts drawn =
+    let gone = put_all xs put o p some link.has puts in
     let moved : ts ++ on_way p.feed j ≡ on_way o.feed i ++ goes_out o.plan put xs = went (goes_out o.plan put xs) ts o.feed p.feed i j was is gone.fed drawn in
     record {
       has = gone.has;

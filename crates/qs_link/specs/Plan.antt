@@ -1,5 +1,5 @@
 -- What a link lets out.
-use Rattle.std.specs.Prelude.{◌≡◌, ◌≢◌, ◌≤◌, ℕ, All, ◌+◌, ◌==◌, ◌-◌, ◌^◌, min, Bool, false, not, List, [], ◌∷◌, ◌++◌, map, filter, if◌then◌else◌}
+use Rattle.std.specs.Prelude.{◌≡◌, ◌≢◌, ◌≤◌, ◌<◌, ℕ, All, ◌+◌, ◌==◌, ◌-◌, ◌^◌, min, Bool, false, not, List, [], ◌∷◌, ◌++◌, map, filter, if◌then◌else◌}
 use Rattle.qs_link.specs.declared.outgoing.LinkFault.{LinkFault}
 use Rattle.qs_link.specs.declared.outgoing.LinkFault.TheVariants.{Drop, Again, Hold}
 use Rattle.qs_link.specs.declared.outgoing.Way.{Way}
@@ -51,15 +51,12 @@ pub record OutgoingValue : Type 0 where
   pub count : ℕ
   pub held : List (HeldPacket Packet)
 
--- the number of the next packet
-abbrev pub next : ℕ → ℕ
-next count = min (count + 1) (2 ^ 64 - 1)
-
--- a packet was put: what goes of it, and then what is due, goes out
+-- a packet was put, which the end can count: what goes of it, and then what is due, goes out
 pub record PutOne (packet : Packet) (old new : OutgoingValue) : Type 0 where
-  pub out : Fed (own (fate old.plan (next old.count)) packet ++ due (next old.count) old.held) old.feed new.feed
-  pub held : new.held ≡ early (next old.count) old.held ++ kept (fate old.plan (next old.count)) packet
-  pub count : new.count ≡ next old.count
+  pub few : old.count + 1 < 2 ^ 63
+  pub out : Fed (own (fate old.plan (old.count + 1)) packet ++ due (old.count + 1) old.held) old.feed new.feed
+  pub held : new.held ≡ early (old.count + 1) old.held ++ kept (fate old.plan (old.count + 1)) packet
+  pub count : new.count ≡ old.count + 1
   pub plan : new.plan ≡ old.plan
 
 -- nothing was put; some packets may have gone on from the outbox into the ring

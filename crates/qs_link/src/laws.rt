@@ -1,5 +1,5 @@
 //! What lanes and links keep. Each is a function that does nothing.
-ghost use Rattle.std.specs.Prelude.{◌≡◌, ◌+◌, ◌<◌, ◌^◌, [], ◌++◌, List, length};
+ghost use Rattle.std.specs.Prelude.{◌≡◌, [], ◌++◌, List};
 ghost use Rattle.qs_link.specs.Lane.{FeedValue, DrawValue, Fed, Drawn, IsFifo, on_way};
 ghost use Rattle.qs_link.specs.Plan.{OutgoingValue, HoldsSome, IsFresh};
 ghost use Rattle.qs_link.specs.Planned.{PutAll, IsLink, Carried};
@@ -17,7 +17,7 @@ pub fn went<T>()
 /// what was taken is a front of it.
 pub fn taken_is_put()
     ensures begins { (o : OutgoingValue) (i : DrawValue Packet) (plan : List LinkFault) → IsFresh plan o → on_way o.feed i ≡ [] → IsLink [] [] o i }
-    ensures goes_on { (put taken xs ts : List Packet) (o p : OutgoingValue) (i j : DrawValue Packet) → HoldsSome o.plan → length put + length xs < 2 ^ 63 → IsLink put taken o i
+    ensures goes_on { (put taken xs ts : List Packet) (o p : OutgoingValue) (i j : DrawValue Packet) → HoldsSome o.plan → IsLink put taken o i
         → IsFifo o.feed i → IsFifo p.feed j → PutAll xs o p → Drawn ts i j → IsLink (put ++ xs) (taken ++ ts) p j }
     ensures carried { (put taken : List Packet) (o p : OutgoingValue) (i j : DrawValue Packet) → IsLink put taken o i → Carried o p i j → IsLink put taken p j }
 {}

@@ -80,6 +80,9 @@ pub struct HeldPacket<T> {
     pub item: T,
 }
 
+/// The most packets that an end counts.
+const MOST_PACKETS: u64 = (1 << 63) - 1;
+
 /// What becomes of a packet.
 #[derive(Clone, Copy)]
 enum Way {
@@ -125,14 +128,18 @@ impl Outgoing {
     /// Puts a packet, by the plan. A repeat goes right behind its packet. A held packet that is due
     /// goes right behind the last of the packets that it was held for, and that packet's repeat;
     /// where several are due, the one that was put first goes first. After `NoMemory`, which comes
-    /// where memory was refused, all is as it was: nothing went, and the packet counts for nothing.
+    /// where memory was refused, or where 2^63 - 1 packets were put, all is as it was: nothing went,
+    /// and the packet counts for nothing.
     pub fn put(&mut self, packet: &Packet) -> Result<(), NoMemory>
         requires { IsPacket packet.now }
         ensures put { OnOk result (PutOne packet.now self.old self.new) }
         ensures err { OnErr result (self.new ≡ self.old) }
         ensures plan { self.new.plan ≡ self.old.plan }
     {
-        let number = self.count.saturating_add(1);
+        if self.count >= MOST_PACKETS {
+            return Err(NoMemory);
+        }
+        let number = self.count + 1;
         let parcel = Parcel::new(self.alloc, packet)?;
         let way = fate_of(self.plan.as_slice(), number);
         let mut goes = VecDeque::new(self.alloc);

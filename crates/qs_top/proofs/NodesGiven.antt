@@ -43,7 +43,7 @@ use Rattle.qs_world_merge.specs.MergedByKey.{IsMergedBy}
 use Rattle.qs_world_merge.specs.Observed.{journals_of}
 use Rattle.qs_world_merge.specs.StepMoves.{step_key}
 use Rattle.qs_world_nodes.specs.Lawful.{CutShortIsLawful, EndingsAreLawful, HaveCoherentLogs}
-use Rattle.qs_world_nodes.specs.Nodes.{FewWerePut, journal_at, plans_of, trace_at}
+use Rattle.qs_world_nodes.specs.Nodes.{journal_at, plans_of, trace_at}
 use Rattle.qs_world_opening.specs.Scripts.{Fits}
 use Rattle.qs_world_nodes.specs.Openings.{NodesHaveOpening, SitOnce, opening_over}
 use Rattle.qs_world_nodes.specs.Running.{CutShortIsTraced, EndingsAreTraced}
@@ -148,8 +148,8 @@ module _ {D : Type 0} (told : Type 0) (state : D → DiskState) (own size : D �
     left_roomy leave = subst (λ (sizes : List ℕ). AreRoomyDisks sizes (map state afters)) (sym (left_sizes told state own size script seed ending tells disks afters ran))
         (subst (AreRoomyDisks (sizes_of size ran.last.sites)) (sym (left_states told state own size script seed ending (Ok tells) disks afters ran)) leave.disks)
 
-    pub told_as : Conforms script (machine_of tells) journal → (told → FewWerePut ran.last.sites → IsTraced (opening_over ran.alloc script disks ran.first.sites) (plans_of script) journal trace)
-        → (told → AreCoherentDisks (map state disks) → FewWerePut ran.last.sites → AreLasting state tells journal ran.last.sites afters) → DisksStayRoomy told state size ran.last.sites disks afters
+    pub told_as : Conforms script (machine_of tells) journal → (told → IsTraced (opening_over ran.alloc script disks ran.first.sites) (plans_of script) journal trace)
+        → (told → AreCoherentDisks (map state disks) → AreLasting state tells journal ran.last.sites afters) → DisksStayRoomy told state size disks afters
         → AreTold told state own size script seed nodes ending tells disks afters ran journal trace
     told_as conforms traced lasts roomy = record {
       held = λ t. subst (λ (k : ℕ). AreHeldBy state script k disks (map opened_in tells)) count (held_all told state own size script seed ending tells disks afters ran t);
@@ -163,45 +163,45 @@ module _ {D : Type 0} (told : Type 0) (state : D → DiskState) (own size : D �
     lawful_by : told → IsLawful (book_of (opening_over ran.alloc script disks ran.first.sites)) journal → IsLawful (machine_of tells) journal
     lawful_by t lawful = subst (λ (b : BookValue). IsLawful b journal) (machine_is told state own size script seed ending tells disks afters ran t once opens) lawful
 
-  pub room_judged : (ending : Result Ending RoundFault) → IsJudged ending → (tells : List SiteTold) (ran : Ran ending tells) (journal : List Entry) (trace : List Step) → AreMerged tells journal trace → DisksStayRoomy told state size ran.last.sites disks afters
-  room_judged (Ok ending) judged tells ran journal trace merged t coherent few roomy = left_roomy (Ok ending) tells ran journal trace merged
-      (laws.ends_room ran.alloc script disks seed ran.first ran.last ending t (begins_roomy (Ok ending) tells ran journal trace merged t coherent roomy) ran.ends few)
-  room_judged (Err (faults.DiskFault node)) judged tells ran journal trace merged t coherent few roomy = left_roomy (Err (faults.DiskFault node)) tells ran journal trace merged
-      (laws.cut_room ran.alloc script disks seed node ran.first ran.last t (begins_roomy (Err (faults.DiskFault node)) tells ran journal trace merged t coherent roomy) (ran.cut node refl) few)
-  room_judged (Err faults.Damaged) judged tells ran journal trace merged t coherent few roomy = absurd judged
-  room_judged (Err faults.NoMemory) judged tells ran journal trace merged t coherent few roomy = absurd judged
+  pub room_judged : (ending : Result Ending RoundFault) → IsJudged ending → (tells : List SiteTold) (ran : Ran ending tells) (journal : List Entry) (trace : List Step) → AreMerged tells journal trace → DisksStayRoomy told state size disks afters
+  room_judged (Ok ending) judged tells ran journal trace merged t coherent roomy = left_roomy (Ok ending) tells ran journal trace merged
+      (laws.ends_room ran.alloc script disks seed ran.first ran.last ending t (begins_roomy (Ok ending) tells ran journal trace merged t coherent roomy) ran.ends)
+  room_judged (Err (faults.DiskFault node)) judged tells ran journal trace merged t coherent roomy = left_roomy (Err (faults.DiskFault node)) tells ran journal trace merged
+      (laws.cut_room ran.alloc script disks seed node ran.first ran.last t (begins_roomy (Err (faults.DiskFault node)) tells ran journal trace merged t coherent roomy) (ran.cut node refl))
+  room_judged (Err faults.Damaged) judged tells ran journal trace merged t coherent roomy = absurd judged
+  room_judged (Err faults.NoMemory) judged tells ran journal trace merged t coherent roomy = absurd judged
 
   pub told_end : (ending : Ending) (tells : List SiteTold) (ran : Ran (Ok ending) tells) (journal : List Entry) (trace : List Step) → AreMerged tells journal trace → Conforms script (machine_of tells) journal
       → AreTold told state own size script seed nodes (Ok ending) tells disks afters ran journal trace
   told_end ending tells ran journal trace merged conforms = told_as (Ok ending) tells ran journal trace merged conforms
-      (λ t few. laws.ends ran.alloc script disks (opening_over ran.alloc script disks ran.first.sites) seed ran.first ran.last ending t ran.begins (laws.opens ran.alloc script disks ran.first ran.begins once) ran.ends few journal trace
+      (λ t. laws.ends ran.alloc script disks (opening_over ran.alloc script disks ran.first.sites) seed ran.first ran.last ending t ran.begins (laws.opens ran.alloc script disks ran.first ran.begins once) ran.ends journal trace
       (entries (Ok ending) tells ran journal trace merged) (steps (Ok ending) tells ran journal trace merged))
-      (λ t coherent few. lasting (Ok ending) tells ran journal trace merged t
-      (laws.ends_follow ran.alloc script disks seed ran.first ran.last ending t (begins (Ok ending) tells ran journal trace merged t coherent) ran.ends few)
-      (λ stamps. laws.ends_stand ran.alloc script disks seed ran.first ran.last ending journal t ran.begins once fits_all (logs (Ok ending) tells ran journal trace merged t coherent) ran.ends few stamps (entries (Ok ending) tells ran journal trace merged)))
+      (λ t coherent. lasting (Ok ending) tells ran journal trace merged t
+      (laws.ends_follow ran.alloc script disks seed ran.first ran.last ending t (begins (Ok ending) tells ran journal trace merged t coherent) ran.ends)
+      (λ stamps. laws.ends_stand ran.alloc script disks seed ran.first ran.last ending journal t ran.begins once fits_all (logs (Ok ending) tells ran journal trace merged t coherent) ran.ends stamps (entries (Ok ending) tells ran journal trace merged)))
       (room_judged (Ok ending) tt tells ran journal trace merged)
 
   pub told_short : (node : NodeNo) (tells : List SiteTold) (ran : Ran (Err (faults.DiskFault node)) tells) (journal : List Entry) (trace : List Step) → AreMerged tells journal trace → Conforms script (machine_of tells) journal
       → AreTold told state own size script seed nodes (Err (faults.DiskFault node)) tells disks afters ran journal trace
   told_short node tells ran journal trace merged conforms = told_as (Err (faults.DiskFault node)) tells ran journal trace merged conforms
-      (λ t few. laws.cut ran.alloc script disks (opening_over ran.alloc script disks ran.first.sites) seed node ran.first ran.last t ran.begins (laws.opens ran.alloc script disks ran.first ran.begins once) (ran.cut node refl) few journal trace
+      (λ t. laws.cut ran.alloc script disks (opening_over ran.alloc script disks ran.first.sites) seed node ran.first ran.last t ran.begins (laws.opens ran.alloc script disks ran.first ran.begins once) (ran.cut node refl) journal trace
       (entries (Err (faults.DiskFault node)) tells ran journal trace merged) (steps (Err (faults.DiskFault node)) tells ran journal trace merged))
-      (λ t coherent few. lasting (Err (faults.DiskFault node)) tells ran journal trace merged t
-      (laws.cut_follows ran.alloc script disks seed node ran.first ran.last t (begins (Err (faults.DiskFault node)) tells ran journal trace merged t coherent) (ran.cut node refl) few)
-      (λ stamps. laws.cut_stands ran.alloc script disks seed node ran.first ran.last journal t ran.begins once fits_all (logs (Err (faults.DiskFault node)) tells ran journal trace merged t coherent) (ran.cut node refl) few stamps (entries (Err (faults.DiskFault node)) tells ran journal trace merged)))
+      (λ t coherent. lasting (Err (faults.DiskFault node)) tells ran journal trace merged t
+      (laws.cut_follows ran.alloc script disks seed node ran.first ran.last t (begins (Err (faults.DiskFault node)) tells ran journal trace merged t coherent) (ran.cut node refl))
+      (λ stamps. laws.cut_stands ran.alloc script disks seed node ran.first ran.last journal t ran.begins once fits_all (logs (Err (faults.DiskFault node)) tells ran journal trace merged t coherent) (ran.cut node refl) stamps (entries (Err (faults.DiskFault node)) tells ran journal trace merged)))
       (room_judged (Err (faults.DiskFault node)) tt tells ran journal trace merged)
 
   -- where the logs were coherent the journal is lawful, whether it conforms or not
-  pub lawful_judged : (ending : Result Ending RoundFault) → IsJudged ending → (tells : List SiteTold) (ran : Ran ending tells) (journal : List Entry) (trace : List Step) → AreMerged tells journal trace → told → AreCoherentDisks (map state disks) → FewWerePut ran.last.sites
+  pub lawful_judged : (ending : Result Ending RoundFault) → IsJudged ending → (tells : List SiteTold) (ran : Ran ending tells) (journal : List Entry) (trace : List Step) → AreMerged tells journal trace → told → AreCoherentDisks (map state disks)
       → IsLawful (machine_of tells) journal
-  lawful_judged (Ok ending) judged tells ran journal trace merged t coherent few = lawful_by (Ok ending) tells ran journal trace merged t
-      (laws.ends_lawful ran.alloc script disks seed ran.first ran.last ending journal trace t ran.begins once fits_all (logs (Ok ending) tells ran journal trace merged t coherent) ran.ends few
+  lawful_judged (Ok ending) judged tells ran journal trace merged t coherent = lawful_by (Ok ending) tells ran journal trace merged t
+      (laws.ends_lawful ran.alloc script disks seed ran.first ran.last ending journal trace t ran.begins once fits_all (logs (Ok ending) tells ran journal trace merged t coherent) ran.ends
       (entries (Ok ending) tells ran journal trace merged) (steps (Ok ending) tells ran journal trace merged))
-  lawful_judged (Err (faults.DiskFault node)) judged tells ran journal trace merged t coherent few = lawful_by (Err (faults.DiskFault node)) tells ran journal trace merged t
-      (laws.cut_lawful ran.alloc script disks seed node ran.first ran.last journal trace t ran.begins once fits_all (logs (Err (faults.DiskFault node)) tells ran journal trace merged t coherent) (ran.cut node refl) few
+  lawful_judged (Err (faults.DiskFault node)) judged tells ran journal trace merged t coherent = lawful_by (Err (faults.DiskFault node)) tells ran journal trace merged t
+      (laws.cut_lawful ran.alloc script disks seed node ran.first ran.last journal trace t ran.begins once fits_all (logs (Err (faults.DiskFault node)) tells ran journal trace merged t coherent) (ran.cut node refl)
       (entries (Err (faults.DiskFault node)) tells ran journal trace merged) (steps (Err (faults.DiskFault node)) tells ran journal trace merged))
-  lawful_judged (Err faults.Damaged) judged tells ran journal trace merged t coherent few = absurd judged
-  lawful_judged (Err faults.NoMemory) judged tells ran journal trace merged t coherent few = absurd judged
+  lawful_judged (Err faults.Damaged) judged tells ran journal trace merged t coherent = absurd judged
+  lawful_judged (Err faults.NoMemory) judged tells ran journal trace merged t coherent = absurd judged
 
 -- ---- the run
 
@@ -328,8 +328,8 @@ module _ {D K : Type 0} (told : Type 0) (state : D → DiskState) (own size : D 
         merged = c.merged;
         held = λ t. subst (λ (k : ℕ). AreHeldBy state script k disks (map opened_in c.tells)) count (held_all told state own size script seed c.ending c.tells disks afters c.ran t);
         refused = c.failed.refused line clause made_is;
-        by_script = λ t coherent few. refused_by_script script (machine_of c.tells) c.journal line clause
-            (lawful_judged told state own size script seed nodes disks afters count once fits over.read laws c.ending c.judged c.tells c.ran c.journal c.trace c.merged t coherent few) (c.failed.refused line clause made_is);
+        by_script = λ t coherent. refused_by_script script (machine_of c.tells) c.journal line clause
+            (lawful_judged told state own size script seed nodes disks afters count once fits over.read laws c.ending c.judged c.tells c.ran c.journal c.trace c.merged t coherent) (c.failed.refused line clause made_is);
         roomy = room_judged told state own size script seed nodes disks afters count once fits over.read laws c.ending c.judged c.tells c.ran c.journal c.trace c.merged;
       }
       by (inr (inr (inr (inl c)))) = absurd (no_log c.node c.why (sym c.unopened.status ∙ made_is))

@@ -110,7 +110,7 @@ module _ {D K : Type 0} (told : Type 0) (state : D → DiskState) (own size : D 
           by (inl touched) = inl (with_holds touched)
           by (inr ran) = inr (text_of_script shown nodes script (λ script. OfThese nodes (RanOutOfMemoryOf told state own size seed script) old new) read (with_holds ran))
 
-      pub these_coherent : OfThese nodes (StayCoherentOf told state own size seed) old new
+      pub these_coherent : OfThese nodes (StayCoherentOf told state) old new
       these_coherent = with_holds (nodes_coherent told state own size seed nodes script shown faults_of given before after made run over.disks over.afters over.holds gave over.count once fits u)
 
 -- ---- a run without a script
@@ -154,5 +154,5 @@ pub none_touched : {D : Type 0} (told : Type 0) (state : D → DiskState) (nodes
 none_touched told state nodes disks few some =
     none_these nodes (AreOnlyTouched told state) disks few some (each_alone (λ n disk end. IsOnlyTouched told state disk end) (take nodes disks) (λ n d yes. touched_alone (state d)))
 
-pub none_coherent : {D : Type 0} (told : Type 0) (state : D → DiskState) (own size : D → ℕ) (seed nodes : ℕ) (disks : List D) → nodes ≤ 8 → 8 ≤ length disks → OfThese nodes (StayCoherentOf told state own size seed) disks disks
-none_coherent told state own size seed nodes disks few some = none_these nodes (StayCoherentOf told state own size seed) disks few some (λ t coherent. inl coherent)
+pub none_coherent : {D : Type 0} (told : Type 0) (state : D → DiskState) (nodes : ℕ) (disks : List D) → nodes ≤ 8 → 8 ≤ length disks → OfThese nodes (StayCoherentOf told state) disks disks
+none_coherent told state nodes disks few some = none_these nodes (StayCoherentOf told state) disks few some (λ t coherent. coherent)

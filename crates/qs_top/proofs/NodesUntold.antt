@@ -14,7 +14,7 @@ use Rattle.qs_top.specs.Inner.CameTo.{CameTo, HasRunSo}
 use Rattle.qs_top.specs.Inner.Giving.{IsGiven}
 use Rattle.qs_top.specs.Inner.OverNodes.{IsOverNodes}
 use Rattle.qs_top.specs.Statuses.{IsEnd}
-use Rattle.qs_top.specs.Untold.{AreLastingUntold, AreOnlyTouched, RanCoherent, RanOutOfMemoryOf, StayCoherentOf}
+use Rattle.qs_top.specs.Untold.{AreLastingUntold, AreOnlyTouched, RanOutOfMemoryOf, StayCoherentOf}
 use Rattle.qs_top.specs.declared.outcome.Run.{Run}
 use Rattle.qs_top.specs.declared.whole.RunMade.{RunMade}
 use Rattle.qs_top.proofs.Given.{status_made}
@@ -32,7 +32,7 @@ use Rattle.qs_world_left.specs.Touched.{TouchedStayCoherent, WasTouched}
 use Rattle.qs_world_merge.specs.MergedByKey.{IsMergedBy}
 use Rattle.qs_world_merge.specs.StepMoves.{step_key}
 use Rattle.qs_world_nodes.specs.Lawful.{RefusedIsLawful}
-use Rattle.qs_world_nodes.specs.Nodes.{FewWerePut, trace_at}
+use Rattle.qs_world_nodes.specs.Nodes.{trace_at}
 use Rattle.qs_world_nodes.specs.Openings.{SitOnce, opening_over}
 use Rattle.qs_world_opening.specs.Scripts.{Fits}
 use Rattle.qs_world_plans.specs.Waiting.{waiting_of}
@@ -62,54 +62,51 @@ module _ {D : Type 0} (told : Type 0) (state : D → DiskState) (own size : D �
   fits_all : Fits (length disks) script
   fits_all = subst (λ (k : ℕ). Fits k script) (sym count) fits
 
-  leaves : (ending : Result Ending RoundFault) (tells : Result (List SiteTold) NoMemory) (ran : Ran ending tells) → told → AreCoherentDisks (map state disks) → FewWerePut ran.last.sites → LeaveCoherent state ran.last.sites
-  leaves (Ok ending) tells ran t coherent few = u.laws.ends_follow ran.alloc script disks seed ran.first ran.last ending t
-      (begins_coherent told state own size script disks once fits_all read u.laws ran.alloc ran.first ran.begins t coherent) ran.ends few
-  leaves (Err (faults.DiskFault node)) tells ran t coherent few = u.laws.cut_follows ran.alloc script disks seed node ran.first ran.last t
-      (begins_coherent told state own size script disks once fits_all read u.laws ran.alloc ran.first ran.begins t coherent) (ran.cut node refl) few
-  leaves (Err faults.NoMemory) tells ran t coherent few = u.follows ran.alloc script disks seed ran.first ran.last t
-      (begins_coherent told state own size script disks once fits_all read u.laws ran.alloc ran.first ran.begins t coherent) (ran.refused refl) few
-  leaves (Err faults.Damaged) tells ran t coherent few = absurd (ran.undamaged t fits.few refl)
+  leaves : (ending : Result Ending RoundFault) (tells : Result (List SiteTold) NoMemory) (ran : Ran ending tells) → told → AreCoherentDisks (map state disks) → LeaveCoherent state ran.last.sites
+  leaves (Ok ending) tells ran t coherent = u.laws.ends_follow ran.alloc script disks seed ran.first ran.last ending t
+      (begins_coherent told state own size script disks once fits_all read u.laws ran.alloc ran.first ran.begins t coherent) ran.ends
+  leaves (Err (faults.DiskFault node)) tells ran t coherent = u.laws.cut_follows ran.alloc script disks seed node ran.first ran.last t
+      (begins_coherent told state own size script disks once fits_all read u.laws ran.alloc ran.first ran.begins t coherent) (ran.cut node refl)
+  leaves (Err faults.NoMemory) tells ran t coherent = u.follows ran.alloc script disks seed ran.first ran.last t
+      (begins_coherent told state own size script disks once fits_all read u.laws ran.alloc ran.first ran.begins t coherent) (ran.refused refl)
+  leaves (Err faults.Damaged) tells ran t coherent = absurd (ran.undamaged t fits.few refl)
 
-  is_lawful : (ending : Result Ending RoundFault) (tells : Result (List SiteTold) NoMemory) (ran : Ran ending tells) → told → AreCoherentDisks (map state disks) → FewWerePut ran.last.sites → (journal : List Entry) (trace : List Step)
+  is_lawful : (ending : Result Ending RoundFault) (tells : Result (List SiteTold) NoMemory) (ran : Ran ending tells) → told → AreCoherentDisks (map state disks) → (journal : List Entry) (trace : List Step)
       → IsTold (length disks) journal ran.last.sites → IsMergedBy step_key (length disks) (trace_at ran.last.sites) trace → IsLawful (book_of (opening_over ran.alloc script disks ran.first.sites)) journal
-  is_lawful (Ok ending) tells ran t coherent few journal trace entries steps = u.laws.ends_lawful ran.alloc script disks seed ran.first ran.last ending journal trace t ran.begins once fits_all
-      (logs_coherent told state own size script disks read u.laws ran.alloc ran.first ran.begins t coherent) ran.ends few entries steps
-  is_lawful (Err (faults.DiskFault node)) tells ran t coherent few journal trace entries steps = u.laws.cut_lawful ran.alloc script disks seed node ran.first ran.last journal trace t ran.begins once fits_all
-      (logs_coherent told state own size script disks read u.laws ran.alloc ran.first ran.begins t coherent) (ran.cut node refl) few entries steps
-  is_lawful (Err faults.NoMemory) tells ran t coherent few journal trace entries steps = u.lawful ran.alloc script disks seed ran.first ran.last journal trace t ran.begins once fits_all
-      (logs_coherent told state own size script disks read u.laws ran.alloc ran.first ran.begins t coherent) (ran.refused refl) few entries steps
-  is_lawful (Err faults.Damaged) tells ran t coherent few journal trace entries steps = absurd (ran.undamaged t fits.few refl)
+  is_lawful (Ok ending) tells ran t coherent journal trace entries steps = u.laws.ends_lawful ran.alloc script disks seed ran.first ran.last ending journal trace t ran.begins once fits_all
+      (logs_coherent told state own size script disks read u.laws ran.alloc ran.first ran.begins t coherent) ran.ends entries steps
+  is_lawful (Err (faults.DiskFault node)) tells ran t coherent journal trace entries steps = u.laws.cut_lawful ran.alloc script disks seed node ran.first ran.last journal trace t ran.begins once fits_all
+      (logs_coherent told state own size script disks read u.laws ran.alloc ran.first ran.begins t coherent) (ran.cut node refl) entries steps
+  is_lawful (Err faults.NoMemory) tells ran t coherent journal trace entries steps = u.lawful ran.alloc script disks seed ran.first ran.last journal trace t ran.begins once fits_all
+      (logs_coherent told state own size script disks read u.laws ran.alloc ran.first ran.begins t coherent) (ran.refused refl) entries steps
+  is_lawful (Err faults.Damaged) tells ran t coherent journal trace entries steps = absurd (ran.undamaged t fits.few refl)
 
-  stands : (ending : Result Ending RoundFault) (tells : Result (List SiteTold) NoMemory) (ran : Ran ending tells) → told → AreCoherentDisks (map state disks) → FewWerePut ran.last.sites → HaveStampsLeft ran.last.sites → (journal : List Entry)
+  stands : (ending : Result Ending RoundFault) (tells : Result (List SiteTold) NoMemory) (ran : Ran ending tells) → told → AreCoherentDisks (map state disks) → HaveStampsLeft ran.last.sites → (journal : List Entry)
       → IsTold (length disks) journal ran.last.sites → StandFor state (opening_over ran.alloc script disks ran.first.sites) journal ran.last.sites
-  stands (Ok ending) tells ran t coherent few early journal entries = u.laws.ends_stand ran.alloc script disks seed ran.first ran.last ending journal t ran.begins once fits_all
-      (logs_coherent told state own size script disks read u.laws ran.alloc ran.first ran.begins t coherent) ran.ends few early entries
-  stands (Err (faults.DiskFault node)) tells ran t coherent few early journal entries = u.laws.cut_stands ran.alloc script disks seed node ran.first ran.last journal t ran.begins once fits_all
-      (logs_coherent told state own size script disks read u.laws ran.alloc ran.first ran.begins t coherent) (ran.cut node refl) few early entries
-  stands (Err faults.NoMemory) tells ran t coherent few early journal entries = u.stands ran.alloc script disks seed ran.first ran.last journal t ran.begins once fits_all
-      (logs_coherent told state own size script disks read u.laws ran.alloc ran.first ran.begins t coherent) (ran.refused refl) few early entries
-  stands (Err faults.Damaged) tells ran t coherent few early journal entries = absurd (ran.undamaged t fits.few refl)
+  stands (Ok ending) tells ran t coherent early journal entries = u.laws.ends_stand ran.alloc script disks seed ran.first ran.last ending journal t ran.begins once fits_all
+      (logs_coherent told state own size script disks read u.laws ran.alloc ran.first ran.begins t coherent) ran.ends early entries
+  stands (Err (faults.DiskFault node)) tells ran t coherent early journal entries = u.laws.cut_stands ran.alloc script disks seed node ran.first ran.last journal t ran.begins once fits_all
+      (logs_coherent told state own size script disks read u.laws ran.alloc ran.first ran.begins t coherent) (ran.cut node refl) early entries
+  stands (Err faults.NoMemory) tells ran t coherent early journal entries = u.stands ran.alloc script disks seed ran.first ran.last journal t ran.begins once fits_all
+      (logs_coherent told state own size script disks read u.laws ran.alloc ran.first ran.begins t coherent) (ran.refused refl) early entries
+  stands (Err faults.Damaged) tells ran t coherent early journal entries = absurd (ran.undamaged t fits.few refl)
 
   module _ (ending : Result Ending RoundFault) (tells : Result (List SiteTold) NoMemory) (ran : Ran ending tells) where
     left : map state afters ≡ disks_of state ran.last.sites
     left = left_states told state own size script seed ending tells disks afters ran
 
-    again : told → AreCoherentDisks (map state disks) → FewWerePut ran.last.sites → AreCoherentDisks (map state afters)
-    again t coherent few = subst AreCoherentDisks (sym left) (leaves ending tells ran t coherent few)
+    pub again : told → AreCoherentDisks (map state disks) → AreCoherentDisks (map state afters)
+    again t coherent = subst AreCoherentDisks (sym left) (leaves ending tells ran t coherent)
 
     pub untold : RanOutOfMemoryOf told state own size seed script disks afters
     untold = record { ending = ending; tells = tells; ran = ran; lasts = lasts }
       where
-        lasts : told → AreCoherentDisks (map state disks) → FewWerePut ran.last.sites → AreLastingUntold state (opening_over ran.alloc script disks ran.first.sites) (length disks) ran.last.sites afters
-        lasts t coherent few = record {
-          coherent = again t coherent few;
-          lawful = is_lawful ending tells ran t coherent few;
-          stands = λ early journal entries. subst (DisksStandFor (book_after (book_of (opening_over ran.alloc script disks ran.first.sites)) journal) (up_at ran.last.sites)) (sym left) (stands ending tells ran t coherent few early journal entries);
+        lasts : told → AreCoherentDisks (map state disks) → AreLastingUntold state (opening_over ran.alloc script disks ran.first.sites) (length disks) ran.last.sites afters
+        lasts t coherent = record {
+          coherent = again t coherent;
+          lawful = is_lawful ending tells ran t coherent;
+          stands = λ early journal entries. subst (DisksStandFor (book_after (book_of (opening_over ran.alloc script disks ran.first.sites)) journal) (up_at ran.last.sites)) (sym left) (stands ending tells ran t coherent early journal entries);
         }
-
-    pub ran_coherent : told → AreCoherentDisks (map state disks) → RanCoherent told state own size seed disks afters
-    ran_coherent t coherent = record { script = script; ending = ending; tells = tells; ran = ran; coherent = again t coherent }
 
   -- ---- disks that were raised at most
 
@@ -157,22 +154,22 @@ module _ {D K : Type 0} (told : Type 0) (state : D → DiskState) (own size : D 
           left (inl touched) = inl (each_of (λ n. IsTouchedDisk told state size) (λ n disk end. IsOnlyTouched told state disk end) disks afters (λ n a b t. t.moments) touched)
           left (inr ran) = inr (of_run ran.ending ran.tells ran.ran)
 
-  pub nodes_coherent : StayCoherentOf told state own size seed disks afters
+  pub nodes_coherent : StayCoherentOf told state disks afters
   nodes_coherent t coherent = by came
     where
-      ran_so : (ending : Result Ending RoundFault) (tells : Result (List SiteTold) NoMemory) → HasRun told state own size script seed ending tells disks afters → AreCoherentDisks (map state afters) ⊎ RanCoherent told state own size seed disks afters
-      ran_so ending tells ran = inr (ran_coherent told state own size script seed nodes disks afters count once fits over.read u ending tells ran t coherent)
+      ran_so : (ending : Result Ending RoundFault) (tells : Result (List SiteTold) NoMemory) → HasRun told state own size script seed ending tells disks afters → AreCoherentDisks (map state afters)
+      ran_so ending tells ran = again told state own size script seed nodes disks afters count once fits over.read u ending tells ran t coherent
 
-      touched_so : EachBeside (λ n. IsTouchedDisk told state size) disks afters → AreCoherentDisks (map state afters) ⊎ RanCoherent told state own size seed disks afters
-      touched_so touched = inl (touched_coherent told state own size script seed nodes disks afters count once fits over.read u touched t coherent)
+      touched_so : EachBeside (λ n. IsTouchedDisk told state size) disks afters → AreCoherentDisks (map state afters)
+      touched_so touched = touched_coherent told state own size script seed nodes disks afters count once fits over.read u touched t coherent
 
-      by : CameTo told state own size seed script shown made disks afters → AreCoherentDisks (map state afters) ⊎ RanCoherent told state own size seed disks afters
+      by : CameTo told state own size seed script shown made disks afters → AreCoherentDisks (map state afters)
       by (inl c) = ran_so (Ok c.ending) (Ok c.tells) c.ran
       by (inr (inl c)) = ran_so (Err (faults.DiskFault c.node)) (Ok c.tells) c.ran
       by (inr (inr (inl c))) = ran_so c.ending (Ok c.tells) c.ran
       by (inr (inr (inr (inl c)))) = touched_so (each_of (λ n. IsTouchedUpTo told state size c.node.0 n) (λ n. IsTouchedDisk told state size) disks afters (λ n a b t. t.touched) c.not.each)
       by (inr (inr (inr (inr c)))) = left c.left
         where
-          left : EachBeside (λ n. IsTouchedDisk told state size) disks afters ⊎ HasRunSo told state own size seed script disks afters → AreCoherentDisks (map state afters) ⊎ RanCoherent told state own size seed disks afters
+          left : EachBeside (λ n. IsTouchedDisk told state size) disks afters ⊎ HasRunSo told state own size seed script disks afters → AreCoherentDisks (map state afters)
           left (inl touched) = touched_so touched
           left (inr ran) = ran_so ran.ending ran.tells ran.ran

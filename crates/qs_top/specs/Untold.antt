@@ -13,7 +13,7 @@ use Rattle.qs_world_left.specs.Disks.{AreCoherentDisks}
 use Rattle.qs_world_left.specs.Standing.{DisksStandFor, HaveStampsLeft, IsTold, up_at}
 use Rattle.qs_world_merge.specs.MergedByKey.{IsMergedBy}
 use Rattle.qs_world_merge.specs.StepMoves.{step_key}
-use Rattle.qs_world_nodes.specs.Nodes.{FewWerePut, trace_at}
+use Rattle.qs_world_nodes.specs.Nodes.{trace_at}
 use Rattle.qs_world_nodes.specs.Openings.{opening_over}
 use Rattle.qs_world_rounds.specs.Rounds.{Cast}
 use Rattle.qs_world_rounds.specs.declared.faults.RoundFault.{RoundFault}
@@ -32,24 +32,16 @@ pub record AreLastingUntold {D : Type 0} (state : D → DiskState) (o : Opening)
 abbrev pub AreOnlyTouched : {D : Type 0} → Type 0 → (D → DiskState) → List D → List D → Type 0
 AreOnlyTouched {D} told state disks afters = EachBeside (λ n (disk : D) after. IsOnlyTouched told state disk after) disks afters
 
--- the nodes began, and memory was refused in their rounds, or behind them as what they made was gathered, judged or told. Where the logs were coherent, and fewer than
--- 2^63 packets were put to each link, what is left lasts
+-- the nodes began, and memory was refused in their rounds, or behind them as what they made was gathered, judged or told. Where the logs were coherent, what is left
+-- lasts
 pub record RanOutOfMemoryOf {D : Type 0} (told : Type 0) (state : D → DiskState) (own size : D → ℕ) (seed : ℕ) (script : Script) (disks afters : List D) : Type 0 where
   pub ending : Result Ending RoundFault
   pub tells : Result (List SiteTold) NoMemory
   pub ran : HasRun told state own size script seed ending tells disks afters
-  pub lasts : told → AreCoherentDisks (map state disks) → FewWerePut ran.last.sites → AreLastingUntold state (opening_over ran.alloc script disks ran.first.sites) (length disks) ran.last.sites afters
+  pub lasts : told → AreCoherentDisks (map state disks) → AreLastingUntold state (opening_over ran.alloc script disks ran.first.sites) (length disks) ran.last.sites afters
 
 -- ---- one run behind another
 
--- the nodes ran, and the disks are coherent again where fewer than 2^63 packets were put to each link
-pub record RanCoherent {D : Type 0} (told : Type 0) (state : D → DiskState) (own size : D → ℕ) (seed : ℕ) (disks afters : List D) : Type 0 where
-  pub script : Script
-  pub ending : Result Ending RoundFault
-  pub tells : Result (List SiteTold) NoMemory
-  pub ran : HasRun told state own size script seed ending tells disks afters
-  pub coherent : FewWerePut ran.last.sites → AreCoherentDisks (map state afters)
-
--- disks that were coherent are so again: they were changed at most by the raise of a log, or the nodes ran
-abbrev pub StayCoherentOf : {D : Type 0} → Type 0 → (D → DiskState) → (D → ℕ) → (D → ℕ) → ℕ → List D → List D → Type 0
-StayCoherentOf told state own size seed disks afters = told → AreCoherentDisks (map state disks) → AreCoherentDisks (map state afters) ⊎ RanCoherent told state own size seed disks afters
+-- disks that were coherent are so again
+abbrev pub StayCoherentOf : {D : Type 0} → Type 0 → (D → DiskState) → List D → List D → Type 0
+StayCoherentOf told state disks afters = told → AreCoherentDisks (map state disks) → AreCoherentDisks (map state afters)

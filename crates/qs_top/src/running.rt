@@ -301,7 +301,7 @@ fn run_nodes<S: Source, K: Sink, D: Disk>(
     ensures built { IsOfRun result.status }
     ensures others { AreOthers nodes disks.old.items disks.new.items }
     ensures left { OfThese nodes (LeaveAll D.told D.state nodes result.status) disks.old.items disks.new.items }
-    ensures coherent { OfThese nodes (StayCoherentOf D.told D.state D.fault_count D.byte_count seed) disks.old.items disks.new.items }
+    ensures coherent { OfThese nodes (StayCoherentOf D.told D.state) disks.old.items disks.new.items }
 {
     let script = match script_for(alloc, source, nodes, shown) {
         Ok(script) => script,
@@ -462,10 +462,9 @@ pub fn run<R: Threads + Sync, S: Source, K: Sink, D: Disk>(
     ensures nodes_left { (nodes seed : ℕ) (shown : Shown) → asked_by (form_of words.now) ≡ Some (Asked.SerialNodes nodes seed shown)
         → OfThese nodes (LeaveAll D.told D.state nodes result.status) disks.old.items disks.new.items }
 
-    // And runs follow one another, whatever the status: where the logs were coherent they are so again, as long as fewer than 2^63 packets
-    // were put to each link.
+    // And runs follow one another, whatever the status: where the logs were coherent they are so again.
     ensures nodes_coherent { (nodes seed : ℕ) (shown : Shown) → asked_by (form_of words.now) ≡ Some (Asked.SerialNodes nodes seed shown)
-        → OfThese nodes (StayCoherentOf D.told D.state D.fault_count D.byte_count seed) disks.old.items disks.new.items }
+        → OfThese nodes (StayCoherentOf D.told D.state) disks.old.items disks.new.items }
 
     // Of a check: the text that was read is a history, and the verdict on it is what was given; no disk is opened.
     ensures unlawful { asked_by (form_of words.now) ≡ Some Asked.Check → (line clause : ℕ) → result.status ≡ Status.Unlawful line clause

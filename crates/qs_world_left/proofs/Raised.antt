@@ -84,17 +84,17 @@ each_raised stay told state own alloc script disks all t begun coherent =
 module _ {D : Type 0} (may : (o : Opening) → MayBegin o) (stay : (alloc : Global) (size : ℕ) (incs later : ℕ → ℕ) (logs : ℕ → List Record) → StayCoherent alloc size incs later logs)
     (told : Type 0) (state : D → DiskState) (own size : D → ℕ) (alloc : Global) (script : Script) (disks : List D) (all : SitesValue D) where
   pub each_rounds_follow : (rng : Lcg) (n : ℕ) (new : SitesValue D) (later : Lcg) → RoundsFollow told state own size alloc script disks rng n all new later
-  each_rounds_follow rng n new later t b rounds few =
-      each_rounds_leave may told state own size alloc script disks all rng n new later t b.begun b.once b.fits (each_raised stay told state own alloc script disks all t b.begun b.coherent) rounds few
+  each_rounds_follow rng n new later t b rounds =
+      each_rounds_leave may told state own size alloc script disks all rng n new later t b.begun b.once b.fits (each_raised stay told state own alloc script disks all t b.begun b.coherent) rounds
 
   pub each_ending_follows : (seed : ℕ) (new : SitesValue D) (ending : Ending) → EndingsFollow told state own size alloc script disks seed all new ending
-  each_ending_follows seed new ending t b is few =
-      each_ending_leaves may told state own size alloc script disks all seed new ending t b.begun b.once b.fits (each_raised stay told state own alloc script disks all t b.begun b.coherent) is few
+  each_ending_follows seed new ending t b is =
+      each_ending_leaves may told state own size alloc script disks all seed new ending t b.begun b.once b.fits (each_raised stay told state own alloc script disks all t b.begun b.coherent) is
 
   pub each_cut_follows : (seed : ℕ) (node : NodeNo) (new : SitesValue D) → CutShortFollows told state own size alloc script disks seed node all new
-  each_cut_follows seed node new t b is few =
-      each_cut_leaves may told state own size alloc script disks all seed node new t b.begun b.once b.fits (each_raised stay told state own alloc script disks all t b.begun b.coherent) is few
+  each_cut_follows seed node new t b is =
+      each_cut_leaves may told state own size alloc script disks all seed node new t b.begun b.once b.fits (each_raised stay told state own alloc script disks all t b.begun b.coherent) is
 
   pub each_refused_follows : (seed : ℕ) (new : SitesValue D) → RefusedFollows told state own size alloc script disks seed all new
-  each_refused_follows seed new t b is few =
-      each_refused_leaves may told state own size alloc script disks all seed new t b.begun b.once b.fits (each_raised stay told state own alloc script disks all t b.begun b.coherent) is few
+  each_refused_follows seed new t b is =
+      each_refused_leaves may told state own size alloc script disks all seed new t b.begun b.once b.fits (each_raised stay told state own alloc script disks all t b.begun b.coherent) is

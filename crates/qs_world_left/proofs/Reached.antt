@@ -12,7 +12,7 @@ use Rattle.qs_world_nodes.proofs.Opened.{each_opening}
 use Rattle.qs_world_nodes.proofs.Refused.{each_refused}
 use Rattle.qs_world_nodes.proofs.Rounds.{each_cut, each_ending, each_rounds}
 use Rattle.qs_world_nodes.specs.Lawful.{HaveCoherentLogs}
-use Rattle.qs_world_nodes.specs.Nodes.{AreCellsIn, AreSitesIn, FewWerePut, plans_of}
+use Rattle.qs_world_nodes.specs.Nodes.{AreCellsIn, AreSitesIn, plans_of}
 use Rattle.qs_world_nodes.specs.Openings.{SitOnce, opening_over}
 use Rattle.qs_world_opening.specs.Scripts.{Fits, MayBegin}
 use Rattle.qs_world_plans.specs.Order.{drawn_order, seeded}
@@ -52,9 +52,9 @@ module _ {D : Type 0} (may : (o : Opening) → MayBegin o) (told : Type 0) (stat
   pub cut_reaches : (seed : ℕ) (node : NodeNo) (new : SitesValue D) → IsCutShort told state own size seed node all new → AreReached told state alloc script disks all new
   cut_reaches seed node new is = record { opens = may_open; are = each_cut told state own size o (plans_of script) seed node all new t is first_in }
 
-  pub refused_leaves : (seed : ℕ) (new : SitesValue D) → IsOutOfMemory told state own size seed all new → FewWerePut new.sites → AreLeftThere told state alloc script disks all new
-  refused_leaves seed new out few = record {
+  pub refused_leaves : (seed : ℕ) (new : SitesValue D) → IsOutOfMemory told state own size seed all new → AreLeftThere told state alloc script disks all new
+  refused_leaves seed new out = record {
     opens = may_open;
     are = each_refused told state own size o (plans_of script) (drawn_order (count_of out.before) out.drawn).0 out.before new t out.refused
-        (each_rounds told state own size o (plans_of script) (seeded seed) out.rounds all out.before out.drawn t out.earlier first_in) few;
+        (each_rounds told state own size o (plans_of script) (seeded seed) out.rounds all out.before out.drawn t out.earlier first_in);
   }

@@ -24,7 +24,7 @@ use Rattle.qs_world_merge.specs.MergedRuns.{untimed}
 use Rattle.qs_world_merge.specs.Observed.{AreOfLocalRuns, IsOfOneRun, Observed}
 use Rattle.qs_world_nodes.proofs.Places.{found, low_of, same_some}
 use Rattle.qs_world_nodes.proofs.Keeping.{each_cells}
-use Rattle.qs_world_nodes.specs.Nodes.{AreCellsIn, FewWerePut, journal_at, journal_by, plans_of, trace_at, trace_by}
+use Rattle.qs_world_nodes.specs.Nodes.{AreCellsIn, journal_at, journal_by, plans_of, trace_at, trace_by}
 use Rattle.qs_world_nodes.specs.Openings.{opening_over}
 use Rattle.qs_world_opening.specs.Coherent.{AreCoherentLogs}
 use Rattle.qs_world_opening.specs.Scripts.{MayBegin}
@@ -90,7 +90,7 @@ pub each_cells_leave : {D : Type 0} (told : Type 0) (state : D → DiskState) (o
 each_cells_leave told state o plans sites t opens are alloc images left_are presents records show = chosen_coherent told state o plans sites t opens are images left_are presents records show alloc
 
 pub each_sites_leave : {D : Type 0} (told : Type 0) (state : D → DiskState) (o : Opening) (plans : ℕ → ℕ → List LinkFault) (sites : List (Cast D)) → SitesLeaveCoherent told state o plans sites
-each_sites_leave told state o plans sites t opens are few = each_cells_leave told state o plans sites t opens (each_cells told state o plans sites are few)
+each_sites_leave told state o plans sites t opens are = each_cells_leave told state o plans sites t opens (each_cells told state o plans sites are)
 
 -- each image has a log
 have_logs : {D : Type 0} (told : Type 0) (state : D → DiskState) (o : Opening) (sites : List (Cast D)) → told → ((n : ℕ) (a : Cast D) → slice_get sites n ≡ Some a → IsCellIn told state o n a.node.seat.node) → HaveLogs (disks_of state sites)
@@ -109,19 +109,19 @@ each_sites_have_logs told state o plans sites t are = have_logs told state o sit
 -- ---- of a run that has begun
 
 module _ {D : Type 0} (may : (o : Opening) → MayBegin o) (told : Type 0) (state : D → DiskState) (own size : D → ℕ) (alloc : Global) (script : Script) (disks : List D) (all : SitesValue D) where
-  leave : (new : SitesValue D) → told → AreReached told state alloc script disks all new → FewWerePut new.sites → LeaveCoherent state new.sites
-  leave new t reached few = each_sites_leave told state (opening_over alloc script disks all.sites) (plans_of script) new.sites t reached.opens reached.are few
+  leave : (new : SitesValue D) → told → AreReached told state alloc script disks all new → LeaveCoherent state new.sites
+  leave new t reached = each_sites_leave told state (opening_over alloc script disks all.sites) (plans_of script) new.sites t reached.opens reached.are
 
   pub each_rounds_leave : (rng : Lcg) (n : ℕ) (new : SitesValue D) (later : Lcg) → RoundsLeaveCoherent told state own size alloc script disks rng n all new later
-  each_rounds_leave rng n new later t begun once fits coherent rounds few = leave new t (rounds_reach may told state own size alloc script disks all t begun once fits coherent rng n new later rounds) few
+  each_rounds_leave rng n new later t begun once fits coherent rounds = leave new t (rounds_reach may told state own size alloc script disks all t begun once fits coherent rng n new later rounds)
 
   pub each_ending_leaves : (seed : ℕ) (new : SitesValue D) (ending : Ending) → EndingsLeaveCoherent told state own size alloc script disks seed all new ending
-  each_ending_leaves seed new ending t begun once fits coherent is few = leave new t (ending_reaches may told state own size alloc script disks all t begun once fits coherent seed new ending is) few
+  each_ending_leaves seed new ending t begun once fits coherent is = leave new t (ending_reaches may told state own size alloc script disks all t begun once fits coherent seed new ending is)
 
   pub each_cut_leaves : (seed : ℕ) (node : NodeNo) (new : SitesValue D) → CutShortLeavesCoherent told state own size alloc script disks seed node all new
-  each_cut_leaves seed node new t begun once fits coherent is few = leave new t (cut_reaches may told state own size alloc script disks all t begun once fits coherent seed node new is) few
+  each_cut_leaves seed node new t begun once fits coherent is = leave new t (cut_reaches may told state own size alloc script disks all t begun once fits coherent seed node new is)
 
   pub each_refused_leaves : (seed : ℕ) (new : SitesValue D) → RefusedLeavesCoherent told state own size alloc script disks seed all new
-  each_refused_leaves seed new t begun once fits coherent out few =
-      let left : AreLeftThere told state alloc script disks all new = refused_leaves may told state own size alloc script disks all t begun once fits coherent seed new out few in
+  each_refused_leaves seed new t begun once fits coherent out =
+      let left : AreLeftThere told state alloc script disks all new = refused_leaves may told state own size alloc script disks all t begun once fits coherent seed new out in
       each_cells_leave told state (opening_over alloc script disks all.sites) (plans_of script) new.sites t left.opens left.are

@@ -36,7 +36,7 @@ use Rattle.qs_world_merge.specs.Observed.{AreOfLocalRuns, IsOfOneRun, Observed, 
 use Rattle.qs_world_merge.specs.SameAt.{SameAt}
 use Rattle.qs_world_nodes.proofs.Places.{found, same_some}
 use Rattle.qs_world_nodes.proofs.Keeping.{each_cells}
-use Rattle.qs_world_nodes.specs.Nodes.{AreCellsIn, FewWerePut, journal_at, journal_by, plans_of, trace_at, trace_by}
+use Rattle.qs_world_nodes.specs.Nodes.{AreCellsIn, journal_at, journal_by, plans_of, trace_at, trace_by}
 use Rattle.qs_world_nodes.specs.Openings.{opening_over}
 use Rattle.qs_world_opening.proofs.Tests.{parts}
 use Rattle.qs_world_opening.specs.Scripts.{MayBegin}
@@ -144,28 +144,28 @@ each_cells_stand told state o plans sites journal t opens are early entries k di
     low is = omega (arith, is, length-map sites (disk_state state), are.count)
 
 pub each_sites_stand : {D : Type 0} (told : Type 0) (state : D → DiskState) (o : Opening) (plans : ℕ → ℕ → List LinkFault) (sites : List (Cast D)) (journal : List Entry) → SitesLeaveStanding told state o plans sites journal
-each_sites_stand told state o plans sites journal t opens are few early entries = each_cells_stand told state o plans sites journal t opens (each_cells told state o plans sites are few) early entries
+each_sites_stand told state o plans sites journal t opens are early entries = each_cells_stand told state o plans sites journal t opens (each_cells told state o plans sites are) early entries
 
 -- ---- of a run that has begun
 
 module _ {D : Type 0} (may : (o : Opening) → MayBegin o) (told : Type 0) (state : D → DiskState) (own size : D → ℕ) (alloc : Global) (script : Script) (disks : List D) (all : SitesValue D) where
-  stand : (new : SitesValue D) (journal : List Entry) → told → AreReached told state alloc script disks all new → FewWerePut new.sites → HaveStampsLeft new.sites → IsTold (length disks) journal new.sites
+  stand : (new : SitesValue D) (journal : List Entry) → told → AreReached told state alloc script disks all new → HaveStampsLeft new.sites → IsTold (length disks) journal new.sites
       → StandFor state (opening_over alloc script disks all.sites) journal new.sites
-  stand new journal t reached few early entries = each_sites_stand told state (opening_over alloc script disks all.sites) (plans_of script) new.sites journal t reached.opens reached.are few early entries
+  stand new journal t reached early entries = each_sites_stand told state (opening_over alloc script disks all.sites) (plans_of script) new.sites journal t reached.opens reached.are early entries
 
   pub each_rounds_stand : (rng : Lcg) (n : ℕ) (new : SitesValue D) (later : Lcg) (journal : List Entry) → RoundsLeaveStanding told state own size alloc script disks rng n all new later journal
-  each_rounds_stand rng n new later journal t begun once fits coherent rounds few early entries =
-      stand new journal t (rounds_reach may told state own size alloc script disks all t begun once fits coherent rng n new later rounds) few early entries
+  each_rounds_stand rng n new later journal t begun once fits coherent rounds early entries =
+      stand new journal t (rounds_reach may told state own size alloc script disks all t begun once fits coherent rng n new later rounds) early entries
 
   pub each_ending_stands : (seed : ℕ) (new : SitesValue D) (ending : Ending) (journal : List Entry) → EndingsLeaveStanding told state own size alloc script disks seed all new ending journal
-  each_ending_stands seed new ending journal t begun once fits coherent is few early entries =
-      stand new journal t (ending_reaches may told state own size alloc script disks all t begun once fits coherent seed new ending is) few early entries
+  each_ending_stands seed new ending journal t begun once fits coherent is early entries =
+      stand new journal t (ending_reaches may told state own size alloc script disks all t begun once fits coherent seed new ending is) early entries
 
   pub each_cut_stands : (seed : ℕ) (node : NodeNo) (new : SitesValue D) (journal : List Entry) → CutShortLeavesStanding told state own size alloc script disks seed node all new journal
-  each_cut_stands seed node new journal t begun once fits coherent is few early entries =
-      stand new journal t (cut_reaches may told state own size alloc script disks all t begun once fits coherent seed node new is) few early entries
+  each_cut_stands seed node new journal t begun once fits coherent is early entries =
+      stand new journal t (cut_reaches may told state own size alloc script disks all t begun once fits coherent seed node new is) early entries
 
   pub each_refused_stands : (seed : ℕ) (new : SitesValue D) (journal : List Entry) → RefusedLeavesStanding told state own size alloc script disks seed all new journal
-  each_refused_stands seed new journal t begun once fits coherent out few early entries =
-      let left : AreLeftThere told state alloc script disks all new = refused_leaves may told state own size alloc script disks all t begun once fits coherent seed new out few in
+  each_refused_stands seed new journal t begun once fits coherent out early entries =
+      let left : AreLeftThere told state alloc script disks all new = refused_leaves may told state own size alloc script disks all t begun once fits coherent seed new out in
       each_cells_stand told state (opening_over alloc script disks all.sites) (plans_of script) new.sites journal t left.opens left.are early entries

@@ -9,7 +9,7 @@ use Rattle.qs_world.specs.Openings.{IsOpening}
 use Rattle.qs_world.specs.World.{Opening}
 use Rattle.qs_world_left.specs.Disks.{AreCoherentDisks, AreCoherentImages, HaveLogs, LeaveCoherent, content_at, disks_of}
 use Rattle.qs_world_nodes.specs.Lawful.{HaveCoherentLogs}
-use Rattle.qs_world_nodes.specs.Nodes.{AreCellsIn, AreSitesIn, FewWerePut}
+use Rattle.qs_world_nodes.specs.Nodes.{AreCellsIn, AreSitesIn}
 use Rattle.qs_world_nodes.specs.Openings.{SitOnce}
 use Rattle.qs_world_opening.specs.Scripts.{Fits}
 use Rattle.qs_world_rounds.specs.Rounds.{Cast}
@@ -22,9 +22,9 @@ use Rattle.rand_pcg.specs.Lcg.{Lcg}
 
 -- ---- sites in the world, over disks that tell what is on them
 
--- each link got fewer than 2^63 packets, as its end can count
+-- whether their nodes are up or down
 abbrev pub SitesLeaveCoherent : {D : Type 0} → Type 0 → (D → DiskState) → Opening → (ℕ → ℕ → List LinkFault) → List (Cast D) → Type 0
-SitesLeaveCoherent told state o plans sites = told → IsOpening o → AreSitesIn told state o plans sites → FewWerePut sites → LeaveCoherent state sites
+SitesLeaveCoherent told state o plans sites = told → IsOpening o → AreSitesIn told state o plans sites → LeaveCoherent state sites
 
 -- each image has a log
 abbrev pub SitesLeaveLogs : {D : Type 0} → Type 0 → (D → DiskState) → Opening → (ℕ → ℕ → List LinkFault) → List (Cast D) → Type 0
@@ -42,25 +42,25 @@ CellsLeaveLogs told state o plans sites = told → AreCellsIn told state o plans
 -- after any rounds
 abbrev pub RoundsLeaveCoherent : {D : Type 0} → Type 0 → (D → DiskState) → (D → ℕ) → (D → ℕ) → Global → Script → List D → Lcg → ℕ → SitesValue D → SitesValue D → Lcg → Type 0
 RoundsLeaveCoherent told state own size alloc script disks rng n all new later =
-    told → HasBegun told state own alloc script disks all → SitOnce script.seats → Fits (length disks) script → HaveCoherentLogs alloc disks all.sites → Rounds told state own size rng n all new later → FewWerePut new.sites
+    told → HasBegun told state own alloc script disks all → SitOnce script.seats → Fits (length disks) script → HaveCoherentLogs alloc disks all.sites → Rounds told state own size rng n all new later
     → LeaveCoherent state new.sites
 
 -- as the rounds of such a run end
 abbrev pub EndingsLeaveCoherent : {D : Type 0} → Type 0 → (D → DiskState) → (D → ℕ) → (D → ℕ) → Global → Script → List D → ℕ → SitesValue D → SitesValue D → Ending → Type 0
 EndingsLeaveCoherent told state own size alloc script disks seed all new ending =
-    told → HasBegun told state own alloc script disks all → SitOnce script.seats → Fits (length disks) script → HaveCoherentLogs alloc disks all.sites → IsEnding told state own size script seed all new ending → FewWerePut new.sites
+    told → HasBegun told state own alloc script disks all → SitOnce script.seats → Fits (length disks) script → HaveCoherentLogs alloc disks all.sites → IsEnding told state own size script seed all new ending
     → LeaveCoherent state new.sites
 
 -- and where one was cut short
 abbrev pub CutShortLeavesCoherent : {D : Type 0} → Type 0 → (D → DiskState) → (D → ℕ) → (D → ℕ) → Global → Script → List D → ℕ → NodeNo → SitesValue D → SitesValue D → Type 0
 CutShortLeavesCoherent told state own size alloc script disks seed node all new =
-    told → HasBegun told state own alloc script disks all → SitOnce script.seats → Fits (length disks) script → HaveCoherentLogs alloc disks all.sites → IsCutShort told state own size seed node all new → FewWerePut new.sites
+    told → HasBegun told state own alloc script disks all → SitOnce script.seats → Fits (length disks) script → HaveCoherentLogs alloc disks all.sites → IsCutShort told state own size seed node all new
     → LeaveCoherent state new.sites
 
 -- and where memory was refused in a round, in whichever visit and within whichever step
 abbrev pub RefusedLeavesCoherent : {D : Type 0} → Type 0 → (D → DiskState) → (D → ℕ) → (D → ℕ) → Global → Script → List D → ℕ → SitesValue D → SitesValue D → Type 0
 RefusedLeavesCoherent told state own size alloc script disks seed all new =
-    told → HasBegun told state own alloc script disks all → SitOnce script.seats → Fits (length disks) script → HaveCoherentLogs alloc disks all.sites → IsOutOfMemory told state own size seed all new → FewWerePut new.sites
+    told → HasBegun told state own alloc script disks all → SitOnce script.seats → Fits (length disks) script → HaveCoherentLogs alloc disks all.sites → IsOutOfMemory told state own size seed all new
     → LeaveCoherent state new.sites
 
 -- ---- as it begins
@@ -92,16 +92,16 @@ pub record BeginsCoherent {D : Type 0} (told : Type 0) (state : D → DiskState)
 
 abbrev pub RoundsFollow : {D : Type 0} → Type 0 → (D → DiskState) → (D → ℕ) → (D → ℕ) → Global → Script → List D → Lcg → ℕ → SitesValue D → SitesValue D → Lcg → Type 0
 RoundsFollow told state own size alloc script disks rng n all new later =
-    told → BeginsCoherent told state own alloc script disks all → Rounds told state own size rng n all new later → FewWerePut new.sites → LeaveCoherent state new.sites
+    told → BeginsCoherent told state own alloc script disks all → Rounds told state own size rng n all new later → LeaveCoherent state new.sites
 
 abbrev pub EndingsFollow : {D : Type 0} → Type 0 → (D → DiskState) → (D → ℕ) → (D → ℕ) → Global → Script → List D → ℕ → SitesValue D → SitesValue D → Ending → Type 0
 EndingsFollow told state own size alloc script disks seed all new ending =
-    told → BeginsCoherent told state own alloc script disks all → IsEnding told state own size script seed all new ending → FewWerePut new.sites → LeaveCoherent state new.sites
+    told → BeginsCoherent told state own alloc script disks all → IsEnding told state own size script seed all new ending → LeaveCoherent state new.sites
 
 abbrev pub CutShortFollows : {D : Type 0} → Type 0 → (D → DiskState) → (D → ℕ) → (D → ℕ) → Global → Script → List D → ℕ → NodeNo → SitesValue D → SitesValue D → Type 0
 CutShortFollows told state own size alloc script disks seed node all new =
-    told → BeginsCoherent told state own alloc script disks all → IsCutShort told state own size seed node all new → FewWerePut new.sites → LeaveCoherent state new.sites
+    told → BeginsCoherent told state own alloc script disks all → IsCutShort told state own size seed node all new → LeaveCoherent state new.sites
 
 abbrev pub RefusedFollows : {D : Type 0} → Type 0 → (D → DiskState) → (D → ℕ) → (D → ℕ) → Global → Script → List D → ℕ → SitesValue D → SitesValue D → Type 0
 RefusedFollows told state own size alloc script disks seed all new =
-    told → BeginsCoherent told state own alloc script disks all → IsOutOfMemory told state own size seed all new → FewWerePut new.sites → LeaveCoherent state new.sites
+    told → BeginsCoherent told state own alloc script disks all → IsOutOfMemory told state own size seed all new → LeaveCoherent state new.sites

@@ -29,7 +29,7 @@ use Rattle.qs_world_lawful.specs.Said.{HoldsSaid, SameContents}
 use Rattle.qs_world_left.specs.Disks.{disks_of}
 use Rattle.qs_world_merge.specs.Observed.{journals_of}
 use Rattle.qs_world_nodes.specs.Lawful.{HaveCoherentLogs}
-use Rattle.qs_world_nodes.specs.Nodes.{AreCellsIn, AreSitesIn, FewWerePut, journal_at, trace_at}
+use Rattle.qs_world_nodes.specs.Nodes.{AreCellsIn, AreSitesIn, journal_at, trace_at}
 use Rattle.qs_world_nodes.specs.Openings.{SitOnce, opening_over}
 use Rattle.qs_world_opening.specs.Scripts.{Fits}
 use Rattle.qs_world_packets.specs.PacketMoves.{Move, is_in_order}
@@ -112,7 +112,7 @@ StandFor state o journal sites = DisksStandFor (book_after (book_of o) journal) 
 -- the disks of sites in the world stand for the machine after that
 abbrev pub SitesLeaveStanding : {D : Type 0} → Type 0 → (D → DiskState) → Opening → (ℕ → ℕ → List LinkFault) → List (Cast D) → List Entry → Type 0
 SitesLeaveStanding told state o plans sites journal =
-    told → IsOpening o → AreSitesIn told state o plans sites → FewWerePut sites → HaveStampsLeft sites → IsTold o.size journal sites → StandFor state o journal sites
+    told → IsOpening o → AreSitesIn told state o plans sites → HaveStampsLeft sites → IsTold o.size journal sites → StandFor state o journal sites
 
 -- and so where their cells alone are known to be there, whose links keep their plans
 abbrev pub CellsLeaveStanding : {D : Type 0} → Type 0 → (D → DiskState) → Opening → (ℕ → ℕ → List LinkFault) → List (Cast D) → List Entry → Type 0
@@ -122,23 +122,23 @@ CellsLeaveStanding told state o plans sites journal =
 -- and so do those of a run that has begun with a script that fits over coherent logs: after any rounds
 abbrev pub RoundsLeaveStanding : {D : Type 0} → Type 0 → (D → DiskState) → (D → ℕ) → (D → ℕ) → Global → Script → List D → Lcg → ℕ → SitesValue D → SitesValue D → Lcg → List Entry → Type 0
 RoundsLeaveStanding told state own size alloc script disks rng n all new later journal =
-    told → HasBegun told state own alloc script disks all → SitOnce script.seats → Fits (length disks) script → HaveCoherentLogs alloc disks all.sites → Rounds told state own size rng n all new later → FewWerePut new.sites → HaveStampsLeft new.sites
+    told → HasBegun told state own alloc script disks all → SitOnce script.seats → Fits (length disks) script → HaveCoherentLogs alloc disks all.sites → Rounds told state own size rng n all new later → HaveStampsLeft new.sites
     → IsTold (length disks) journal new.sites → StandFor state (opening_over alloc script disks all.sites) journal new.sites
 
 -- as the rounds end
 abbrev pub EndingsLeaveStanding : {D : Type 0} → Type 0 → (D → DiskState) → (D → ℕ) → (D → ℕ) → Global → Script → List D → ℕ → SitesValue D → SitesValue D → Ending → List Entry → Type 0
 EndingsLeaveStanding told state own size alloc script disks seed all new ending journal =
-    told → HasBegun told state own alloc script disks all → SitOnce script.seats → Fits (length disks) script → HaveCoherentLogs alloc disks all.sites → IsEnding told state own size script seed all new ending → FewWerePut new.sites → HaveStampsLeft new.sites
+    told → HasBegun told state own alloc script disks all → SitOnce script.seats → Fits (length disks) script → HaveCoherentLogs alloc disks all.sites → IsEnding told state own size script seed all new ending → HaveStampsLeft new.sites
     → IsTold (length disks) journal new.sites → StandFor state (opening_over alloc script disks all.sites) journal new.sites
 
 -- and where one was cut short
 abbrev pub CutShortLeavesStanding : {D : Type 0} → Type 0 → (D → DiskState) → (D → ℕ) → (D → ℕ) → Global → Script → List D → ℕ → NodeNo → SitesValue D → SitesValue D → List Entry → Type 0
 CutShortLeavesStanding told state own size alloc script disks seed node all new journal =
-    told → HasBegun told state own alloc script disks all → SitOnce script.seats → Fits (length disks) script → HaveCoherentLogs alloc disks all.sites → IsCutShort told state own size seed node all new → FewWerePut new.sites → HaveStampsLeft new.sites
+    told → HasBegun told state own alloc script disks all → SitOnce script.seats → Fits (length disks) script → HaveCoherentLogs alloc disks all.sites → IsCutShort told state own size seed node all new → HaveStampsLeft new.sites
     → IsTold (length disks) journal new.sites → StandFor state (opening_over alloc script disks all.sites) journal new.sites
 
 -- and where memory was refused: the history is all that the cells would tell, and in it the node stopped, with or without its last step
 abbrev pub RefusedLeavesStanding : {D : Type 0} → Type 0 → (D → DiskState) → (D → ℕ) → (D → ℕ) → Global → Script → List D → ℕ → SitesValue D → SitesValue D → List Entry → Type 0
 RefusedLeavesStanding told state own size alloc script disks seed all new journal =
-    told → HasBegun told state own alloc script disks all → SitOnce script.seats → Fits (length disks) script → HaveCoherentLogs alloc disks all.sites → IsOutOfMemory told state own size seed all new → FewWerePut new.sites → HaveStampsLeft new.sites
+    told → HasBegun told state own alloc script disks all → SitOnce script.seats → Fits (length disks) script → HaveCoherentLogs alloc disks all.sites → IsOutOfMemory told state own size seed all new → HaveStampsLeft new.sites
     → IsTold (length disks) journal new.sites → StandFor state (opening_over alloc script disks all.sites) journal new.sites

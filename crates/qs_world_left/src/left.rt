@@ -16,7 +16,7 @@ use qs_world_opening::{logs_stay_coherent, what_fits_may_begin};
 
 /// Sites in a world that a run may begin with leave their disks coherent, whether their nodes are up or down: whichever image a power cut leaves of each, the
 /// logs of these images stand together, and another run may begin over them; and each image has a log. So they do after any rounds of a run that has begun with a script that fits
-/// over coherent logs, as the rounds end, and where one is cut short as a disk fails. Each link got fewer than 2^63 packets, as its end can count.
+/// over coherent logs, as the rounds end, and where one is cut short as a disk fails.
 pub fn runs_leave_coherent_disks<D: Disk>()
     ensures sites { (o : Opening) (plans : ℕ → ℕ → List LinkFault) (sites : List (Cast D)) → SitesLeaveCoherent D.told D.state o plans sites }
     ensures logs { (o : Opening) (plans : ℕ → ℕ → List LinkFault) (sites : List (Cast D)) → SitesLeaveLogs D.told D.state o plans sites }

@@ -9,13 +9,11 @@ use Rattle.qs_cell.specs.declared.state.CellState.{CellState}
 use Rattle.qs_cell_peers.proofs.Places.{is_peer_from}
 use Rattle.qs_cell_peers.specs.Links.{IsSameNode, LinksValue, into_of, is_peer_of, out_of}
 use Rattle.qs_link.specs.declared.outgoing.LinkFault.{LinkFault}
-use Rattle.qs_node_step.specs.declared.trace.Step.{Step}
 use Rattle.qs_world_links.proofs.Hearing.{peer_there, post_of_node}
 use Rattle.qs_world_links.proofs.Linking.{each_link_is_carried}
-use Rattle.qs_world_links.specs.Between.{AreFew, IsLinkOf}
-use Rattle.qs_world_links.specs.Everywhere.{LinksAreTold, FewWerePut, HasCarriedLink, ToldAsAllCarried, ToldAsCarried, ToldAsSame}
+use Rattle.qs_world_links.specs.Between.{IsLinkOf}
+use Rattle.qs_world_links.specs.Everywhere.{LinksAreTold, HasCarriedLink, ToldAsAllCarried, ToldAsCarried, ToldAsSame}
 use Rattle.qs_world_links.specs.Posts.{IsOfNode, IsPostOf, trace_in}
-use Rattle.qs_world_traces.specs.Links.{put_to}
 use Rattle.qs_world_links.proofs.Linked.{link_same}
 
 -- the same node, with the same trace
@@ -23,17 +21,13 @@ same_trace : {D : Type 0} (old new : Post D) → new.seat.node ≡ old.seat.node
 same_trace old new same = ap (λ (s : CellState _). steps_in s) same
 
 module _ {D : Type 0} (nodes : ℕ) (plans : ℕ → ℕ → List LinkFault) (old new : ℕ → Post D) where
-  -- where no trace changed, no more was put
-  few_still : ((j : ℕ) → j < nodes → trace_in (new j) ≡ trace_in (old j)) → FewWerePut nodes new → FewWerePut nodes old
-  few_still traces few m n low_m low_n other = subst (λ (l : List Step). AreFew (put_to n l)) (traces m low_m) (few m n low_m low_n other)
-
   pub each_same : ToldAsSame nodes plans old new
   each_same same linked = record {
     of = λ n low. post_of_node nodes n (old n) (new n) (linked.of n low) (record { size = ap (λ (l : LinksValue). l.size) (same n low).1; me = ap (λ (l : LinksValue). l.me) (same n low).1 })
         (subst (λ (s : CellState D). IsOfNode nodes n s) (sym (same n low).0) (linked.of n low).node);
-    links = λ few m n low_m low_n other. link_same (plans m n) m n (trace_in (old m)) (trace_in (new m)) (trace_in (old n)) (trace_in (new n)) (out_of (old m).links n) (out_of (new m).links n) (into_of (old n).links m) (into_of (new n).links m)
+    links = λ m n low_m low_n other. link_same (plans m n) m n (trace_in (old m)) (trace_in (new m)) (trace_in (old n)) (trace_in (new n)) (out_of (old m).links n) (out_of (new m).links n) (into_of (old n).links m) (into_of (new n).links m)
         (traces m low_m) (traces n low_n) (ap (λ (l : LinksValue). out_of l n) (same m low_m).1) (ap (λ (l : LinksValue). into_of l m) (same n low_n).1)
-        (linked.links (few_still traces few) m n low_m low_n other);
+        (linked.links m n low_m low_n other);
   }
     where
       traces : (j : ℕ) → j < nodes → trace_in (new j) ≡ trace_in (old j)
@@ -44,10 +38,10 @@ module _ {D : Type 0} (nodes : ℕ) (plans : ℕ → ℕ → List LinkFault) (ol
   pub each_all_carried : ToldAsAllCarried nodes plans old new
   each_all_carried c linked = record {
     of = λ n low. post_of_node nodes n (old n) (new n) (linked.of n low) (c.same n low).1 (subst (λ (s : CellState D). IsOfNode nodes n s) (sym (c.same n low).0) (linked.of n low).node);
-    links = λ few m n low_m low_n other. link_same (plans m n) m n (trace_in (old m)) (trace_in (new m)) (trace_in (old n)) (trace_in (new n)) (out_of (new m).links n) (out_of (new m).links n) (into_of (new n).links m) (into_of (new n).links m)
+    links = λ m n low_m low_n other. link_same (plans m n) m n (trace_in (old m)) (trace_in (new m)) (trace_in (old n)) (trace_in (new n)) (out_of (new m).links n) (out_of (new m).links n) (into_of (new n).links m) (into_of (new n).links m)
         (traces m low_m) (traces n low_n) refl refl
         (each_link_is_carried (plans m n) m n (trace_in (old m)) (trace_in (old n)) (c.each m n low_m low_n other).result (out_of (old m).links n) (out_of (new m).links n) (into_of (old n).links m) (into_of (new n).links m)
-        (c.each m n low_m low_n other).carried (linked.links (few_still traces few) m n low_m low_n other));
+        (c.each m n low_m low_n other).carried (linked.links m n low_m low_n other));
   }
     where
       traces : (j : ℕ) → j < nodes → trace_in (new j) ≡ trace_in (old j)
@@ -96,27 +90,26 @@ module _ {D : Type 0} (nodes : ℕ) (plans : ℕ → ℕ → List LinkFault) (ol
         (λ h low other_m other_n k_other free. ap (λ (p : Post D). into_of p.links k) (c.others h low other_m other_n))
         j low_j other not_it
 
-    module _ (few : FewWerePut nodes new) where
-      -- the link itself
-      it : IsLinkOf (plans m n) m n (trace_in (new m)) (trace_in (new n)) (out_of (new m).links n) (into_of (new n).links m)
-      it = link_same (plans m n) m n (trace_in (old m)) (trace_in (new m)) (trace_in (old n)) (trace_in (new n)) (out_of (new m).links n) (out_of (new m).links n) (into_of (new n).links m) (into_of (new n).links m)
-          (traces m low_m) (traces n low_n) refl refl
-          (each_link_is_carried (plans m n) m n (trace_in (old m)) (trace_in (old n)) result (out_of (old m).links n) (out_of (new m).links n) (into_of (old n).links m) (into_of (new n).links m) c.carried
-          (linked.links (few_still traces few) m n low_m low_n apart))
+    -- the link itself
+    it : IsLinkOf (plans m n) m n (trace_in (new m)) (trace_in (new n)) (out_of (new m).links n) (into_of (new n).links m)
+    it = link_same (plans m n) m n (trace_in (old m)) (trace_in (new m)) (trace_in (old n)) (trace_in (new n)) (out_of (new m).links n) (out_of (new m).links n) (into_of (new n).links m) (into_of (new n).links m)
+        (traces m low_m) (traces n low_n) refl refl
+        (each_link_is_carried (plans m n) m n (trace_in (old m)) (trace_in (old n)) result (out_of (old m).links n) (out_of (new m).links n) (into_of (old n).links m) (into_of (new n).links m) c.carried
+        (linked.links m n low_m low_n apart))
 
-      other_link : (a b : ℕ) → a < nodes → b < nodes → a ≢ b → (a ≡ m → b ≢ n) → IsLinkOf (plans a b) a b (trace_in (new a)) (trace_in (new b)) (out_of (new a).links b) (into_of (new b).links a)
-      other_link a b low_a low_b other not_it = link_same (plans a b) a b (trace_in (old a)) (trace_in (new a)) (trace_in (old b)) (trace_in (new b)) (out_of (old a).links b) (out_of (new a).links b) (into_of (old b).links a) (into_of (new b).links a)
-          (traces a low_a) (traces b low_b) (out_same a b low_a low_b other not_it) (into_same b a low_b low_a (λ same. other (sym same)) (λ is_n is_m. not_it is_m is_n))
-          (linked.links (few_still traces few) a b low_a low_b other)
+    other_link : (a b : ℕ) → a < nodes → b < nodes → a ≢ b → (a ≡ m → b ≢ n) → IsLinkOf (plans a b) a b (trace_in (new a)) (trace_in (new b)) (out_of (new a).links b) (into_of (new b).links a)
+    other_link a b low_a low_b other not_it = link_same (plans a b) a b (trace_in (old a)) (trace_in (new a)) (trace_in (old b)) (trace_in (new b)) (out_of (old a).links b) (out_of (new a).links b) (into_of (old b).links a) (into_of (new b).links a)
+        (traces a low_a) (traces b low_b) (out_same a b low_a low_b other not_it) (into_same b a low_b low_a (λ same. other (sym same)) (λ is_n is_m. not_it is_m is_n))
+        (linked.links a b low_a low_b other)
 
-      each_link : (a b : ℕ) → a < nodes → b < nodes → a ≢ b → IsLinkOf (plans a b) a b (trace_in (new a)) (trace_in (new b)) (out_of (new a).links b) (into_of (new b).links a)
-      each_link a b low_a low_b other = by (a == m) refl (b == n) refl
-        where
-          by : (x : Bool) → (a == m) ≡ x → (y : Bool) → (b == n) ≡ y → IsLinkOf (plans a b) a b (trace_in (new a)) (trace_in (new b)) (out_of (new a).links b) (into_of (new b).links a)
-          by true is true also = subst (λ (h : ℕ). IsLinkOf (plans h b) h b (trace_in (new h)) (trace_in (new b)) (out_of (new h).links b) (into_of (new b).links h)) (sym (eqb-true a m is))
-              (subst (λ (h : ℕ). IsLinkOf (plans m h) m h (trace_in (new m)) (trace_in (new h)) (out_of (new m).links h) (into_of (new h).links m)) (sym (eqb-true b n also)) it)
-          by true is false also = other_link a b low_a low_b other (λ same. eqb-false b n also)
-          by false is y also = other_link a b low_a low_b other (λ same. absurd (eqb-false a m is same))
+    each_link : (a b : ℕ) → a < nodes → b < nodes → a ≢ b → IsLinkOf (plans a b) a b (trace_in (new a)) (trace_in (new b)) (out_of (new a).links b) (into_of (new b).links a)
+    each_link a b low_a low_b other = by (a == m) refl (b == n) refl
+      where
+        by : (x : Bool) → (a == m) ≡ x → (y : Bool) → (b == n) ≡ y → IsLinkOf (plans a b) a b (trace_in (new a)) (trace_in (new b)) (out_of (new a).links b) (into_of (new b).links a)
+        by true is true also = subst (λ (h : ℕ). IsLinkOf (plans h b) h b (trace_in (new h)) (trace_in (new b)) (out_of (new h).links b) (into_of (new b).links h)) (sym (eqb-true a m is))
+            (subst (λ (h : ℕ). IsLinkOf (plans m h) m h (trace_in (new m)) (trace_in (new h)) (out_of (new m).links h) (into_of (new h).links m)) (sym (eqb-true b n also)) it)
+        by true is false also = other_link a b low_a low_b other (λ same. eqb-false b n also)
+        by false is y also = other_link a b low_a low_b other (λ same. absurd (eqb-false a m is same))
 
   pub each_carried : (m n : ℕ) (result : Result ℕ NoMemory) → ToldAsCarried nodes plans m n result old new
   each_carried m n result low_m low_n apart c linked = record { of = of_each m n result low_m low_n apart c linked; links = each_link m n result low_m low_n apart c linked }

@@ -1,9 +1,8 @@
 -- The link from one node to another, as one of the two goes on, and what it tells.
-use Rattle.std.proofs.Common.{◌≡◌, ℕ, ◌+◌, ◌<◌, true, List, [], ◌∷◌, ◌++◌, length, refl, sym, ap, subst, ◌∙◌, append_assoc, append-nil, arith, length-append}
-use Rattle.std.specs.Prelude.{All, ◌^◌, not}
+use Rattle.std.proofs.Common.{◌≡◌, ℕ, ◌+◌, true, List, [], ◌∷◌, ◌++◌, length, refl, sym, ap, subst, ◌∙◌, append_assoc, append-nil}
+use Rattle.std.specs.Prelude.{All}
 use Rattle.std.specs.List.{filter, flat_map}
 use Rattle.std.proofs.lemmas.Bool.{eqb-true}
-use Rattle.std.proofs.lemmas.List.Filters.{length-filter_both}
 use Rattle.std.proofs.lemmas.List.Concat.{flat_map-append}
 use Rattle.std.proofs.lemmas.List.Elements.{All-append, All-cons, All-filter, All-head, All-nil, All-same, All-tail, filter-append, filter_passes}
 use Rattle.qs_cell_peers.specs.Peers.{is_to}
@@ -18,7 +17,7 @@ use Rattle.qs_node_step.specs.declared.trace.Step.{Step}
 use Rattle.qs_packet.specs.declared.packet.Packet.{Packet}
 use Rattle.qs_world_traces.specs.Links.{is_from, put_to, puts_of, takes_of, took_from}
 use Rattle.qs_world_links.proofs.Ends.{all_behind, fifo_fed, none_drawn, none_put}
-use Rattle.qs_world_links.specs.Between.{AreFew, EachIsOfFew, EachLinkBegins, EachLinkGoesOn, EachLinkIsCarried, EachLinkIsNamed, EachLinkKeepsPlan, Goes, IsFrom, IsLinkOf}
+use Rattle.qs_world_links.specs.Between.{EachLinkBegins, EachLinkGoesOn, EachLinkIsCarried, EachLinkIsNamed, EachLinkKeepsPlan, Goes, IsFrom, IsLinkOf}
 
 -- ---- what two parts of a trace put and took
 
@@ -36,57 +35,44 @@ goes_out_more plan before (x ∷ xs) ys =
     let first : List Packet = own (fate plan (length before + 1)) x ++ due (length before + 1) (held_of plan 0 before) in
     (it.0, append_assoc first (goes_out plan (before ++ x ∷ []) xs) it.0 ∙ ap (λ (l : List Packet). first ++ l) it.1)
 
-few_both : (n : ℕ) (before steps : List Step) → AreFew (put_to n (before ++ steps)) → length (put_to n before) + length (put_to n steps) < 2 ^ 63
-few_both n before steps few = omega (arith, few, ap length (put_to_more n before steps), length-append (put_to n before) (put_to n steps))
-
-pub few_before : (n : ℕ) (before steps : List Step) → AreFew (put_to n (before ++ steps)) → AreFew (put_to n before)
-few_before n before steps few = omega (arith, few_both n before steps few)
-
-pub each_is_of_few : EachIsOfFew
-each_is_of_few n trace few = omega (arith, few, length-filter_both (is_to n) (λ p. not (is_to n p)) (λ p. refl) (flat_map puts_of trace))
-
 -- ---- it goes on
 
 pub each_link_goes_on : EachLinkGoesOn
-each_link_goes_on plan m n sender steps receiver more o p i j link from put drawn fifo few = record {
+each_link_goes_on plan m n sender steps receiver more o p i j link from put drawn fifo = record {
   by_plan = gone.plan ∙ link.by_plan;
   is_plan = link.is_plan;
   fifo = fifo;
   from = All-same (IsFrom m) (put_to n (sender ++ steps)) (put_to n sender ++ put_to n steps) (put_to_more n sender steps) (All-append (IsFrom m) (put_to n sender) (put_to n steps) link.from from);
   is = subst (λ (l : List Packet). IsLink l (took_from m (receiver ++ more)) p j) (sym (put_to_more n sender steps))
       (subst (λ (l : List Packet). IsLink (put_to n sender ++ put_to n steps) l p j) (sym (took_from_more m receiver more))
-      (goes_on (put_to n sender) (took_from m receiver) (put_to n steps) (took_from m more) o p i j holds low link.is link.fifo fifo put drawn));
+      (goes_on (put_to n sender) (took_from m receiver) (put_to n steps) (took_from m more) o p i j holds link.is link.fifo fifo put drawn));
 }
   where
     holds : HoldsSome o.plan
     holds = subst HoldsSome (sym link.by_plan) link.is_plan.held
 
-    low : length (put_to n sender) + length (put_to n steps) < 2 ^ 63
-    low = few_both n sender steps few
-
     gone : Gone (put_to n sender) (put_to n steps) o p
-    gone = put_all (put_to n steps) (put_to n sender) o p holds low link.is.has put
+    gone = put_all (put_to n steps) (put_to n sender) o p holds link.is.has put
 
 module _ (plan : List LinkFault) (m n : ℕ) (sender receiver steps : List Step) where
   -- the sender alone
-  pub puts_on : (o p : OutgoingValue) (i : DrawValue Packet) → PutAll (put_to n steps) o p → All (IsFrom m) (flat_map puts_of steps) → AreFew (put_to n (sender ++ steps))
+  pub puts_on : (o p : OutgoingValue) (i : DrawValue Packet) → PutAll (put_to n steps) o p → All (IsFrom m) (flat_map puts_of steps)
       → IsLinkOf plan m n sender receiver o i → IsLinkOf plan m n (sender ++ steps) receiver p i
-  puts_on o p i put from few link = subst (λ (l : List Step). IsLinkOf plan m n (sender ++ steps) l p i) (append-nil receiver)
-      (each_link_goes_on plan m n sender steps receiver [] o p i i link (All-filter (is_to n) (IsFrom m) (flat_map puts_of steps) from) put (none_drawn i) fifo few)
+  puts_on o p i put from link = subst (λ (l : List Step). IsLinkOf plan m n (sender ++ steps) l p i) (append-nil receiver)
+      (each_link_goes_on plan m n sender steps receiver [] o p i i link (All-filter (is_to n) (IsFrom m) (flat_map puts_of steps) from) put (none_drawn i) fifo)
     where
       holds : HoldsSome o.plan
       holds = subst HoldsSome (sym link.by_plan) link.is_plan.held
 
       fifo : IsFifo p.feed i
-      fifo = fifo_fed (goes_out o.plan (put_to n sender) (put_to n steps)) o.feed p.feed i link.fifo (put_all (put_to n steps) (put_to n sender) o p holds (few_both n sender steps few) link.is.has put).fed
+      fifo = fifo_fed (goes_out o.plan (put_to n sender) (put_to n steps)) o.feed p.feed i link.fifo (put_all (put_to n steps) (put_to n sender) o p holds link.is.has put).fed
 
   -- the receiver alone
-  pub takes_on : (o : OutgoingValue) (i j : DrawValue Packet) → Drawn (took_from m steps) i j → j.ring ≡ i.ring → AreFew (put_to n sender)
+  pub takes_on : (o : OutgoingValue) (i j : DrawValue Packet) → Drawn (took_from m steps) i j → j.ring ≡ i.ring
       → IsLinkOf plan m n sender receiver o i → IsLinkOf plan m n sender (receiver ++ steps) o j
-  takes_on o i j drawn ring few link = subst (λ (l : List Step). IsLinkOf plan m n l (receiver ++ steps) o j) (append-nil sender)
+  takes_on o i j drawn ring link = subst (λ (l : List Step). IsLinkOf plan m n l (receiver ++ steps) o j) (append-nil sender)
       (each_link_goes_on plan m n sender [] receiver steps o o i j link (All-nil (IsFrom m)) (none_put o) drawn
-      (subst (λ r. IsFifo o.feed (record { ring = r; inbox = j.inbox })) (sym ring) link.fifo)
-      (subst (λ (l : List Step). AreFew (put_to n l)) (sym (append-nil sender)) few))
+      (subst (λ r. IsFifo o.feed (record { ring = r; inbox = j.inbox })) (sym ring) link.fifo))
 
 -- ---- it begins, and is carried
 

@@ -1,6 +1,5 @@
 -- The link from one node to another, between the traces of both: what was put stands in the one, and what was taken in the other.
-use Rattle.std.specs.List.{flat_map}
-use Rattle.std.specs.Prelude.{◌≡◌, ℕ, ◌<◌, ◌^◌, All, List, [], ◌++◌, length, Result}
+use Rattle.std.specs.Prelude.{◌≡◌, ℕ, All, List, [], ◌++◌, Result}
 use Rattle.qs_base.specs.declared.memory.NoMemory.{NoMemory}
 use Rattle.qs_cell_peers.specs.Links.{HasCarried}
 use Rattle.qs_link.specs.Lane.{DrawValue, Drawn, IsFifo, on_way}
@@ -9,7 +8,7 @@ use Rattle.qs_link.specs.Planned.{IsLink, PutAll}
 use Rattle.qs_link.specs.declared.outgoing.LinkFault.{LinkFault}
 use Rattle.qs_node_step.specs.declared.trace.Step.{Step}
 use Rattle.qs_packet.specs.declared.packet.Packet.{Packet}
-use Rattle.qs_world_traces.specs.Links.{IsTakenByPlan, put_to, puts_of, took_from}
+use Rattle.qs_world_traces.specs.Links.{IsTakenByPlan, put_to, took_from}
 
 abbrev pub IsFrom : ℕ → Packet → Type 0
 IsFrom m packet = packet.from.0 ≡ m
@@ -26,14 +25,6 @@ pub record IsLinkOf (plan : List LinkFault) (m n : ℕ) (sender receiver : List 
   pub fifo : IsFifo o.feed i
   pub from : All (IsFrom m) (put_to n sender)
   pub is : IsLink (put_to n sender) (took_from m receiver) o i
-
--- so few that the end of a link numbers each: its count stands still at its type's last value
-abbrev pub AreFew : List Packet → Type 0
-AreFew put = length put < 2 ^ 63
-
--- and so are those for one node where all that a trace put are few
-abbrev pub EachIsOfFew : Type 0
-EachIsOfFew = (n : ℕ) (trace : List Step) → AreFew (flat_map puts_of trace) → AreFew (put_to n trace)
 
 -- ---- it begins, and is carried
 
@@ -57,7 +48,7 @@ EachLinkIsCarried = (plan : List LinkFault) (m n : ℕ) (sender receiver : List 
 abbrev pub EachLinkGoesOn : Type 0
 EachLinkGoesOn = (plan : List LinkFault) (m n : ℕ) (sender steps receiver more : List Step) (o p : OutgoingValue) (i j : DrawValue Packet)
     → IsLinkOf plan m n sender receiver o i → All (IsFrom m) (put_to n steps) → PutAll (put_to n steps) o p → Drawn (took_from m more) i j → IsFifo p.feed j
-    → AreFew (put_to n (sender ++ steps)) → IsLinkOf plan m n (sender ++ steps) (receiver ++ more) p j
+    → IsLinkOf plan m n (sender ++ steps) (receiver ++ more) p j
 
 -- ---- what it tells
 

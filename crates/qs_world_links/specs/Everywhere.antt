@@ -12,18 +12,14 @@ use Rattle.qs_link.specs.Lane.{DrawValue}
 use Rattle.qs_link.specs.Plan.{OutgoingValue}
 use Rattle.qs_link.specs.declared.outgoing.LinkFault.{LinkFault}
 use Rattle.qs_packet.specs.declared.packet.Packet.{Packet}
-use Rattle.qs_world_links.specs.Between.{AreFew, IsLinkOf, IsNewLink}
+use Rattle.qs_world_links.specs.Between.{IsLinkOf, IsNewLink}
 use Rattle.qs_world_links.specs.Posts.{IsPostOf, TellsOfLinks, TellsOfTakes, trace_in}
-use Rattle.qs_world_traces.specs.Links.{KeepPlans, put_to}
-
--- to each link few packets were put; a trace never gets shorter, so where that is so in the end it was so at all times
-abbrev pub FewWerePut : {D : Type 0} → ℕ → (ℕ → Post D) → Type 0
-FewWerePut nodes posts = (m n : ℕ) → m < nodes → n < nodes → m ≢ n → AreFew (put_to n (trace_in (posts m)))
+use Rattle.qs_world_traces.specs.Links.{KeepPlans}
 
 -- the cells of a run, by the numbers of their nodes; plans m n is that of the link from m to n
 pub record LinksAreTold {D : Type 0} (nodes : ℕ) (plans : ℕ → ℕ → List LinkFault) (posts : ℕ → Post D) : Type 0 where
   pub of : (n : ℕ) → n < nodes → IsPostOf nodes n (posts n)
-  pub links : FewWerePut nodes posts → (m n : ℕ) → m < nodes → n < nodes → m ≢ n
+  pub links : (m n : ℕ) → m < nodes → n < nodes → m ≢ n
       → IsLinkOf (plans m n) m n (trace_in (posts m)) (trace_in (posts n)) (out_of (posts m).links n) (into_of (posts n).links m)
 
 -- ---- as they begin
@@ -95,11 +91,11 @@ ToldAsSame nodes plans old new = AreSameNodes nodes old new → LinksAreTold nod
 -- ---- what follows
 
 abbrev pub ToldKeepPlans : {D : Type 0} → ℕ → (ℕ → ℕ → List LinkFault) → (ℕ → Post D) → Type 0
-ToldKeepPlans nodes plans posts = LinksAreTold nodes plans posts → FewWerePut nodes posts → KeepPlans nodes plans (λ n. trace_in (posts n))
+ToldKeepPlans nodes plans posts = LinksAreTold nodes plans posts → KeepPlans nodes plans (λ n. trace_in (posts n))
 
 -- ---- where memory was refused at one of them
 
 -- no more is told of the links, but what was taken of each is still a front of what goes out by its plan
 abbrev pub KeepAsOneTook : {D : Type 0} → ℕ → (ℕ → ℕ → List LinkFault) → ℕ → (ℕ → Post D) → (ℕ → Post D) → Type 0
 KeepAsOneTook nodes plans k old new =
-    k < nodes → TellsOfTakes nodes k (old k) (new k) → OthersStay nodes k old new → LinksAreTold nodes plans old → FewWerePut nodes new → KeepPlans nodes plans (λ n. trace_in (new n))
+    k < nodes → TellsOfTakes nodes k (old k) (new k) → OthersStay nodes k old new → LinksAreTold nodes plans old → KeepPlans nodes plans (λ n. trace_in (new n))

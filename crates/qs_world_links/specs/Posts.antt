@@ -14,7 +14,7 @@ use Rattle.qs_link.specs.Planned.{PutAll}
 use Rattle.qs_link.specs.declared.outgoing.LinkFault.{LinkFault}
 use Rattle.qs_node_step.specs.declared.trace.Step.{Step}
 use Rattle.qs_packet.specs.declared.packet.Packet.{Packet}
-use Rattle.qs_world_links.specs.Between.{AreFew, Goes, IsFrom, IsLinkOf}
+use Rattle.qs_world_links.specs.Between.{Goes, IsFrom, IsLinkOf}
 use Rattle.qs_world_traces.specs.Links.{put_to, puts_of, took_from}
 
 -- ---- whose cell it is
@@ -74,8 +74,8 @@ pub record TellsOfTakes {D : Type 0} (nodes n : ℕ) (old new : Post D) : Type 0
 
 abbrev pub LinkIsPutTo : {D : Type 0} → ℕ → ℕ → ℕ → Post D → Post D → Type 0
 LinkIsPutTo nodes m n old new = (plan : List LinkFault) (receiver : List Step) (i : DrawValue Packet) → TellsOfLinks nodes m old new → is_peer nodes m n ≡ true
-    → AreFew (put_to n (trace_in new)) → IsLinkOf plan m n (trace_in old) receiver (out_of old.links n) i → IsLinkOf plan m n (trace_in new) receiver (out_of new.links n) i
+    → IsLinkOf plan m n (trace_in old) receiver (out_of old.links n) i → IsLinkOf plan m n (trace_in new) receiver (out_of new.links n) i
 
 abbrev pub LinkIsTakenFrom : {D : Type 0} → ℕ → ℕ → ℕ → Post D → Post D → Type 0
 LinkIsTakenFrom nodes m n old new = (plan : List LinkFault) (sender : List Step) (o : OutgoingValue) → TellsOfLinks nodes n old new → is_peer nodes n m ≡ true
-    → AreCarriedNamed nodes n old.links → AreFew (put_to n sender) → IsLinkOf plan m n sender (trace_in old) o (into_of old.links m) → IsLinkOf plan m n sender (trace_in new) o (into_of new.links m)
+    → AreCarriedNamed nodes n old.links → IsLinkOf plan m n sender (trace_in old) o (into_of old.links m) → IsLinkOf plan m n sender (trace_in new) o (into_of new.links m)

@@ -10,7 +10,7 @@ ghost use Rattle.qs_world_links.specs.Everywhere.{KeepAsOneTook, ToldAsAllCarrie
 use qs_disk::Disk;
 
 /// Each link of a run stands between the traces of its two nodes as all begin, and stays so as a node is visited or starts again, as links are
-/// carried, and as nothing is done with nodes and links. So, as long as fewer than 2^63 packets were put to each, what each node took of each
+/// carried, and as nothing is done with nodes and links. So what each node took of each
 /// other one is a front of all that goes out by the plan of what that one put for it; also where memory was then refused at one of them.
 pub fn links_stay_told<D: Disk>()
     ensures new { (nodes : ℕ) (plans : ℕ → ℕ → List LinkFault) (posts : ℕ → Post D) → ToldAsNew nodes plans posts }

@@ -53,24 +53,24 @@ lawful_of lawful o plans journal trace opening traced =
 
 pub each_rounds_lawful : {D : Type 0} → ((o : Opening) → MayBegin o) → EachJournalLawful → (told : Type 0) (state : D → DiskState) (own size : D → ℕ) (alloc : Global) (script : Script) (disks : List D) (rng : Lcg) (n : ℕ) (all new : SitesValue D) (later : Lcg)
     (journal : List Entry) (trace : List Step) → RoundsAreLawful told state own size alloc script disks rng n all new later journal trace
-each_rounds_lawful may lawful told state own size alloc script disks rng n all new later journal trace t begun once fits coherent rounds few entries steps =
+each_rounds_lawful may lawful told state own size alloc script disks rng n all new later journal trace t begun once fits coherent rounds entries steps =
     lawful_of lawful (opening_over alloc script disks all.sites) (plans_of script) journal trace (each_may_begin may told state own alloc script disks all t begun fits coherent)
-    (each_rounds_traced told state own size alloc script disks (opening_over alloc script disks all.sites) rng n all new later t begun (each_opening told state own alloc script disks all begun once) rounds few journal trace entries steps)
+    (each_rounds_traced told state own size alloc script disks (opening_over alloc script disks all.sites) rng n all new later t begun (each_opening told state own alloc script disks all begun once) rounds journal trace entries steps)
 
 pub each_ending_lawful : {D : Type 0} → ((o : Opening) → MayBegin o) → EachJournalLawful → (told : Type 0) (state : D → DiskState) (own size : D → ℕ) (alloc : Global) (script : Script) (disks : List D) (seed : ℕ) (all new : SitesValue D) (ending : Ending)
     (journal : List Entry) (trace : List Step) → EndingsAreLawful told state own size alloc script disks seed all new ending journal trace
-each_ending_lawful may lawful told state own size alloc script disks seed all new ending journal trace t begun once fits coherent ends few entries steps =
+each_ending_lawful may lawful told state own size alloc script disks seed all new ending journal trace t begun once fits coherent ends entries steps =
     lawful_of lawful (opening_over alloc script disks all.sites) (plans_of script) journal trace (each_may_begin may told state own alloc script disks all t begun fits coherent)
-    (each_ending_traced told state own size alloc script disks (opening_over alloc script disks all.sites) seed all new ending t begun (each_opening told state own alloc script disks all begun once) ends few journal trace entries steps)
+    (each_ending_traced told state own size alloc script disks (opening_over alloc script disks all.sites) seed all new ending t begun (each_opening told state own alloc script disks all begun once) ends journal trace entries steps)
 
 pub each_cut_lawful : {D : Type 0} → ((o : Opening) → MayBegin o) → EachJournalLawful → (told : Type 0) (state : D → DiskState) (own size : D → ℕ) (alloc : Global) (script : Script) (disks : List D) (seed : ℕ) (node : NodeNo) (all new : SitesValue D)
     (journal : List Entry) (trace : List Step) → CutShortIsLawful told state own size alloc script disks seed node all new journal trace
-each_cut_lawful may lawful told state own size alloc script disks seed node all new journal trace t begun once fits coherent cut few entries steps =
+each_cut_lawful may lawful told state own size alloc script disks seed node all new journal trace t begun once fits coherent cut entries steps =
     lawful_of lawful (opening_over alloc script disks all.sites) (plans_of script) journal trace (each_may_begin may told state own alloc script disks all t begun fits coherent)
-    (each_cut_traced told state own size alloc script disks (opening_over alloc script disks all.sites) seed node all new t begun (each_opening told state own alloc script disks all begun once) cut few journal trace entries steps)
+    (each_cut_traced told state own size alloc script disks (opening_over alloc script disks all.sites) seed node all new t begun (each_opening told state own alloc script disks all begun once) cut journal trace entries steps)
 
 pub each_refused_lawful : {D : Type 0} → ((o : Opening) → MayBegin o) → EachJournalLawful → (told : Type 0) (state : D → DiskState) (own size : D → ℕ) (alloc : Global) (script : Script) (disks : List D) (seed : ℕ) (all new : SitesValue D)
     (journal : List Entry) (trace : List Step) → RefusedIsLawful told state own size alloc script disks seed all new journal trace
-each_refused_lawful may lawful told state own size alloc script disks seed all new journal trace t begun once fits coherent out few entries steps =
+each_refused_lawful may lawful told state own size alloc script disks seed all new journal trace t begun once fits coherent out entries steps =
     lawful_of lawful (opening_over alloc script disks all.sites) (plans_of script) journal trace (each_may_begin may told state own alloc script disks all t begun fits coherent)
-    (each_refused_traced told state own size alloc script disks (opening_over alloc script disks all.sites) seed all new t begun (each_opening told state own alloc script disks all begun once) out few journal trace entries steps)
+    (each_refused_traced told state own size alloc script disks (opening_over alloc script disks all.sites) seed all new t begun (each_opening told state own alloc script disks all begun once) out journal trace entries steps)

@@ -12,14 +12,13 @@ use Rattle.qs_node_step.specs.declared.trace.Step.{Step}
 use Rattle.qs_world.specs.World.{Opening}
 use Rattle.qs_world_links.proofs.Keeping.{each_took}
 use Rattle.qs_world_links.proofs.Refused.{each_break, each_restart_takes, each_visit_takes}
-use Rattle.qs_world_links.specs.Between.{AreFew}
 use Rattle.qs_world_links.specs.Posts.{IsPostOf, TellsOfTakes, trace_in}
 use Rattle.qs_world_nodes.proofs.Carrying.{each_carries, each_of}
-use Rattle.qs_world_nodes.proofs.Keeping.{few_posts, keep, keep_at}
+use Rattle.qs_world_nodes.proofs.Keeping.{keep, keep_at}
 use Rattle.qs_world_nodes.proofs.Places.{found, post_there, posts_at, same_some, set_length, set_other}
 use Rattle.qs_world_nodes.proofs.Visiting.{each_visit}
 use Rattle.qs_world_nodes.proofs.Visiting as visiting
-use Rattle.qs_world_nodes.specs.Nodes.{AreCellsIn, AreSitesIn, FewWerePut, post_at, trace_at, trace_by}
+use Rattle.qs_world_nodes.specs.Nodes.{AreCellsIn, AreSitesIn, post_at, trace_at, trace_by}
 use Rattle.qs_world_nodes.specs.Running.{RefusedRoundLeaves}
 use Rattle.qs_world_rounds.specs.Breaks as one
 use Rattle.qs_world_rounds.specs.Rounds.{Cast, is_up}
@@ -77,8 +76,8 @@ module _ {D : Type 0} (told : Type 0) (state : D → DiskState) (own size : D �
     count : length later ≡ o.size
     count = set_length old k after ∙ was.count
 
-    site_refused : (place : ℕ) → told → one.RefusedAt told state own size place site after → FewWerePut later → Cells later
-    site_refused place t refused few = record { count = count; each = each; keep = keep_at o.size later count other plans kept }
+    site_refused : (place : ℕ) → told → one.RefusedAt told state own size place site after → Cells later
+    site_refused place t refused = record { count = count; each = each; keep = keep_at o.size later count other plans kept }
       where
         each : (n : ℕ) (b : Cast D) → slice_get later n ≡ Some b → CellAt n b
         each n b is = by (set_other old k n after)
@@ -90,23 +89,23 @@ module _ {D : Type 0} (told : Type 0) (state : D → DiskState) (own size : D �
         kept : KeepPlans o.size plans (λ n. trace_in (post_at other later n))
         kept = each_took o.size plans k (post_at other old) (post_at other later) low
             (posts_at (λ (p q : Post D). TellsOfTakes o.size k p q) other old later k site after got at_k (of_place k site after of place refused))
-            (visiting.others told state own size o plans old k site after got was other) (was.links other) (few_posts o.size later count other few)
+            (visiting.others told state own size o plans old k site after got was other) (was.links other)
 
   -- ---- in a visit
 
-  of_site : (turn : Turn) (c : Option (Cast D)) (olds news : List (Cast D)) → slice_get olds turn.site ≡ c → told → OfSite (one.RefusedAt told state own size) turn c olds news → AreSitesIn told state o plans olds → FewWerePut news → Cells news
-  of_site turn None olds news got t refused was few = absurd refused
-  of_site turn (Some site) olds news got t (after, (refused, is)) was few = subst Cells (sym is)
-      (site_refused olds turn.site site after got was turn.place t refused (subst (λ (l : List (Cast D)). FewWerePut l) is few))
+  of_site : (turn : Turn) (c : Option (Cast D)) (olds news : List (Cast D)) → slice_get olds turn.site ≡ c → told → OfSite (one.RefusedAt told state own size) turn c olds news → AreSitesIn told state o plans olds → Cells news
+  of_site turn None olds news got t refused was = absurd refused
+  of_site turn (Some site) olds news got t (after, (refused, is)) was = subst Cells (sym is)
+      (site_refused olds turn.site site after got was turn.place t refused)
 
-  of_turn : (turn : Option Turn) (olds news : List (Cast D)) → told → OfTurn (one.RefusedAt told state own size) turn olds news → AreSitesIn told state o plans olds → FewWerePut news → Cells news
-  of_turn None olds news t refused was few = absurd refused
-  of_turn (Some turn) olds news t refused was few = of_site turn (slice_get olds turn.site) olds news refl t refused was few
+  of_turn : (turn : Option Turn) (olds news : List (Cast D)) → told → OfTurn (one.RefusedAt told state own size) turn olds news → AreSitesIn told state o plans olds → Cells news
+  of_turn None olds news t refused was = absurd refused
+  of_turn (Some turn) olds news t refused was = of_site turn (slice_get olds turn.site) olds news refl t refused was
 
-  until : (places : List ℕ) (old new : SitesValue D) → told → VisitsUntil told state own size (RefusedAt told state own size) places old new → AreSitesIn told state o plans old.sites → FewWerePut new.sites → Cells new.sites
-  until [] old new t visits was few = absurd visits
-  until (place ∷ places) old new t (inl (refused, turns)) was few = of_turn (slice_get old.turns place) old.sites new.sites t refused was few
-  until (place ∷ places) old new t (inr (mid, (did, (visit, rest)))) was few = until places mid new t rest (each_visit told state own size o plans place old mid did t visit was) few
+  until : (places : List ℕ) (old new : SitesValue D) → told → VisitsUntil told state own size (RefusedAt told state own size) places old new → AreSitesIn told state o plans old.sites → Cells new.sites
+  until [] old new t visits was = absurd visits
+  until (place ∷ places) old new t (inl (refused, turns)) was = of_turn (slice_get old.turns place) old.sites new.sites t refused was
+  until (place ∷ places) old new t (inr (mid, (did, (visit, rest)))) was = until places mid new t rest (each_visit told state own size o plans place old mid did t visit was)
 
   -- ---- as the round began
 
@@ -117,17 +116,14 @@ module _ {D : Type 0} (told : Type 0) (state : D → DiskState) (own size : D �
         by : (a : Cast D) × (slice_get old n ≡ Some a) → (b : Cast D) × (slice_get new n ≡ Some b) → trace_at new n ≡ trace_at old n
         by (a, a_is) (b, b_is) = ap trace_by b_is ∙ (ap (λ (x : CellState D). (carried_of x).chronicle.told.trace) (same.each n a b a_is b_is).node ∙ sym (ap trace_by a_is))
 
-    few_old : FewWerePut new → FewWerePut old
-    few_old few m n low_m low_n apart = subst (λ (l : List Step). AreFew (put_to n l)) (same_at m low_m) (few m n (omega (arith, same.count, low_m)) (omega (arith, same.count, low_n)) apart)
-
-    same_cells : FewWerePut new → Cells new
-    same_cells few = record {
+    same_cells : Cells new
+    same_cells = record {
       count = same.count ∙ was.count;
       each = each_of HasSameCell CellAt old new same (λ n a b has there. subst (λ (x : CellState D). IsCellIn told state o n x) (sym has.node) there) (λ n a is. each_site_cell told state o n a (was.each n a is));
       keep = λ n m low_n low_m apart. subst (λ (l : List Step). IsTakenByPlan (plans m n) (put_to n l) (took_from m (trace_at new n))) (sym (same_at m (omega (arith, was.count, low_m))))
-          (subst (λ (l : List Step). IsTakenByPlan (plans m n) (put_to n (trace_at old m)) (took_from m l)) (sym (same_at n (omega (arith, was.count, low_n)))) (keep told state o plans old was (few_old few) n m low_n low_m apart));
+          (subst (λ (l : List Step). IsTakenByPlan (plans m n) (put_to n (trace_at old m)) (took_from m l)) (sym (same_at n (omega (arith, was.count, low_n)))) (keep told state o plans old was n m low_n low_m apart));
     }
 
   pub each_refused : (order : List ℕ) (old new : SitesValue D) → RefusedRoundLeaves told state own size o plans order old new
-  each_refused order old new t (inl same) was few = same_cells old.sites new.sites same was few
-  each_refused order old new t (inr it) was few = until order it.carried new t it.visits (each_carries told state o plans old.sites it.carried.sites it.carries was) few
+  each_refused order old new t (inl same) was = same_cells old.sites new.sites same was
+  each_refused order old new t (inr it) was = until order it.carried new t it.visits (each_carries told state o plans old.sites it.carried.sites it.carries was)

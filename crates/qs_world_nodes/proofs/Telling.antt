@@ -39,25 +39,25 @@ each_cells_traced told state o plans sites are journal trace entries steps =
     each_traced o plans (journal_at sites) (trace_at sites) (local told state o plans sites are) are.keep journal trace entries steps
 
 pub each_sites_traced : {D : Type 0} (told : Type 0) (state : D → DiskState) (o : Opening) (plans : ℕ → ℕ → List LinkFault) (sites : List (Cast D)) → SitesAreTraced told state o plans sites
-each_sites_traced told state o plans sites are few = each_cells_traced told state o plans sites (each_cells told state o plans sites are few)
+each_sites_traced told state o plans sites are = each_cells_traced told state o plans sites (each_cells told state o plans sites are)
 
 -- ---- of a run that has begun
 
 module _ {D : Type 0} (told : Type 0) (state : D → DiskState) (own size : D → ℕ) (alloc : Global) (script : Script) (disks : List D) (o : Opening) where
   pub each_rounds_traced : (rng : Lcg) (n : ℕ) (all new : SitesValue D) (later : Lcg) → RoundsAreTraced told state own size alloc script disks o rng n all new later
-  each_rounds_traced rng n all new later t begun opens rounds few =
-      each_sites_traced told state o (plans_of script) new.sites (each_rounds told state own size o (plans_of script) rng n all new later t rounds (each_begins told state own alloc script disks all o t begun opens)) few
+  each_rounds_traced rng n all new later t begun opens rounds =
+      each_sites_traced told state o (plans_of script) new.sites (each_rounds told state own size o (plans_of script) rng n all new later t rounds (each_begins told state own alloc script disks all o t begun opens))
 
   pub each_ending_traced : (seed : ℕ) (all new : SitesValue D) (ending : Ending) → EndingsAreTraced told state own size alloc script disks o seed all new ending
-  each_ending_traced seed all new ending t begun opens is few =
-      each_sites_traced told state o (plans_of script) new.sites (each_ending told state own size o (plans_of script) script seed all new ending t is (each_begins told state own alloc script disks all o t begun opens)) few
+  each_ending_traced seed all new ending t begun opens is =
+      each_sites_traced told state o (plans_of script) new.sites (each_ending told state own size o (plans_of script) script seed all new ending t is (each_begins told state own alloc script disks all o t begun opens))
 
   pub each_cut_traced : (seed : ℕ) (node : NodeNo) (all new : SitesValue D) → CutShortIsTraced told state own size alloc script disks o seed node all new
-  each_cut_traced seed node all new t begun opens is few =
-      each_sites_traced told state o (plans_of script) new.sites (each_cut told state own size o (plans_of script) seed node all new t is (each_begins told state own alloc script disks all o t begun opens)) few
+  each_cut_traced seed node all new t begun opens is =
+      each_sites_traced told state o (plans_of script) new.sites (each_cut told state own size o (plans_of script) seed node all new t is (each_begins told state own alloc script disks all o t begun opens))
 
   pub each_refused_traced : (seed : ℕ) (all new : SitesValue D) → RefusedIsTraced told state own size alloc script disks o seed all new
-  each_refused_traced seed all new t begun opens out few =
+  each_refused_traced seed all new t begun opens out =
       each_cells_traced told state o (plans_of script) new.sites
       (each_refused told state own size o (plans_of script) (drawn_order (count_of out.before) out.drawn).0 out.before new t out.refused
-      (each_rounds told state own size o (plans_of script) (seeded seed) out.rounds all out.before out.drawn t out.earlier (each_begins told state own alloc script disks all o t begun opens)) few)
+      (each_rounds told state own size o (plans_of script) (seeded seed) out.rounds all out.before out.drawn t out.earlier (each_begins told state own alloc script disks all o t begun opens)))

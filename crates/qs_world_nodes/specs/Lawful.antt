@@ -13,7 +13,7 @@ use Rattle.qs_world.specs.Openings.{IsOpening}
 use Rattle.qs_world_merge.specs.MergedByKey.{IsMergedBy}
 use Rattle.qs_world_merge.specs.Observed.{journals_of}
 use Rattle.qs_world_merge.specs.StepMoves.{step_key}
-use Rattle.qs_world_nodes.specs.Nodes.{FewWerePut, journal_at, trace_at}
+use Rattle.qs_world_nodes.specs.Nodes.{journal_at, trace_at}
 use Rattle.qs_world_nodes.specs.Openings.{SitOnce, inc_by, log_by, opening_over}
 use Rattle.qs_world_opening.specs.Coherent.{AreCoherentLogs}
 use Rattle.qs_world_opening.specs.Scripts.{Fits}
@@ -37,27 +37,27 @@ NodesMayBegin told state own alloc script disks all =
 
 abbrev pub RoundsAreLawful : {D : Type 0} → Type 0 → (D → DiskState) → (D → ℕ) → (D → ℕ) → Global → Script → List D → Lcg → ℕ → SitesValue D → SitesValue D → Lcg → List Entry → List Step → Type 0
 RoundsAreLawful told state own size alloc script disks rng n all new later journal trace =
-    told → HasBegun told state own alloc script disks all → SitOnce script.seats → Fits (length disks) script → HaveCoherentLogs alloc disks all.sites → Rounds told state own size rng n all new later → FewWerePut new.sites
+    told → HasBegun told state own alloc script disks all → SitOnce script.seats → Fits (length disks) script → HaveCoherentLogs alloc disks all.sites → Rounds told state own size rng n all new later
     → IsMerged (journals_of (length disks) (λ k. observed_by (journal_at new.sites k) (trace_at new.sites k))) journal → IsMergedBy step_key (length disks) (trace_at new.sites) trace
     → IsLawful (book_of (opening_over alloc script disks all.sites)) journal
 
 -- and so is what is told as the rounds of such a run end
 abbrev pub EndingsAreLawful : {D : Type 0} → Type 0 → (D → DiskState) → (D → ℕ) → (D → ℕ) → Global → Script → List D → ℕ → SitesValue D → SitesValue D → Ending → List Entry → List Step → Type 0
 EndingsAreLawful told state own size alloc script disks seed all new ending journal trace =
-    told → HasBegun told state own alloc script disks all → SitOnce script.seats → Fits (length disks) script → HaveCoherentLogs alloc disks all.sites → IsEnding told state own size script seed all new ending → FewWerePut new.sites
+    told → HasBegun told state own alloc script disks all → SitOnce script.seats → Fits (length disks) script → HaveCoherentLogs alloc disks all.sites → IsEnding told state own size script seed all new ending
     → IsMerged (journals_of (length disks) (λ k. observed_by (journal_at new.sites k) (trace_at new.sites k))) journal → IsMergedBy step_key (length disks) (trace_at new.sites) trace
     → IsLawful (book_of (opening_over alloc script disks all.sites)) journal
 
 -- and where one was cut short
 abbrev pub CutShortIsLawful : {D : Type 0} → Type 0 → (D → DiskState) → (D → ℕ) → (D → ℕ) → Global → Script → List D → ℕ → NodeNo → SitesValue D → SitesValue D → List Entry → List Step → Type 0
 CutShortIsLawful told state own size alloc script disks seed node all new journal trace =
-    told → HasBegun told state own alloc script disks all → SitOnce script.seats → Fits (length disks) script → HaveCoherentLogs alloc disks all.sites → IsCutShort told state own size seed node all new → FewWerePut new.sites
+    told → HasBegun told state own alloc script disks all → SitOnce script.seats → Fits (length disks) script → HaveCoherentLogs alloc disks all.sites → IsCutShort told state own size seed node all new
     → IsMerged (journals_of (length disks) (λ k. observed_by (journal_at new.sites k) (trace_at new.sites k))) journal → IsMergedBy step_key (length disks) (trace_at new.sites) trace
     → IsLawful (book_of (opening_over alloc script disks all.sites)) journal
 
 -- and where memory was refused
 abbrev pub RefusedIsLawful : {D : Type 0} → Type 0 → (D → DiskState) → (D → ℕ) → (D → ℕ) → Global → Script → List D → ℕ → SitesValue D → SitesValue D → List Entry → List Step → Type 0
 RefusedIsLawful told state own size alloc script disks seed all new journal trace =
-    told → HasBegun told state own alloc script disks all → SitOnce script.seats → Fits (length disks) script → HaveCoherentLogs alloc disks all.sites → IsOutOfMemory told state own size seed all new → FewWerePut new.sites
+    told → HasBegun told state own alloc script disks all → SitOnce script.seats → Fits (length disks) script → HaveCoherentLogs alloc disks all.sites → IsOutOfMemory told state own size seed all new
     → IsMerged (journals_of (length disks) (λ k. observed_by (journal_at new.sites k) (trace_at new.sites k))) journal → IsMergedBy step_key (length disks) (trace_at new.sites) trace
     → IsLawful (book_of (opening_over alloc script disks all.sites)) journal

@@ -1,5 +1,5 @@
 -- All sites of a run at once: each a node with its clients in a world over packets, and each link between the traces of its two nodes.
-use Rattle.std.specs.Prelude.{◌≡◌, ◌≢◌, ◌<◌, ℕ, List, [], length, Option, Some, None, slice_get}
+use Rattle.std.specs.Prelude.{◌≡◌, ℕ, List, [], length, Option, Some, None, slice_get}
 use Rattle.std.specs.Global.{Global}
 use Rattle.qs_book_journal.specs.declared.entry.Entry.{Entry}
 use Rattle.qs_book_script.specs.declared.script.Script.{Script}
@@ -9,7 +9,6 @@ use Rattle.qs_disk.specs.Disk.{DiskState}
 use Rattle.qs_link.specs.declared.outgoing.LinkFault.{LinkFault}
 use Rattle.qs_node_step.specs.declared.trace.Step.{Step}
 use Rattle.qs_world.specs.World.{Opening}
-use Rattle.qs_world_links.specs.Between.{AreFew}
 use Rattle.qs_world_links.specs.Everywhere.{LinksAreTold}
 use Rattle.qs_world_plans.specs.Plan.{setting_of}
 use Rattle.qs_world_rounds.specs.Rounds.{Cast}
@@ -17,7 +16,7 @@ use Rattle.qs_world_seats.specs.Cells.{IsCellIn}
 use Rattle.qs_world_seats.specs.Sites.{IsSiteIn, OpensSite}
 use Rattle.qs_world_sites.specs.Seats.{HasBegun, plan_between}
 use Rattle.qs_world_sites.specs.Sites.{SitesValue}
-use Rattle.qs_world_traces.specs.Links.{KeepPlans, put_to}
+use Rattle.qs_world_traces.specs.Links.{KeepPlans}
 
 -- ---- what the cells tell, by the numbers of their nodes, and nothing where there is no such node
 
@@ -34,10 +33,6 @@ journal_at sites n = journal_by (slice_get sites n)
 
 abbrev pub trace_at : {D : Type 0} → List (Cast D) → ℕ → List Step
 trace_at sites n = trace_by (slice_get sites n)
-
--- fewer than 2^63 packets were put to each link
-abbrev pub FewWerePut : {D : Type 0} → List (Cast D) → Type 0
-FewWerePut sites = (m n : ℕ) → m < length sites → n < length sites → m ≢ n → AreFew (put_to n (trace_at sites m))
 
 -- ---- they stand in the world
 

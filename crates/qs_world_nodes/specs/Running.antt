@@ -12,7 +12,7 @@ use Rattle.qs_world.specs.World.{Opening}
 use Rattle.qs_world_merge.specs.MergedByKey.{IsMergedBy}
 use Rattle.qs_world_merge.specs.Observed.{journals_of}
 use Rattle.qs_world_merge.specs.StepMoves.{step_key}
-use Rattle.qs_world_nodes.specs.Nodes.{AreCellsIn, AreSitesIn, FewWerePut, OpensSites, journal_at, plans_of, trace_at}
+use Rattle.qs_world_nodes.specs.Nodes.{AreCellsIn, AreSitesIn, OpensSites, journal_at, plans_of, trace_at}
 use Rattle.qs_world_rounds.specs.Rounds.{Cast}
 use Rattle.qs_world_rounds.specs.declared.rounds.Ending.{Ending}
 use Rattle.qs_world_sites.specs.Breaks.{BreaksRound, RefusesRound}
@@ -51,15 +51,15 @@ RoundsKeep told state own size o plans rng n old new later = told → Rounds tol
 abbrev pub BrokenRoundKeeps : {D : Type 0} → Type 0 → (D → DiskState) → (D → ℕ) → (D → ℕ) → Opening → (ℕ → ℕ → List LinkFault) → List ℕ → NodeNo → SitesValue D → SitesValue D → Type 0
 BrokenRoundKeeps told state own size o plans order node old new = told → BreaksRound told state own size order node old new → AreSitesIn told state o plans old.sites → AreSitesIn told state o plans new.sites
 
--- ---- as long as fewer than 2^63 packets were put to each link, their cells are there
+-- ---- their cells are there
 
 abbrev pub SitesHaveCells : {D : Type 0} → Type 0 → (D → DiskState) → Opening → (ℕ → ℕ → List LinkFault) → List (Cast D) → Type 0
-SitesHaveCells told state o plans sites = AreSitesIn told state o plans sites → FewWerePut sites → AreCellsIn told state o plans sites
+SitesHaveCells told state o plans sites = AreSitesIn told state o plans sites → AreCellsIn told state o plans sites
 
 -- also where memory was refused in a round, in whichever visit and within whichever step
 abbrev pub RefusedRoundLeaves : {D : Type 0} → Type 0 → (D → DiskState) → (D → ℕ) → (D → ℕ) → Opening → (ℕ → ℕ → List LinkFault) → List ℕ → SitesValue D → SitesValue D → Type 0
 RefusedRoundLeaves told state own size o plans order old new =
-    told → RefusesRound told state own size order old new → AreSitesIn told state o plans old.sites → FewWerePut new.sites → AreCellsIn told state o plans new.sites
+    told → RefusesRound told state own size order old new → AreSitesIn told state o plans old.sites → AreCellsIn told state o plans new.sites
 
 -- ---- what they tell
 
@@ -71,30 +71,29 @@ AreTraced o plans sites = (journal : List Entry) (trace : List Step) → IsMerge
 abbrev pub CellsAreTraced : {D : Type 0} → Type 0 → (D → DiskState) → Opening → (ℕ → ℕ → List LinkFault) → List (Cast D) → Type 0
 CellsAreTraced told state o plans sites = AreCellsIn told state o plans sites → AreTraced o plans sites
 
--- as long as fewer than 2^63 packets were put to each link
 abbrev pub SitesAreTraced : {D : Type 0} → Type 0 → (D → DiskState) → Opening → (ℕ → ℕ → List LinkFault) → List (Cast D) → Type 0
-SitesAreTraced told state o plans sites = AreSitesIn told state o plans sites → FewWerePut sites → AreTraced o plans sites
+SitesAreTraced told state o plans sites = AreSitesIn told state o plans sites → AreTraced o plans sites
 
 -- after so many rounds of a run that has begun so
 abbrev pub RoundsAreTraced : {D : Type 0} → Type 0 → (D → DiskState) → (D → ℕ) → (D → ℕ) → Global → Script → List D → Opening → Lcg → ℕ → SitesValue D → SitesValue D → Lcg → Type 0
 RoundsAreTraced told state own size alloc script disks o rng n all new later =
     told → (begun : HasBegun told state own alloc script disks all) → OpensSites told state own alloc script disks all begun o → Rounds told state own size rng n all new later
-    → FewWerePut new.sites → AreTraced o (plans_of script) new.sites
+    → AreTraced o (plans_of script) new.sites
 
 -- as the rounds of such a run end
 abbrev pub EndingsAreTraced : {D : Type 0} → Type 0 → (D → DiskState) → (D → ℕ) → (D → ℕ) → Global → Script → List D → Opening → ℕ → SitesValue D → SitesValue D → Ending → Type 0
 EndingsAreTraced told state own size alloc script disks o seed all new ending =
     told → (begun : HasBegun told state own alloc script disks all) → OpensSites told state own alloc script disks all begun o → IsEnding told state own size script seed all new ending
-    → FewWerePut new.sites → AreTraced o (plans_of script) new.sites
+    → AreTraced o (plans_of script) new.sites
 
 -- and where one was cut short
 abbrev pub CutShortIsTraced : {D : Type 0} → Type 0 → (D → DiskState) → (D → ℕ) → (D → ℕ) → Global → Script → List D → Opening → ℕ → NodeNo → SitesValue D → SitesValue D → Type 0
 CutShortIsTraced told state own size alloc script disks o seed node all new =
     told → (begun : HasBegun told state own alloc script disks all) → OpensSites told state own alloc script disks all begun o → IsCutShort told state own size seed node all new
-    → FewWerePut new.sites → AreTraced o (plans_of script) new.sites
+    → AreTraced o (plans_of script) new.sites
 
 -- and where memory was refused
 abbrev pub RefusedIsTraced : {D : Type 0} → Type 0 → (D → DiskState) → (D → ℕ) → (D → ℕ) → Global → Script → List D → Opening → ℕ → SitesValue D → SitesValue D → Type 0
 RefusedIsTraced told state own size alloc script disks o seed all new =
     told → (begun : HasBegun told state own alloc script disks all) → OpensSites told state own alloc script disks all begun o → IsOutOfMemory told state own size seed all new
-    → FewWerePut new.sites → AreTraced o (plans_of script) new.sites
+    → AreTraced o (plans_of script) new.sites

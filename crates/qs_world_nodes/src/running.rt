@@ -38,7 +38,7 @@ pub fn nodes_go_on<D: Disk>()
 {}
 
 /// Where memory was refused in a round, in whichever visit and within whichever step, the cells still are where their nodes have come to, and the links keep
-/// their plans, as they do while sites stand there. Each link got fewer than 2^63 packets, as its end can count.
+/// their plans, as they do while sites stand there.
 pub fn refused_rounds_leave_cells<D: Disk>()
     ensures sites { (o : Opening) (plans : ℕ → ℕ → List LinkFault) (sites : List (Cast D)) → SitesHaveCells D.told D.state o plans sites }
     ensures refused { (o : Opening) (plans : ℕ → ℕ → List LinkFault) (order : List ℕ) (old new : SitesValue D) → RefusedRoundLeaves D.told D.state D.fault_count D.byte_count o plans order old new }
@@ -46,8 +46,7 @@ pub fn refused_rounds_leave_cells<D: Disk>()
 {}
 
 /// What the cells of such sites tell, merged by stamp and node, is the steps of a run of the world over packets, over links that keep their plans, and its
-/// history; so is what they tell after any rounds of a run that has begun, as these end, where one was cut short, and where memory was refused in one. Each link got fewer than 2^63 packets, as
-/// its end can count.
+/// history; so is what they tell after any rounds of a run that has begun, as these end, where one was cut short, and where memory was refused in one.
 pub fn rounds_are_runs_of_the_world<D: Disk>()
     ensures sites { (o : Opening) (plans : ℕ → ℕ → List LinkFault) (sites : List (Cast D)) → SitesAreTraced D.told D.state o plans sites }
     ensures rounds { (alloc : Global) (script : Script) (disks : List D) (o : Opening) (rng later : Lcg) (n : ℕ) (all new : SitesValue D) → RoundsAreTraced D.told D.state D.fault_count D.byte_count alloc script disks o rng n all new later }

@@ -29,7 +29,7 @@ use Rattle.qs_world_merge.specs.Reaching.{HasReached}
 use Rattle.qs_world_merge.specs.SameAt.{SameAt}
 use Rattle.qs_world_nodes.proofs.Places.{found, low_of, same_some}
 use Rattle.qs_world_nodes.proofs.Keeping.{keep}
-use Rattle.qs_world_nodes.specs.Nodes.{AreSitesIn, FewWerePut, journal_at, journal_by, trace_at, trace_by}
+use Rattle.qs_world_nodes.specs.Nodes.{AreSitesIn, journal_at, journal_by, trace_at, trace_by}
 use Rattle.qs_world_packets.specs.PacketMoves.{Move}
 use Rattle.qs_world_packets.specs.PacketRuns.{Run}
 use Rattle.qs_world_packets.specs.PacketWorld.{PacketWorld, start}
@@ -48,12 +48,12 @@ pub record AreThere {D : Type 0} (told : Type 0) (state : D → DiskState) (o : 
   pub each : (n : ℕ) (site : Cast D) → slice_get sites n ≡ Some site → PostInWorld told state o n site.node.seat site.clients
   pub took : TookWhatWasPut o.size (λ n. observed_by (journal_at sites n) (trace_at sites n))
 
-pub took_in : {D : Type 0} (told : Type 0) (state : D → DiskState) (o : Opening) (plans : ℕ → ℕ → List LinkFault) (sites : List (Cast D)) → AreSitesIn told state o plans sites → FewWerePut sites
+pub took_in : {D : Type 0} (told : Type 0) (state : D → DiskState) (o : Opening) (plans : ℕ → ℕ → List LinkFault) (sites : List (Cast D)) → AreSitesIn told state o plans sites
     → TookWhatWasPut o.size (λ n. observed_by (journal_at sites n) (trace_at sites n))
-took_in told state o plans sites are few = each_link_brings o.size plans (journal_at sites) (trace_at sites) (keep told state o plans sites are few)
+took_in told state o plans sites are = each_link_brings o.size plans (journal_at sites) (trace_at sites) (keep told state o plans sites are)
 
-pub sites_there : {D : Type 0} (told : Type 0) (state : D → DiskState) (o : Opening) (plans : ℕ → ℕ → List LinkFault) (sites : List (Cast D)) → AreSitesIn told state o plans sites → FewWerePut sites → AreThere told state o sites
-sites_there told state o plans sites are few = record { count = are.count; each = λ n site is. (are.each n site is).there.there; took = took_in told state o plans sites are few }
+pub sites_there : {D : Type 0} (told : Type 0) (state : D → DiskState) (o : Opening) (plans : ℕ → ℕ → List LinkFault) (sites : List (Cast D)) → AreSitesIn told state o plans sites → AreThere told state o sites
+sites_there told state o plans sites are = record { count = are.count; each = λ n site is. (are.each n site is).there.there; took = took_in told state o plans sites are }
 
 -- ---- one world
 

@@ -18,7 +18,7 @@ use Rattle.qs_world_left.proofs.Reached.{first_in, may_open}
 use Rattle.qs_world_left.specs.Disks.{content_at, content_by, disk_state, disks_of}
 use Rattle.qs_world_nodes.proofs.Places.{found, low_of, same_some}
 use Rattle.qs_world_nodes.proofs.Walking.{cut_keeps, ending_keeps, rounds_keep}
-use Rattle.qs_world_nodes.specs.Nodes.{AreSitesIn, FewWerePut, plans_of}
+use Rattle.qs_world_nodes.specs.Nodes.{AreSitesIn, plans_of}
 use Rattle.qs_world_nodes.specs.Openings.{opening_over}
 use Rattle.qs_world_one.proofs.RoomyCells.{begun_roomy, is_set}
 use Rattle.qs_world_one.specs.Rooms.{Began, IsRoomyCell, IsRoomyDisk}
@@ -79,7 +79,7 @@ module _ {D : Type 0} (may : (o : Opening) → MayBegin o) (told : Type 0) (stat
   abbrev began : ℕ → Began
   began n = record { content = content_at (map state disks) n; bytes = bytes_by (slice_get all.sites n) }
 
-  module _ (few : FewWerePut all.sites) (n : ℕ) (disk : D) (site : Cast D) (of_disk : slice_get disks n ≡ Some disk) (there : slice_get all.sites n ≡ Some site) where
+  module _ (n : ℕ) (disk : D) (site : Cast D) (of_disk : slice_get disks n ≡ Some disk) (there : slice_get all.sites n ≡ Some site) where
     begun : BeginsAt told state own alloc script (length disks) (record { 0 = n }) disk site
     begun = b.begun.each n disk site of_disk there
 
@@ -95,7 +95,7 @@ module _ {D : Type 0} (may : (o : Opening) → MayBegin o) (told : Type 0) (stat
 
     named : are_named (recovery started.running.host.log.forced) ≡ true
     named = log_named told state o opens all.sites
-        (sites_there told state o (plans_of script) all.sites first few)
+        (sites_there told state o (plans_of script) all.sites first)
         n site there started.running site.node.seat.ends site.clients started.node running
       where
         running : IsRunning told state o n started.running site.node.seat.ends site.clients
@@ -116,32 +116,32 @@ module _ {D : Type 0} (may : (o : Opening) → MayBegin o) (told : Type 0) (stat
   begins : Stays all.sites
   begins = record { are = first; rooms = rooms }
     where
-      rooms : FewWerePut all.sites → AreRoomySites state size began all.sites
-      rooms few n site there = by (found disks n (omega (arith, low_of all.sites n site there, b.begun.count)))
+      rooms : AreRoomySites state size began all.sites
+      rooms n site there = by (found disks n (omega (arith, low_of all.sites n site there, b.begun.count)))
         where
           by : (disk : D) × (slice_get disks n ≡ Some disk) → IsRoomyCell state size (began n) site.node.seat.node
-          by (disk, of_disk) = begins_at few n disk site of_disk there
+          by (disk, of_disk) = begins_at n disk site of_disk there
 
-  rounds_leave : (rng : Lcg) (n : ℕ) (new : SitesValue D) (later : Lcg) → Rounds told state own size rng n all new later → FewWerePut new.sites → LeaveRoom state size new.sites
-  rounds_leave rng n new later rounds few = leave state size began new.sites ((rounds_keep told state own size Stays (visited told state own size o (plans_of script) began t opens)
-      (carried told state own size o (plans_of script) began t opens) rng n all new later rounds begins).rooms few)
+  rounds_leave : (rng : Lcg) (n : ℕ) (new : SitesValue D) (later : Lcg) → Rounds told state own size rng n all new later → LeaveRoom state size new.sites
+  rounds_leave rng n new later rounds = leave state size began new.sites ((rounds_keep told state own size Stays (visited told state own size o (plans_of script) began t opens)
+      (carried told state own size o (plans_of script) began t opens) rng n all new later rounds begins).rooms)
 
-  ending_leaves : (seed : ℕ) (new : SitesValue D) (ending : Ending) → IsEnding told state own size script seed all new ending → FewWerePut new.sites → LeaveRoom state size new.sites
-  ending_leaves seed new ending is few = leave state size began new.sites ((ending_keeps told state own size Stays (visited told state own size o (plans_of script) began t opens)
-      (carried told state own size o (plans_of script) began t opens) script seed all new ending is begins).rooms few)
+  ending_leaves : (seed : ℕ) (new : SitesValue D) (ending : Ending) → IsEnding told state own size script seed all new ending → LeaveRoom state size new.sites
+  ending_leaves seed new ending is = leave state size began new.sites ((ending_keeps told state own size Stays (visited told state own size o (plans_of script) began t opens)
+      (carried told state own size o (plans_of script) began t opens) script seed all new ending is begins).rooms)
 
-  cut_leaves : (seed : ℕ) (node : NodeNo) (new : SitesValue D) → IsCutShort told state own size seed node all new → FewWerePut new.sites → LeaveRoom state size new.sites
-  cut_leaves seed node new is few = leave state size began new.sites ((cut_keeps told state own size Stays (visited told state own size o (plans_of script) began t opens)
-      (carried told state own size o (plans_of script) began t opens) (failed told state own size o (plans_of script) began t opens) seed node all new is begins).rooms few)
+  cut_leaves : (seed : ℕ) (node : NodeNo) (new : SitesValue D) → IsCutShort told state own size seed node all new → LeaveRoom state size new.sites
+  cut_leaves seed node new is = leave state size began new.sites ((cut_keeps told state own size Stays (visited told state own size o (plans_of script) began t opens)
+      (carried told state own size o (plans_of script) began t opens) (failed told state own size o (plans_of script) began t opens) seed node all new is begins).rooms)
 
 -- ---- the laws
 
 module _ {D : Type 0} (may : (o : Opening) → MayBegin o) (told : Type 0) (state : D → DiskState) (own size : D → ℕ) (alloc : Global) (script : Script) (disks : List D) (all : SitesValue D) where
   pub each_rounds_leave : (rng : Lcg) (n : ℕ) (new : SitesValue D) (later : Lcg) → RoundsLeaveRoom told state own size alloc script disks rng n all new later
-  each_rounds_leave rng n new later t b rounds few = rounds_leave may told state own size alloc script disks all t b rng n new later rounds few
+  each_rounds_leave rng n new later t b rounds = rounds_leave may told state own size alloc script disks all t b rng n new later rounds
 
   pub each_ending_leaves : (seed : ℕ) (new : SitesValue D) (ending : Ending) → EndingsLeaveRoom told state own size alloc script disks seed all new ending
-  each_ending_leaves seed new ending t b is few = ending_leaves may told state own size alloc script disks all t b seed new ending is few
+  each_ending_leaves seed new ending t b is = ending_leaves may told state own size alloc script disks all t b seed new ending is
 
   pub each_cut_leaves : (seed : ℕ) (node : NodeNo) (new : SitesValue D) → CutShortLeavesRoom told state own size alloc script disks seed node all new
-  each_cut_leaves seed node new t b is few = cut_leaves may told state own size alloc script disks all t b seed node new is few
+  each_cut_leaves seed node new t b is = cut_leaves may told state own size alloc script disks all t b seed node new is

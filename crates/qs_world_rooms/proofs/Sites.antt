@@ -1,4 +1,4 @@
--- All sites keep room in their logs, as far as few packets were put to each link: as they are carried, through visits, and where a restart fails.
+-- All sites keep room in their logs: as they are carried, through visits, and where a restart fails.
 use Rattle.std.proofs.Common.{◌≡◌, ◌⊎◌, ◌∙◌, ap, inl, inr, refl, subst, sym, ℕ, zero, suc, ◌<◌, Bool, true, false, List, length, Some, Result, Ok, Err, arith, slice_get, slice_set}
 use Rattle.qs_base.specs.declared.identifiers.NodeNo.{NodeNo}
 use Rattle.qs_cell.specs.Hearing.{Post}
@@ -15,18 +15,17 @@ use Rattle.qs_world.specs.Openings.{IsOpening}
 use Rattle.qs_world.specs.World.{Opening}
 use Rattle.qs_world_links.proofs.Starting as starting
 use Rattle.qs_world_links.proofs.Visiting as visiting
-use Rattle.qs_world_links.specs.Between.{AreFew}
 use Rattle.qs_world_links.specs.Posts.{IsPostOf, TellsOfLinks}
 use Rattle.qs_world_nodes.proofs.Carrying.{each_carries, same_cell}
 use Rattle.qs_world_nodes.proofs.Places.{found, low_of, post_there, same_some, set_other}
 use Rattle.qs_world_nodes.proofs.Visiting.{site_failed, site_visited}
 use Rattle.qs_world_nodes.proofs.Walking.{broken_keeps, round_keeps, rounds_keep, visit_keeps, visits_keep}
-use Rattle.qs_world_nodes.specs.Nodes.{AreSitesIn, FewWerePut, trace_at, trace_by}
+use Rattle.qs_world_nodes.specs.Nodes.{AreSitesIn, trace_at, trace_by}
 use Rattle.qs_world_one.specs.Rooms.{Began, IsRoomyCell}
 use Rattle.qs_world_rooms.proofs.AllThere.{logs_named, sites_there}
 use Rattle.qs_world_rooms.proofs.Amid.{IsFront, whole_front}
 use Rattle.qs_world_rooms.proofs.Cells.{restart_roomy}
-use Rattle.qs_world_rooms.proofs.Visited.{few_back, here, visit_roomy}
+use Rattle.qs_world_rooms.proofs.Visited.{here, visit_roomy}
 use Rattle.qs_world_rooms.specs.Rooms.{AreRoomySites, BrokenRoundStaysRoomy, CarriesStayRoomy, RoundStaysRoomy, RoundsStayRoomy, VisitStaysRoomy, VisitsStayRoomy}
 use Rattle.qs_world_rounds.specs.Breaks.{FailsAt}
 use Rattle.qs_world_rounds.specs.Rounds.{Cast, NodeVisitIf, VisitAt, is_up}
@@ -52,18 +51,6 @@ module _ {D : Type 0} (state : D → DiskState) (size : D → ℕ) (began : ℕ 
 
   module _ (olds news : List (Cast D)) (count : length news ≡ length olds)
       (same : (n : ℕ) (a b : Cast D) → slice_get olds n ≡ Some a → slice_get news n ≡ Some b → b.node.seat.node ≡ a.node.seat.node) where
-    same_trace : (n : ℕ) → n < length olds → trace_at news n ≡ trace_at olds n
-    same_trace n low = by (found olds n low) (found news n (omega (arith, count, low)))
-      where
-        by : (a : Cast D) × (slice_get olds n ≡ Some a) → (b : Cast D) × (slice_get news n ≡ Some b) → trace_at news n ≡ trace_at olds n
-        by (a, a_is) (b, b_is) = ap trace_by b_is ∙ (ap (λ (x : CellState D). steps x) (same n a b a_is b_is) ∙ sym (ap trace_by a_is))
-          where
-            steps : CellState D → List Step
-            steps x = trace_of (record a.node { seat = record a.node.seat { node = x } })
-
-    few_same : FewWerePut news → FewWerePut olds
-    few_same few m n low_m low_n apart = subst (λ (l : List Step). AreFew (put_to n l)) (same_trace m low_m) (few m n (omega (arith, count, low_m)) (omega (arith, count, low_n)) apart)
-
     rooms_same : AreRoomySites state size began olds → AreRoomySites state size began news
     rooms_same was n b b_is = by (found olds n (omega (arith, low_of news n b b_is, count)))
       where
@@ -77,20 +64,17 @@ module _ {D : Type 0} (state : D → DiskState) (size : D → ℕ) (began : ℕ 
     links_same : (n : ℕ) (a b : Cast D) → slice_get c.mid n ≡ Some a → slice_get news n ≡ Some b → b.node.seat.node ≡ a.node.seat.node
     links_same n a b a_is b_is = ap (λ (x : Cast D). x.node.seat.node) (c.links.others.each n a b a_is b_is).is
 
-    few_carried : FewWerePut news → FewWerePut olds
-    few_carried few = few_same olds c.mid c.lanes.count lanes_same (few_same c.mid news c.links.others.count links_same few)
-
     rooms_carried : AreRoomySites state size began olds → AreRoomySites state size began news
     rooms_carried was = rooms_same c.mid news c.links.others.count links_same (rooms_same olds c.mid c.lanes.count lanes_same was)
 
 pub each_carried : {D : Type 0} (state : D → DiskState) (size : D → ℕ) (began : ℕ → Began) (old new : List (Cast D)) → CarriesStayRoomy state size began old new
-each_carried state size began old new carries few was = rooms_carried state size began old new carries was
+each_carried state size began old new carries was = rooms_carried state size began old new carries was
 
 module _ {D : Type 0} (told : Type 0) (state : D → DiskState) (own size : D → ℕ) (o : Opening) (plans : ℕ → ℕ → List LinkFault) (began : ℕ → Began) (t : told) (opens : IsOpening o) where
-  -- in the world, and with room where few packets were put
+  -- in the world, and with room
   pub record Stay (sites : List (Cast D)) : Type 0 where
     pub are : AreSitesIn told state o plans sites
-    pub rooms : FewWerePut sites → AreRoomySites state size began sites
+    pub rooms : AreRoomySites state size began sites
 
   -- ---- a visit of one site
 
@@ -107,7 +91,7 @@ module _ {D : Type 0} (told : Type 0) (state : D → DiskState) (own size : D �
     -- the trace gets longer, and room is kept
     record Goes : Type 0 where
       front : IsFront (trace_of site.node) (trace_of after.node)
-      room : AreSitesIn told state o plans news → FewWerePut news → IsRoomyCell state size (began k) site.node.seat.node → IsRoomyCell state size (began k) after.node.seat.node
+      room : AreSitesIn told state o plans news → IsRoomyCell state size (began k) site.node.seat.node → IsRoomyCell state size (began k) after.node.seat.node
 
     told_front : TellsOfLinks o.size k (post_of site.node) (post_of after.node) → IsFront (trace_of site.node) (trace_of after.node)
     told_front tells = record { rest = tells.steps; is = tells.trace }
@@ -115,25 +99,25 @@ module _ {D : Type 0} (told : Type 0) (state : D → DiskState) (own size : D �
     same_goes : after.node.seat.node ≡ site.node.seat.node → Goes
     same_goes same = record {
       front = subst (λ (x : CellState D). IsFront (trace_of site.node) (trace_of (record site.node { seat = record site.node.seat { node = x } }))) (sym same) (whole_front (trace_of site.node));
-      room = λ will few room. subst (λ (x : CellState D). IsRoomyCell state size (began k) x) (sym same) room;
+      room = λ will room. subst (λ (x : CellState D). IsRoomyCell state size (began k) x) (sym same) room;
     }
 
     starts_goes : (answer : Result Bool RestartFault) → StartsAgain told state own size site.node.alloc site.node.seat.node after.node.seat.node answer → after.node.links ≡ site.node.links → Goes
-    starts_goes answer starts links = record { front = front; room = λ will few room. by few site.node.seat.node refl starts (was.are.each k site got).there.there room }
+    starts_goes answer starts links = record { front = front; room = λ will room. by site.node.seat.node refl starts (was.are.each k site got).there.there room }
       where
         front : IsFront (trace_of site.node) (trace_of after.node)
         front = told_front (starting.each_restart told state own size site.node.alloc o.size k (post_of site.node) (post_of after.node) answer starts links of_post)
 
-        by : FewWerePut news → (node : CellState D) → site.node.seat.node ≡ node → StartsAgain told state own size site.node.alloc node after.node.seat.node answer
+        by : (node : CellState D) → site.node.seat.node ≡ node → StartsAgain told state own size site.node.alloc node after.node.seat.node answer
             → IsInWorld told state o k node site.node.seat.ends site.clients → IsRoomyCell state size (began k) node → IsRoomyCell state size (began k) after.node.seat.node
-        by few (states.Up running) e again there room = subst (λ (x : CellState D). IsRoomyCell state size (began k) x) (sym again.0) room
-        by few (states.Down stopped) e again there room = restart_roomy told state own size (began k) t site.node.alloc stopped after.node.seat.node answer again there.first there.other (there.images t)
-            (logs_named told state o opens olds (sites_there told state o plans olds was.are (few_back olds k site got after front few)) k site got stopped site.node.seat.ends site.clients e there) room
+        by (states.Up running) e again there room = subst (λ (x : CellState D). IsRoomyCell state size (began k) x) (sym again.0) room
+        by (states.Down stopped) e again there room = restart_roomy told state own size (began k) t site.node.alloc stopped after.node.seat.node answer again there.first there.other (there.images t)
+            (logs_named told state o opens olds (sites_there told state o plans olds was.are) k site got stopped site.node.seat.ends site.clients e there) room
 
     node_goes : (up did : Bool) → NodeVisitIf up told state own size site.node after.node did → Goes
     node_goes true did acts = record {
       front = front;
-      room = λ will few room. visit_roomy told state own size o plans t opens olds k site after got was.are will few front (began k) acts.visits (not_memory (cause_of after.node.seat.node) acts.granted) of_post room;
+      room = λ will room. visit_roomy told state own size o plans t opens olds k site after got was.are will front (began k) acts.visits (not_memory (cause_of after.node.seat.node) acts.granted) of_post room;
     }
       where
         front : IsFront (trace_of site.node) (trace_of after.node)
@@ -151,8 +135,7 @@ module _ {D : Type 0} (told : Type 0) (state : D → DiskState) (own size : D �
     goes_on : Goes → AreSitesIn told state o plans news → Stay news
     goes_on goes will = record {
       are = will;
-      rooms = λ few. let before : AreRoomySites state size began olds = was.rooms (few_back olds k site got after goes.front few) in
-          changed state size began olds k site after got before (goes.room will few (before k site got));
+      rooms = changed state size began olds k site after got was.rooms (goes.room will (was.rooms k site got));
     }
 
   pub visited : (olds : List (Cast D)) (k place : ℕ) (site after : Cast D) (did : Bool) → slice_get olds k ≡ Some site → VisitAt told state own size place site after did → Stay olds → Stay (slice_set olds k after)
@@ -164,7 +147,7 @@ module _ {D : Type 0} (told : Type 0) (state : D → DiskState) (own size : D �
   pub carried : (olds news : List (Cast D)) → AreCarried olds news → Stay olds → Stay news
   carried olds news c was = record {
     are = each_carries told state o plans olds news c was.are;
-    rooms = λ few. rooms_carried state size began olds news c (was.rooms (few_carried state size began olds news c few));
+    rooms = rooms_carried state size began olds news c was.rooms;
   }
 
 -- ---- the laws
@@ -174,21 +157,21 @@ module _ {D : Type 0} (told : Type 0) (state : D → DiskState) (own size : D �
   Stays t opens sites = Stay told state own size o plans began t opens sites
 
   pub each_visit : (place : ℕ) (old new : SitesValue D) (did : Bool) → VisitStaysRoomy told state own size o plans began place old new did
-  each_visit place old new did t opens are visit few rooms = (visit_keeps told state own size (Stays t opens) (visited told state own size o plans began t opens) place old new did visit
-      (record { are = are; rooms = λ any. rooms })).rooms few
+  each_visit place old new did t opens are visit rooms = (visit_keeps told state own size (Stays t opens) (visited told state own size o plans began t opens) place old new did visit
+      (record { are = are; rooms = rooms })).rooms
 
   pub each_visits : (places : List ℕ) (old new : SitesValue D) (did : Bool) → VisitsStayRoomy told state own size o plans began places old new did
-  each_visits places old new did t opens are visits few rooms = (visits_keep told state own size (Stays t opens) (visited told state own size o plans began t opens) places old new did visits
-      (record { are = are; rooms = λ any. rooms })).rooms few
+  each_visits places old new did t opens are visits rooms = (visits_keep told state own size (Stays t opens) (visited told state own size o plans began t opens) places old new did visits
+      (record { are = are; rooms = rooms })).rooms
 
   pub each_round : (order : List ℕ) (old new : SitesValue D) (quiet : Bool) → RoundStaysRoomy told state own size o plans began order old new quiet
-  each_round order old new quiet t opens are round few rooms = (round_keeps told state own size (Stays t opens) (visited told state own size o plans began t opens) (carried told state own size o plans began t opens)
-      order old new quiet round (record { are = are; rooms = λ any. rooms })).rooms few
+  each_round order old new quiet t opens are round rooms = (round_keeps told state own size (Stays t opens) (visited told state own size o plans began t opens) (carried told state own size o plans began t opens)
+      order old new quiet round (record { are = are; rooms = rooms })).rooms
 
   pub each_rounds : (rng : Lcg) (n : ℕ) (old new : SitesValue D) (later : Lcg) → RoundsStayRoomy told state own size o plans began rng n old new later
-  each_rounds rng n old new later t opens are rounds few rooms = (rounds_keep told state own size (Stays t opens) (visited told state own size o plans began t opens) (carried told state own size o plans began t opens)
-      rng n old new later rounds (record { are = are; rooms = λ any. rooms })).rooms few
+  each_rounds rng n old new later t opens are rounds rooms = (rounds_keep told state own size (Stays t opens) (visited told state own size o plans began t opens) (carried told state own size o plans began t opens)
+      rng n old new later rounds (record { are = are; rooms = rooms })).rooms
 
   pub each_broken : (order : List ℕ) (node : NodeNo) (old new : SitesValue D) → BrokenRoundStaysRoomy told state own size o plans began order node old new
-  each_broken order node old new t opens are broken few rooms = (broken_keeps told state own size (Stays t opens) (visited told state own size o plans began t opens) (carried told state own size o plans began t opens)
-      (failed told state own size o plans began t opens) order node old new broken (record { are = are; rooms = λ any. rooms })).rooms few
+  each_broken order node old new t opens are broken rooms = (broken_keeps told state own size (Stays t opens) (visited told state own size o plans began t opens) (carried told state own size o plans began t opens)
+      (failed told state own size o plans began t opens) order node old new broken (record { are = are; rooms = rooms })).rooms

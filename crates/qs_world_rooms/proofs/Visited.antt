@@ -24,11 +24,9 @@ use Rattle.qs_world.specs.World.{Opening}
 use Rattle.qs_world_links.proofs.Adding.{Adds, adds_seen, makes_adds}
 use Rattle.qs_world_links.proofs.Hearing.{Took, post_of_node}
 use Rattle.qs_world_links.proofs.Hearing as links
-use Rattle.qs_world_links.proofs.Linking.{few_before}
-use Rattle.qs_world_links.specs.Between.{AreFew}
 use Rattle.qs_world_links.specs.Posts.{IsOfNode, IsPostOf}
 use Rattle.qs_world_nodes.proofs.Places.{same_some, set_here, set_length, set_other}
-use Rattle.qs_world_nodes.specs.Nodes.{AreSitesIn, FewWerePut, trace_at, trace_by}
+use Rattle.qs_world_nodes.specs.Nodes.{AreSitesIn, trace_at, trace_by}
 use Rattle.qs_world_one.proofs.RoomyCells.{seen_roomy}
 use Rattle.qs_world_one.specs.Rooms.{Began, IsRoomyCell}
 use Rattle.qs_world_rooms.proofs.AllThere.{AreThere, node_new, took_in}
@@ -41,12 +39,9 @@ use Rattle.qs_world_seats.proofs.Visiting.{all_hear, all_turn, granted_before, i
 use Rattle.qs_world_seats.specs.Reached.{IsGranted, IsInWorld}
 use Rattle.qs_world_seats.specs.Seats.{From}
 use Rattle.qs_world_seats.specs.Visiting.{IsTurn, PostInWorld}
-use Rattle.qs_world_traces.specs.Links.{packet_in, put_to}
+use Rattle.qs_world_traces.specs.Links.{packet_in}
 
 -- ---- one site changes
-
-pub few_front : (n : ℕ) (xs ys : List Step) → IsFront xs ys → AreFew (put_to n ys) → AreFew (put_to n xs)
-few_front n xs ys front few = few_before n xs front.rest (subst (λ (l : List Step). AreFew (put_to n l)) front.is few)
 
 module _ {D : Type 0} (olds : List (Cast D)) (k : ℕ) (site : Cast D) (got : slice_get olds k ≡ Some site) where
   pub here : (x : Cast D) → slice_get (slice_set olds k x) k ≡ Some x
@@ -59,24 +54,11 @@ module _ {D : Type 0} (olds : List (Cast D)) (k : ℕ) (site : Cast D) (got : sl
       by (inl is) = absurd (eqb-false j k apart is)
       by (inr same) = ap trace_by same
 
-  -- where few packets were put in the end, few were before
-  pub few_back : (after : Cast D) → IsFront (trace_of site.node) (trace_of after.node) → FewWerePut (slice_set olds k after) → FewWerePut olds
-  few_back after front few m n low_m low_n apart = by (set_other olds k m after)
-    where
-      now : AreFew (put_to n (trace_at (slice_set olds k after) m))
-      now = few m n (omega (arith, low_m, set_length olds k after)) (omega (arith, low_n, set_length olds k after)) apart
-
-      by : (m ≡ k) ⊎ (slice_get (slice_set olds k after) m ≡ slice_get olds m) → AreFew (put_to n (trace_at olds m))
-      by (inr same) = subst (λ (x : Option (Cast D)). AreFew (put_to n (trace_by x))) same now
-      by (inl is) = subst (λ (x : Option (Cast D)). AreFew (put_to n (trace_by x))) (sym (ap (slice_get olds) is ∙ got))
-          (few_front n (trace_of site.node) (trace_of after.node) front
-          (subst (λ (x : Option (Cast D)). AreFew (put_to n (trace_by x))) (ap (slice_get (slice_set olds k after)) is ∙ here after) now))
-
 adds_front : {D : Type 0} {nodes n : ℕ} {takes : List Packet} {old new : CellState D} → Adds nodes n takes old new → IsFront (steps_in old) (steps_in new)
 adds_front adds = record { rest = adds.steps; is = adds.trace }
 
 module _ {D : Type 0} (told : Type 0) (state : D → DiskState) (own size : D → ℕ) (o : Opening) (plans : ℕ → ℕ → List LinkFault) (t : told) (opens : IsOpening o) (olds : List (Cast D)) (k : ℕ) (site after : Cast D)
-    (got : slice_get olds k ≡ Some site) (was : AreSitesIn told state o plans olds) (will : AreSitesIn told state o plans (slice_set olds k after)) (few : FewWerePut (slice_set olds k after))
+    (got : slice_get olds k ≡ Some site) (was : AreSitesIn told state o plans olds) (will : AreSitesIn told state o plans (slice_set olds k after))
     (whole : IsFront (trace_of site.node) (trace_of after.node)) (began : Began) where
   -- ---- all sites, that one as far as the visit has come
 
@@ -93,7 +75,7 @@ module _ {D : Type 0} (told : Type 0) (state : D → DiskState) (own size : D �
     took = amid o.size k (trace_at olds) (trace_at (mids seat)) (trace_at (slice_set olds k after)) (others olds k site got (mid_site seat)) (others olds k site got after)
         (subst (λ (l : List Step). IsFront l (trace_at (mids seat) k)) (sym (ap trace_by got)) (subst (IsFront (trace_of site.node)) (sym (ap trace_by (here olds k site got (mid_site seat)))) since))
         (subst (λ (l : List Step). IsFront l (trace_at (slice_set olds k after) k)) (sym (ap trace_by (here olds k site got (mid_site seat)))) (subst (IsFront (steps_in seat.node)) (sym (ap trace_by (here olds k site got after))) till))
-        (took_in told state o plans olds was (few_back olds k site got after whole few)) (took_in told state o plans (slice_set olds k after) will few);
+        (took_in told state o plans olds was) (took_in told state o plans (slice_set olds k after) will);
   }
     where
       each : (n : ℕ) (b : Cast D) → slice_get (mids seat) n ≡ Some b → PostInWorld told state o n b.node.seat b.clients

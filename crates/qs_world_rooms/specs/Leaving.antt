@@ -7,7 +7,6 @@ use Rattle.qs_book_script.specs.declared.script.Script.{Script}
 use Rattle.qs_disk.specs.Disk.{DiskState}
 use Rattle.qs_world_left.specs.Disks.{disks_of}
 use Rattle.qs_world_nodes.specs.Lawful.{HaveCoherentLogs}
-use Rattle.qs_world_nodes.specs.Nodes.{FewWerePut}
 use Rattle.qs_world_nodes.specs.Openings.{SitOnce}
 use Rattle.qs_world_opening.specs.Scripts.{Fits}
 use Rattle.qs_world_rooms.specs.Rooms.{AreRoomyContents, AreRoomyDisks, NoneIsFull, sizes_of}
@@ -31,17 +30,17 @@ pub record BeginsRoomy {D : Type 0} (told : Type 0) (state : D → DiskState) (o
   pub coherent : HaveCoherentLogs alloc disks all.sites
   pub roomy : AreRoomyContents (sizes_of size all.sites) (map state disks)
 
--- after any rounds, each link having got fewer than 2^63 packets
+-- after any rounds
 abbrev pub RoundsLeaveRoom : {D : Type 0} → Type 0 → (D → DiskState) → (D → ℕ) → (D → ℕ) → Global → Script → List D → Lcg → ℕ → SitesValue D → SitesValue D → Lcg → Type 0
 RoundsLeaveRoom told state own size alloc script disks rng n all new later =
-    told → BeginsRoomy told state own size alloc script disks all → Rounds told state own size rng n all new later → FewWerePut new.sites → LeaveRoom state size new.sites
+    told → BeginsRoomy told state own size alloc script disks all → Rounds told state own size rng n all new later → LeaveRoom state size new.sites
 
 -- as the rounds end
 abbrev pub EndingsLeaveRoom : {D : Type 0} → Type 0 → (D → DiskState) → (D → ℕ) → (D → ℕ) → Global → Script → List D → ℕ → SitesValue D → SitesValue D → Ending → Type 0
 EndingsLeaveRoom told state own size alloc script disks seed all new ending =
-    told → BeginsRoomy told state own size alloc script disks all → IsEnding told state own size script seed all new ending → FewWerePut new.sites → LeaveRoom state size new.sites
+    told → BeginsRoomy told state own size alloc script disks all → IsEnding told state own size script seed all new ending → LeaveRoom state size new.sites
 
 -- and where one was cut short
 abbrev pub CutShortLeavesRoom : {D : Type 0} → Type 0 → (D → DiskState) → (D → ℕ) → (D → ℕ) → Global → Script → List D → ℕ → NodeNo → SitesValue D → SitesValue D → Type 0
 CutShortLeavesRoom told state own size alloc script disks seed node all new =
-    told → BeginsRoomy told state own size alloc script disks all → IsCutShort told state own size seed node all new → FewWerePut new.sites → LeaveRoom state size new.sites
+    told → BeginsRoomy told state own size alloc script disks all → IsCutShort told state own size seed node all new → LeaveRoom state size new.sites

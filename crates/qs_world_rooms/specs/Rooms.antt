@@ -10,7 +10,7 @@ use Rattle.qs_node_host.specs.Roomy.{HasRoomyLog}
 use Rattle.qs_world.specs.Openings.{IsOpening}
 use Rattle.qs_world.specs.World.{Opening}
 use Rattle.qs_world_left.specs.Left.{AreReadAsLeft}
-use Rattle.qs_world_nodes.specs.Nodes.{AreSitesIn, FewWerePut}
+use Rattle.qs_world_nodes.specs.Nodes.{AreSitesIn}
 use Rattle.qs_world_one.specs.Rooms.{Began, IsRoomyCell, IsRoomyDisk}
 use Rattle.qs_world_rounds.specs.Rounds.{Cast}
 use Rattle.qs_world_sites.specs.Breaks.{BreaksRound}
@@ -53,10 +53,10 @@ NoneIsFull sites = (n : ℕ) (site : Cast _) → slice_get sites n ≡ Some site
 abbrev pub AreRoomySites : {D : Type 0} → (D → DiskState) → (D → ℕ) → (ℕ → Began) → List (Cast D) → Type 0
 AreRoomySites state size began sites = (n : ℕ) (site : Cast _) → slice_get sites n ≡ Some site → IsRoomyCell state size (began n) site.node.seat.node
 
--- ---- they go on, in a world that a run may begin with; each link got fewer than 2^63 packets
+-- ---- they go on, in a world that a run may begin with
 
 abbrev pub StayRoomy : {D : Type 0} → (D → DiskState) → (D → ℕ) → (ℕ → Began) → List (Cast D) → List (Cast D) → Type 0
-StayRoomy state size began old new = FewWerePut new → AreRoomySites state size began old → AreRoomySites state size began new
+StayRoomy state size began old new = AreRoomySites state size began old → AreRoomySites state size began new
 
 abbrev pub CarriesStayRoomy : {D : Type 0} → (D → DiskState) → (D → ℕ) → (ℕ → Began) → List (Cast D) → List (Cast D) → Type 0
 CarriesStayRoomy state size began old new = AreCarried old new → StayRoomy state size began old new

@@ -24,7 +24,7 @@ pub fn roomy_disks_are_read()
 
 /// Nodes that have room in their logs for all that is kept there, in a world that a run may begin with, have it as lanes and links are carried, through visits
 /// of any of them, so through rounds, also through one that is cut short as a disk fails: each step finds room for its records and leaves as much as the next
-/// may need, and each restart finds it again. Each link got fewer than 2^63 packets, as its end can count.
+/// may need, and each restart finds it again.
 pub fn sites_stay_roomy<D: Disk>()
     ensures carries { (began : ℕ → Began) (old new : List (Cast D)) → CarriesStayRoomy D.state D.byte_count began old new }
     ensures visit { (o : Opening) (plans : ℕ → ℕ → List LinkFault) (began : ℕ → Began) (place : ℕ) (old new : SitesValue D) (did : Bool) → VisitStaysRoomy D.told D.state D.fault_count D.byte_count o plans began place old new did }
@@ -35,8 +35,7 @@ pub fn sites_stay_roomy<D: Disk>()
 {}
 
 /// Where a run of many nodes has begun with a script that fits, over coherent logs with room for all that is kept there, each image of each disk has a log
-/// with that room after any rounds, as the rounds end, and where one is cut short as a disk fails; and no node has stopped for a full log. Each link got
-/// fewer than 2^63 packets.
+/// with that room after any rounds, as the rounds end, and where one is cut short as a disk fails; and no node has stopped for a full log.
 pub fn runs_leave_room<D: Disk>()
     ensures rounds { (alloc : Global) (script : Script) (disks : List D) (rng later : Lcg) (n : ℕ) (all new : SitesValue D) → RoundsLeaveRoom D.told D.state D.fault_count D.byte_count alloc script disks rng n all new later }
     ensures ends { (alloc : Global) (script : Script) (disks : List D) (seed : ℕ) (all new : SitesValue D) (ending : Ending) → EndingsLeaveRoom D.told D.state D.fault_count D.byte_count alloc script disks seed all new ending }

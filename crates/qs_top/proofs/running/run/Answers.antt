@@ -130,6 +130,4 @@ returns-in-Some-SerialNodes-clause-nodes_out_of_memory g c = λ nodes seed shown
 pub returns-in-Some-SerialNodes-clause-nodes_coherent : goal.returns-in-Some-SerialNodes-clause-nodes_coherent
 returns-in-Some-SerialNodes-clause-nodes_coherent g c = λ nodes seed shown asked.
     let same : c.in-Some-SerialNodes.nodes ≡ nodes = cc (c.asked_by.ensures, c.in-Some-SerialNodes.is, c.in-Some-SerialNodes.field-0-is, asked) in
-    let same_seed : c.in-Some-SerialNodes.seed ≡ seed = cc (c.asked_by.ensures, c.in-Some-SerialNodes.is, c.in-Some-SerialNodes.field-0-is, asked) in
-    subst (λ (s : ℕ). OfThese nodes (StayCoherentOf g.D.Disk.told g.D.Disk.state g.D.Disk.fault_count g.D.Disk.byte_count s) c.args.disks.now.items c.run_nodes.new.disks.items) same_seed
-    (subst (λ (n : ℕ). OfThese n (StayCoherentOf g.D.Disk.told g.D.Disk.state g.D.Disk.fault_count g.D.Disk.byte_count c.in-Some-SerialNodes.seed) c.args.disks.now.items c.run_nodes.new.disks.items) same c.run_nodes.ensures.coherent)
+    subst (λ (n : ℕ). OfThese n (StayCoherentOf g.D.Disk.told g.D.Disk.state) c.args.disks.now.items c.run_nodes.new.disks.items) same c.run_nodes.ensures.coherent

@@ -78,7 +78,7 @@ pub returns-clause-out_of_memory : goal.returns-clause-out_of_memory
 returns-clause-out_of_memory g c = λ is. these_out g.D.Disk.told g.D.Disk.state g.D.Disk.fault_count g.D.Disk.byte_count c.args.seed c.args.nodes c.in-Ok.script c.args.shown g.K.Sink.faults g.K.Sink.given c.args.sink.now c.give.new.sink c.run_over_nodes-made.result c.give.result c.args.disks.now.items c.run_over_nodes-made.new.disks.items c.run_over_nodes-made.ensures.over c.give.ensures c.in-Ok.ensures.read (text_sits_once c.args.shown c.args.nodes c.in-Ok.script c.nodes_have_openings.ensures.read c.in-Ok.ensures.read) (text_fits c.args.shown c.args.nodes c.in-Ok.script c.requires.some (few_enough c.args.nodes c.requires.few) c.scripts_fit.ensures c.in-Ok.ensures.read) (record { opens = c.nodes_have_openings.ensures.opens; ends = c.rounds_are_runs_of_the_world.ensures.ends; cut = c.rounds_are_runs_of_the_world.ensures.cut; raised = c.runs_follow_runs.ensures.raised; read = c.disks_are_read.ensures.read; ends_follow = c.runs_follow_runs.ensures.ends; cut_follows = c.runs_follow_runs.ensures.cut; ends_stand = c.runs_leave_standing_disks.ensures.ends; cut_stands = c.runs_leave_standing_disks.ensures.cut; ends_room = c.runs_leave_room.ensures.ends; cut_room = c.runs_leave_room.ensures.cut; read_room = c.roomy_disks_are_read.ensures; ends_lawful = c.rounds_are_lawful.ensures.ends; cut_lawful = c.rounds_are_lawful.ensures.cut }) (record { laws = record { opens = c.nodes_have_openings.ensures.opens; ends = c.rounds_are_runs_of_the_world.ensures.ends; cut = c.rounds_are_runs_of_the_world.ensures.cut; raised = c.runs_follow_runs.ensures.raised; read = c.disks_are_read.ensures.read; ends_follow = c.runs_follow_runs.ensures.ends; cut_follows = c.runs_follow_runs.ensures.cut; ends_stand = c.runs_leave_standing_disks.ensures.ends; cut_stands = c.runs_leave_standing_disks.ensures.cut; ends_room = c.runs_leave_room.ensures.ends; cut_room = c.runs_leave_room.ensures.cut; read_room = c.roomy_disks_are_read.ensures; ends_lawful = c.rounds_are_lawful.ensures.ends; cut_lawful = c.rounds_are_lawful.ensures.cut }; follows = c.runs_follow_runs.ensures.refused; stands = c.refused_runs_leave_standing_disks.ensures.refused; lawful = c.rounds_are_lawful.ensures.refused; touched = c.touched_disks_stay_coherent.ensures }) is
 
 pub returns-in-Err-clause-coherent : goal.returns-in-Err-clause-coherent
-returns-in-Err-clause-coherent g c = none_coherent g.D.Disk.told g.D.Disk.state g.D.Disk.fault_count g.D.Disk.byte_count c.args.seed c.args.nodes c.args.disks.now.items c.requires.few c.requires.disks
+returns-in-Err-clause-coherent g c = none_coherent g.D.Disk.told g.D.Disk.state c.args.nodes c.args.disks.now.items c.requires.few c.requires.disks
 
 pub returns-clause-coherent : goal.returns-clause-coherent
 returns-clause-coherent g c = these_coherent g.D.Disk.told g.D.Disk.state g.D.Disk.fault_count g.D.Disk.byte_count c.args.seed c.args.nodes c.in-Ok.script c.args.shown g.K.Sink.faults g.K.Sink.given c.args.sink.now c.give.new.sink c.run_over_nodes-made.result c.give.result c.args.disks.now.items c.run_over_nodes-made.new.disks.items c.run_over_nodes-made.ensures.over c.give.ensures c.in-Ok.ensures.read (text_sits_once c.args.shown c.args.nodes c.in-Ok.script c.nodes_have_openings.ensures.read c.in-Ok.ensures.read) (text_fits c.args.shown c.args.nodes c.in-Ok.script c.requires.some (few_enough c.args.nodes c.requires.few) c.scripts_fit.ensures c.in-Ok.ensures.read) (record { opens = c.nodes_have_openings.ensures.opens; ends = c.rounds_are_runs_of_the_world.ensures.ends; cut = c.rounds_are_runs_of_the_world.ensures.cut; raised = c.runs_follow_runs.ensures.raised; read = c.disks_are_read.ensures.read; ends_follow = c.runs_follow_runs.ensures.ends; cut_follows = c.runs_follow_runs.ensures.cut; ends_stand = c.runs_leave_standing_disks.ensures.ends; cut_stands = c.runs_leave_standing_disks.ensures.cut; ends_room = c.runs_leave_room.ensures.ends; cut_room = c.runs_leave_room.ensures.cut; read_room = c.roomy_disks_are_read.ensures; ends_lawful = c.rounds_are_lawful.ensures.ends; cut_lawful = c.rounds_are_lawful.ensures.cut }) (record { laws = record { opens = c.nodes_have_openings.ensures.opens; ends = c.rounds_are_runs_of_the_world.ensures.ends; cut = c.rounds_are_runs_of_the_world.ensures.cut; raised = c.runs_follow_runs.ensures.raised; read = c.disks_are_read.ensures.read; ends_follow = c.runs_follow_runs.ensures.ends; cut_follows = c.runs_follow_runs.ensures.cut; ends_stand = c.runs_leave_standing_disks.ensures.ends; cut_stands = c.runs_leave_standing_disks.ensures.cut; ends_room = c.runs_leave_room.ensures.ends; cut_room = c.runs_leave_room.ensures.cut; read_room = c.roomy_disks_are_read.ensures; ends_lawful = c.rounds_are_lawful.ensures.ends; cut_lawful = c.rounds_are_lawful.ensures.cut }; follows = c.runs_follow_runs.ensures.refused; stands = c.refused_runs_leave_standing_disks.ensures.refused; lawful = c.rounds_are_lawful.ensures.refused; touched = c.touched_disks_stay_coherent.ensures })
