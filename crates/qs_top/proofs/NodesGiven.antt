@@ -38,7 +38,7 @@ use Rattle.qs_top.proofs.StatusLemmas.{IsFaultStatus, end_refuses, same_node, st
 use Rattle.qs_world.specs.Histories.{book_of}
 use Rattle.qs_world_left.specs.Disks.{AreCoherentDisks, AreCoherentImages, LeaveCoherent, content_at, disks_of}
 use Rattle.qs_world_left.specs.Left.{AreReadAsLeft, BeginsCoherent, CoherentAreRead, CutShortFollows, EndingsFollow, HaveCoherentContents, RaisedStayCoherent}
-use Rattle.qs_world_left.specs.Standing.{CutShortLeavesStanding, DisksStandFor, EndingsLeaveStanding, HaveStampsLeft, StandFor, up_at}
+use Rattle.qs_world_left.specs.Standing.{CutShortLeavesStanding, DisksStandFor, EndingsLeaveStanding, HaveOthersStampsLeft, StandFor, up_at}
 use Rattle.qs_world_merge.specs.MergedByKey.{IsMergedBy}
 use Rattle.qs_world_merge.specs.Observed.{journals_of}
 use Rattle.qs_world_merge.specs.StepMoves.{step_key}
@@ -123,11 +123,11 @@ module _ {D : Type 0} (told : Type 0) (state : D → DiskState) (own size : D �
     logs t coherent = logs_coherent told state own size script disks read laws ran.alloc ran.first ran.begins t coherent
 
     -- what is left of the sites is left on the disks
-    lasting : told → LeaveCoherent state ran.last.sites → (HaveStampsLeft ran.last.sites → StandFor state (opening_over ran.alloc script disks ran.first.sites) journal ran.last.sites) → AreLasting state tells journal ran.last.sites afters
+    lasting : told → LeaveCoherent state ran.last.sites → StandFor state (opening_over ran.alloc script disks ran.first.sites) journal ran.last.sites → AreLasting state tells journal ran.last.sites afters
     lasting t coherent stands = record {
       coherent = subst AreCoherentDisks (sym is) coherent;
-      stands = λ stamps. subst (DisksStandFor (book_after (machine_of tells) journal) (up_at ran.last.sites)) (sym is)
-          (subst (λ (b : BookValue). DisksStandFor (book_after b journal) (up_at ran.last.sites) (disks_of state ran.last.sites)) (machine_is told state own size script seed ending tells disks afters ran t once opens) (stands stamps));
+      stands = subst (DisksStandFor (book_after (machine_of tells) journal) (up_at ran.last.sites) (HaveOthersStampsLeft ran.last.sites)) (sym is)
+          (subst (λ (b : BookValue). DisksStandFor (book_after b journal) (up_at ran.last.sites) (HaveOthersStampsLeft ran.last.sites) (disks_of state ran.last.sites)) (machine_is told state own size script seed ending tells disks afters ran t once opens) stands);
     }
       where
         is : map state afters ≡ disks_of state ran.last.sites
@@ -178,7 +178,7 @@ module _ {D : Type 0} (told : Type 0) (state : D → DiskState) (own size : D �
       (entries (Ok ending) tells ran journal trace merged) (steps (Ok ending) tells ran journal trace merged))
       (λ t coherent. lasting (Ok ending) tells ran journal trace merged t
       (laws.ends_follow ran.alloc script disks seed ran.first ran.last ending t (begins (Ok ending) tells ran journal trace merged t coherent) ran.ends)
-      (λ stamps. laws.ends_stand ran.alloc script disks seed ran.first ran.last ending journal t ran.begins once fits_all (logs (Ok ending) tells ran journal trace merged t coherent) ran.ends stamps (entries (Ok ending) tells ran journal trace merged)))
+      (laws.ends_stand ran.alloc script disks seed ran.first ran.last ending journal t ran.begins once fits_all (logs (Ok ending) tells ran journal trace merged t coherent) ran.ends (entries (Ok ending) tells ran journal trace merged)))
       (room_judged (Ok ending) tt tells ran journal trace merged)
 
   pub told_short : (node : NodeNo) (tells : List SiteTold) (ran : Ran (Err (faults.DiskFault node)) tells) (journal : List Entry) (trace : List Step) → AreMerged tells journal trace → Conforms script (machine_of tells) journal
@@ -188,7 +188,7 @@ module _ {D : Type 0} (told : Type 0) (state : D → DiskState) (own size : D �
       (entries (Err (faults.DiskFault node)) tells ran journal trace merged) (steps (Err (faults.DiskFault node)) tells ran journal trace merged))
       (λ t coherent. lasting (Err (faults.DiskFault node)) tells ran journal trace merged t
       (laws.cut_follows ran.alloc script disks seed node ran.first ran.last t (begins (Err (faults.DiskFault node)) tells ran journal trace merged t coherent) (ran.cut node refl))
-      (λ stamps. laws.cut_stands ran.alloc script disks seed node ran.first ran.last journal t ran.begins once fits_all (logs (Err (faults.DiskFault node)) tells ran journal trace merged t coherent) (ran.cut node refl) stamps (entries (Err (faults.DiskFault node)) tells ran journal trace merged)))
+      (laws.cut_stands ran.alloc script disks seed node ran.first ran.last journal t ran.begins once fits_all (logs (Err (faults.DiskFault node)) tells ran journal trace merged t coherent) (ran.cut node refl) (entries (Err (faults.DiskFault node)) tells ran journal trace merged)))
       (room_judged (Err (faults.DiskFault node)) tt tells ran journal trace merged)
 
   -- where the logs were coherent the journal is lawful, whether it conforms or not

@@ -27,7 +27,7 @@ use Rattle.qs_top.proofs.StatusLemmas.{status_ends}
 use Rattle.qs_world.specs.Histories.{book_of}
 use Rattle.qs_world_left.specs.Disks.{AreCoherentDisks, LeaveCoherent, disks_of}
 use Rattle.qs_world_left.specs.Left.{AreReadAsLeft, RefusedFollows}
-use Rattle.qs_world_left.specs.Standing.{DisksStandFor, HaveStampsLeft, IsTold, RefusedLeavesStanding, StandFor, up_at}
+use Rattle.qs_world_left.specs.Standing.{DisksStandFor, HaveOthersStampsLeft, IsTold, RefusedLeavesStanding, StandFor, up_at}
 use Rattle.qs_world_left.specs.Touched.{TouchedStayCoherent, WasTouched}
 use Rattle.qs_world_merge.specs.MergedByKey.{IsMergedBy}
 use Rattle.qs_world_merge.specs.StepMoves.{step_key}
@@ -81,15 +81,15 @@ module _ {D : Type 0} (told : Type 0) (state : D → DiskState) (own size : D �
       (logs_coherent told state own size script disks read u.laws ran.alloc ran.first ran.begins t coherent) (ran.refused refl) entries steps
   is_lawful (Err faults.Damaged) tells ran t coherent journal trace entries steps = absurd (ran.undamaged t fits.few refl)
 
-  stands : (ending : Result Ending RoundFault) (tells : Result (List SiteTold) NoMemory) (ran : Ran ending tells) → told → AreCoherentDisks (map state disks) → HaveStampsLeft ran.last.sites → (journal : List Entry)
+  stands : (ending : Result Ending RoundFault) (tells : Result (List SiteTold) NoMemory) (ran : Ran ending tells) → told → AreCoherentDisks (map state disks) → (journal : List Entry)
       → IsTold (length disks) journal ran.last.sites → StandFor state (opening_over ran.alloc script disks ran.first.sites) journal ran.last.sites
-  stands (Ok ending) tells ran t coherent early journal entries = u.laws.ends_stand ran.alloc script disks seed ran.first ran.last ending journal t ran.begins once fits_all
-      (logs_coherent told state own size script disks read u.laws ran.alloc ran.first ran.begins t coherent) ran.ends early entries
-  stands (Err (faults.DiskFault node)) tells ran t coherent early journal entries = u.laws.cut_stands ran.alloc script disks seed node ran.first ran.last journal t ran.begins once fits_all
-      (logs_coherent told state own size script disks read u.laws ran.alloc ran.first ran.begins t coherent) (ran.cut node refl) early entries
-  stands (Err faults.NoMemory) tells ran t coherent early journal entries = u.stands ran.alloc script disks seed ran.first ran.last journal t ran.begins once fits_all
-      (logs_coherent told state own size script disks read u.laws ran.alloc ran.first ran.begins t coherent) (ran.refused refl) early entries
-  stands (Err faults.Damaged) tells ran t coherent early journal entries = absurd (ran.undamaged t fits.few refl)
+  stands (Ok ending) tells ran t coherent journal entries = u.laws.ends_stand ran.alloc script disks seed ran.first ran.last ending journal t ran.begins once fits_all
+      (logs_coherent told state own size script disks read u.laws ran.alloc ran.first ran.begins t coherent) ran.ends entries
+  stands (Err (faults.DiskFault node)) tells ran t coherent journal entries = u.laws.cut_stands ran.alloc script disks seed node ran.first ran.last journal t ran.begins once fits_all
+      (logs_coherent told state own size script disks read u.laws ran.alloc ran.first ran.begins t coherent) (ran.cut node refl) entries
+  stands (Err faults.NoMemory) tells ran t coherent journal entries = u.stands ran.alloc script disks seed ran.first ran.last journal t ran.begins once fits_all
+      (logs_coherent told state own size script disks read u.laws ran.alloc ran.first ran.begins t coherent) (ran.refused refl) entries
+  stands (Err faults.Damaged) tells ran t coherent journal entries = absurd (ran.undamaged t fits.few refl)
 
   module _ (ending : Result Ending RoundFault) (tells : Result (List SiteTold) NoMemory) (ran : Ran ending tells) where
     left : map state afters ≡ disks_of state ran.last.sites
@@ -105,7 +105,7 @@ module _ {D : Type 0} (told : Type 0) (state : D → DiskState) (own size : D �
         lasts t coherent = record {
           coherent = again t coherent;
           lawful = is_lawful ending tells ran t coherent;
-          stands = λ early journal entries. subst (DisksStandFor (book_after (book_of (opening_over ran.alloc script disks ran.first.sites)) journal) (up_at ran.last.sites)) (sym left) (stands ending tells ran t coherent early journal entries);
+          stands = λ journal entries. subst (DisksStandFor (book_after (book_of (opening_over ran.alloc script disks ran.first.sites)) journal) (up_at ran.last.sites) (HaveOthersStampsLeft ran.last.sites)) (sym left) (stands ending tells ran t coherent journal entries);
         }
 
   -- ---- disks that were raised at most

@@ -21,7 +21,7 @@ use Rattle.qs_top.specs.Run.{IsNothing, output_from}
 use Rattle.qs_top.specs.Verdicts.{IsRefusedAt, rule_of_script}
 use Rattle.qs_world.specs.Moves.{node_no}
 use Rattle.qs_world_left.specs.Disks.{AreCoherentDisks}
-use Rattle.qs_world_left.specs.Standing.{DisksStandFor, HaveStampsLeft, up_at}
+use Rattle.qs_world_left.specs.Standing.{DisksStandFor, HaveOthersStampsLeft, up_at}
 use Rattle.qs_world_merge.specs.MergedByKey.{IsMergedBy}
 use Rattle.qs_world_merge.specs.StepMoves.{step_key}
 use Rattle.qs_world_nodes.specs.Nodes.{plans_of}
@@ -75,11 +75,11 @@ pub record AreMerged (tells : List SiteTold) (journal : List Entry) (trace : Lis
   pub entries : IsMerged (map journal_in tells) journal
   pub steps : IsMergedBy step_key (length (map trace_in tells)) (λ n. get_or (map trace_in tells) n []) trace
 
--- whichever image a power cut leaves of each disk, another run may begin over them; and where no node came to the last stamp each image stands for the machine after
--- the journal
+-- whichever image a power cut leaves of each disk, another run may begin over them; and where no other node came to the last stamp each image of a disk stands for the
+-- machine after the journal
 pub record AreLasting {D : Type 0} (state : D → DiskState) (tells : List SiteTold) (journal : List Entry) (sites : List (Cast D)) (afters : List D) : Type 0 where
   pub coherent : AreCoherentDisks (map state afters)
-  pub stands : HaveStampsLeft sites → DisksStandFor (book_after (machine_of tells) journal) (up_at sites) (map state afters)
+  pub stands : DisksStandFor (book_after (machine_of tells) journal) (up_at sites) (HaveOthersStampsLeft sites) (map state afters)
 
 -- where the log of each of them had room for all that is kept there, each image that a power cut may leave has a log with that room again, if the logs were coherent
 abbrev pub DisksStayRoomy : {D : Type 0} → Type 0 → (D → DiskState) → (D → ℕ) → List D → List D → Type 0

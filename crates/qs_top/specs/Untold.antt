@@ -10,7 +10,7 @@ use Rattle.qs_top.specs.Disks.{IsOnlyTouched}
 use Rattle.qs_world.specs.Histories.{book_of}
 use Rattle.qs_world.specs.World.{Opening}
 use Rattle.qs_world_left.specs.Disks.{AreCoherentDisks}
-use Rattle.qs_world_left.specs.Standing.{DisksStandFor, HaveStampsLeft, IsTold, up_at}
+use Rattle.qs_world_left.specs.Standing.{DisksStandFor, HaveOthersStampsLeft, IsTold, up_at}
 use Rattle.qs_world_merge.specs.MergedByKey.{IsMergedBy}
 use Rattle.qs_world_merge.specs.StepMoves.{step_key}
 use Rattle.qs_world_nodes.specs.Nodes.{trace_at}
@@ -22,11 +22,11 @@ use Rattle.qs_world_serial.specs.Serial.{EachBeside, HasRun}
 use Rattle.qs_world_serial.specs.declared.serial.SiteTold.{SiteTold}
 
 -- whichever image a power cut leaves of each disk, another run may begin over them. All that the nodes made, merged, is lawful from what the logs held, and where no
--- node came to the last stamp each image stands for the machine after it
+-- other node came to the last stamp each image of a disk stands for the machine after it
 pub record AreLastingUntold {D : Type 0} (state : D → DiskState) (o : Opening) (nodes : ℕ) (sites : List (Cast D)) (afters : List D) : Type 0 where
   pub coherent : AreCoherentDisks (map state afters)
   pub lawful : (journal : List Entry) (trace : List Step) → IsTold nodes journal sites → IsMergedBy step_key nodes (trace_at sites) trace → IsLawful (book_of o) journal
-  pub stands : HaveStampsLeft sites → (journal : List Entry) → IsTold nodes journal sites → DisksStandFor (book_after (book_of o) journal) (up_at sites) (map state afters)
+  pub stands : (journal : List Entry) → IsTold nodes journal sites → DisksStandFor (book_after (book_of o) journal) (up_at sites) (HaveOthersStampsLeft sites) (map state afters)
 
 -- each disk was changed at most by the raise of its log's incarnation
 abbrev pub AreOnlyTouched : {D : Type 0} → Type 0 → (D → DiskState) → List D → List D → Type 0

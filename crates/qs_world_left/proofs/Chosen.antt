@@ -6,6 +6,7 @@ use Rattle.qs_cell.specs.State.{Up, carried_of, cause_of, disk_of}
 use Rattle.qs_cell.specs.declared.state.CellState.{CellState}
 use Rattle.qs_cell.specs.declared.state.CellState.TheVariants as states
 use Rattle.qs_cell.specs.declared.stopped.Stopped.{Stopped}
+use Rattle.qs_cell_chronicle.specs.Chronicle.{last_stamp}
 use Rattle.qs_disk.specs.Disk.{DiskState, IsImage}
 use Rattle.qs_log.specs.Image.{IsLog}
 use Rattle.qs_log.specs.Log.{Stands}
@@ -45,6 +46,7 @@ stamp_at sites n = stamp_by (slice_get sites n)
 pub record RunsTo (o : Opening) (n stamp : ℕ) (observed : Observed) : Type 0 where
   pub local : IsOfLocalRun o n observed
   pub upto : (local.world.hosts n).stamp ≤ stamp
+  pub within : stamp ≤ last_stamp
 
 -- in the world the node has this log, in an incarnation below the next
 pub record HasLog (n : ℕ) (up : Bool) (inc : ℕ) (log : List Record) (world : PacketWorld) : Type 0 where
@@ -56,10 +58,11 @@ pub record ComesTo (o : Opening) (n stamp : ℕ) (observed : Observed) (up : Boo
   pub to : RunsTo o n stamp observed
   pub has : HasLog n up inc log to.local.world
 
-abbrev runs_to : {o : Opening} {n : ℕ} {observed : Observed} {stamp : ℕ} {world : PacketWorld} → HasReached o n observed stamp world → RunsTo o n stamp observed
-runs_to {o} {n} {observed} {stamp} {world} r = record {
+abbrev runs_to : {o : Opening} {n : ℕ} {observed : Observed} {stamp : ℕ} {world : PacketWorld} → HasReached o n observed stamp world → stamp ≤ last_stamp → RunsTo o n stamp observed
+runs_to {o} {n} {observed} {stamp} {world} r within = record {
   local = record { steps = r.steps; are = r.are; world = world; run = r.run; journal_is = r.journal_is; trace_is = r.trace_is; puts = r.puts; takes = r.takes };
   upto = (each_reached_up_to o n observed stamp world r).host;
+  within = within;
 }
 
 module _ {D : Type 0} (told : Type 0) (state : D → DiskState) (o : Opening) (n : ℕ) (t : told) where
@@ -73,7 +76,7 @@ module _ {D : Type 0} (told : Type 0) (state : D → DiskState) (o : Opening) (n
   up : (running : Up D) → IsUpIn told state o n running → (image : List ℕ) → IsImage (state running.host.log.disk.disk).now image → (present : Present) (records : List Record) (used : ℕ) → IsLog present records used image
       → ComesTo o n running.carried.chronicle.told.stamp (observed_of running.carried.chronicle.told) true present.value.inc records
   up running was image at present records used log = record {
-    to = runs_to was.reached.reached;
+    to = runs_to was.reached.reached was.reached.shows.carried.within;
     has = record {
       up_is = was.reached.shows.up;
       log_is = sym (ap (λ (h : Host). h.log) was.reached.shows.host
@@ -96,7 +99,7 @@ module _ {D : Type 0} (told : Type 0) (state : D → DiskState) (o : Opening) (n
       of_log : (found : List Record) → Reaches o n stopped.carried.chronicle.told (ShowsDown n stopped found) → HasLogOf found image
           → ComesTo o n stopped.carried.chronicle.told.stamp (observed_of stopped.carried.chronicle.told) false present.value.inc records
       of_log found r log_of = record {
-        to = runs_to r.reached;
+        to = runs_to r.reached r.shows.carried.within;
         has = record {
           up_is = r.shows.down;
           log_is = sym (r.shows.log_is ∙ one_log log_of.present present found records log_of.used used image log_of.log log);
@@ -113,8 +116,8 @@ module _ {D : Type 0} (told : Type 0) (state : D → DiskState) (o : Opening) (n
 -- some world, whichever image there is
 pub runs : {D : Type 0} (told : Type 0) (state : D → DiskState) (o : Opening) (n : ℕ) (node : CellState D) → IsCellIn told state o n node
     → RunsTo o n (carried_of node).chronicle.told.stamp (observed_of (carried_of node).chronicle.told)
-runs told state o n (states.Up running) was = runs_to was.reached.reached
-runs told state o n (states.Down stopped) was = runs_to was.to_first.reached
+runs told state o n (states.Up running) was = runs_to was.reached.reached was.reached.shows.carried.within
+runs told state o n (states.Down stopped) was = runs_to was.to_first.reached was.to_first.shows.carried.within
 
 -- ---- each image has a log
 

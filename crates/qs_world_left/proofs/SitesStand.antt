@@ -27,7 +27,7 @@ use Rattle.qs_world_left.proofs.Reached.{AreLeftThere, AreReached, cut_reaches, 
 use Rattle.qs_world_left.proofs.RunsLeave.{same_size}
 use Rattle.qs_world_left.proofs.RunsStand.{each_run_stands}
 use Rattle.qs_world_left.specs.Disks.{disk_state, disks_of}
-use Rattle.qs_world_left.specs.Standing.{CellsLeaveStanding, CutShortLeavesStanding, EndingsLeaveStanding, HaveStampsLeft, IsTold, RefusedLeavesStanding, RoundsLeaveStanding, SitesLeaveStanding, StandFor, StandsFor, up_at, up_by}
+use Rattle.qs_world_left.specs.Standing.{CellsLeaveStanding, CutShortLeavesStanding, EndingsLeaveStanding, HaveOthersStampsLeft, IsTold, RefusedLeavesStanding, RoundsLeaveStanding, SitesLeaveStanding, StandFor, StandsFor, up_at, up_by}
 use Rattle.qs_world_merge.proofs.OfOneRun.{each_is_of_one_run}
 use Rattle.qs_world_merge.specs.LocalRuns.{client_at}
 use Rattle.qs_world_merge.specs.MergedByKey.{is_after}
@@ -58,22 +58,19 @@ unlike a b e same = grind (arith, nat_tests, e, same)
 or_left : (a b : Bool) → a ≡ true → (a || b) ≡ true
 or_left a b is = rw is refl
 
-within : (a b : ℕ) → a < b → a ≤ b
-within a b low = omega (arith, low)
+after_own : (a s m k : ℕ) → a ≤ s → m ≡ k → (nat_lt a s || ((a == s) && nat_le m k)) ≡ true
+after_own a s m k upto same = grind (arith, nat_tests, upto, same)
 
-lower : (a b c : ℕ) → a ≤ b → b < c → a < c
-lower a b c upto below = omega (arith, upto, below)
-
-module _ {D : Type 0} (told : Type 0) (state : D → DiskState) (o : Opening) (plans : ℕ → ℕ → List LinkFault) (sites : List (Cast D)) (t : told) (opens : IsOpening o) (are : AreCellsIn told state o plans sites) (early : HaveStampsLeft sites)
-    (k : ℕ) (in_k : k < o.size) (disk : DiskState) (of_k : slice_get (disks_of state sites) k ≡ Some disk) (image : List ℕ) (at : IsImage disk.now image) (present : Present) (records : List Record) (used : ℕ) (log : IsLog present records used image) where
+module _ {D : Type 0} (told : Type 0) (state : D → DiskState) (o : Opening) (plans : ℕ → ℕ → List LinkFault) (sites : List (Cast D)) (t : told) (opens : IsOpening o) (are : AreCellsIn told state o plans sites)
+    (k : ℕ) (early : HaveOthersStampsLeft sites k) (in_k : k < o.size) (disk : DiskState) (of_k : slice_get (disks_of state sites) k ≡ Some disk) (image : List ℕ) (at : IsImage disk.now image) (present : Present) (records : List Record) (used : ℕ) (log : IsLog present records used image) where
   abbrev observed : ℕ → Observed
   observed n = observed_by (journal_at sites n) (trace_at sites n)
 
-  -- node k comes to a world with the log of the image, and each other one to some world; none has made its last step
+  -- node k comes to a world with the log of the image, and each other one to some world, in which it has not made its last step
   record Goes (n : ℕ) (told_of : Observed) (up : Bool) : Type 0 where
     stamp : ℕ
     to : RunsTo o n stamp told_of
-    before : stamp < last_stamp
+    before : n ≢ k → stamp < last_stamp
     has : n ≡ k → HasLog n up present.value.inc records to.local.world
 
   goes_at : (n : ℕ) (a : Cast D) → slice_get sites n ≡ Some a → (b : Bool) → (n == k) ≡ b → Goes n (observed n) (up_at sites n)
@@ -111,18 +108,33 @@ module _ {D : Type 0} (told : Type 0) (state : D → DiskState) (o : Opening) (p
   in_world : k < one.world.size
   in_world = omega (arith, in_k, sized)
 
-  stamps : (n : ℕ) → n < o.size → (one.world.hosts n).stamp < last_stamp
-  stamps n low = subst (λ (s : ℕ). s < last_stamp) (sym (ap (λ (h : Host). h.stamp) (one.each n low).host)) (lower ((local n low).world.hosts n).stamp (goes n low).stamp last_stamp (goes n low).to.upto (goes n low).before)
+  stamp_same : (n : ℕ) (low : n < o.size) → (one.world.hosts n).stamp ≡ ((local n low).world.hosts n).stamp
+  stamp_same n low = ap (λ (h : Host). h.stamp) (one.each n low).host
+
+  stamps : (n : ℕ) → n < o.size → (one.world.hosts n).stamp ≤ last_stamp
+  stamps n low = omega (arith, stamp_same n low, (goes n low).to.upto, (goes n low).to.within)
+
+  stamps_before : (n : ℕ) → n < o.size → n ≢ k → (one.world.hosts n).stamp < last_stamp
+  stamps_before n low apart = omega (arith, stamp_same n low, (goes n low).to.upto, (goes n low).before apart)
 
   last : IsLast one.world
   last = run_last (untimed one.moves) (start o) one.world one.run (record { in_run = some_size o.size (parts (nat_le 1 o.size) _ opens.size).0; stamp_is = refl })
 
-  last_early : one.world.last.0 < last_stamp
-  last_early = subst (λ (s : ℕ). s < last_stamp) last.stamp_is (stamps one.world.last.1 (omega (arith, last.in_run, sized)))
+  in_run : one.world.last.1 < o.size
+  in_run = omega (arith, last.in_run, sized)
+
+  -- the last step of all is of node k, or stands before the last stamp
+  after : is_after one.world.last last_stamp k ≡ true
+  after = by (one.world.last.1 == k) refl
+    where
+      by : (b : Bool) → (one.world.last.1 == k) ≡ b → is_after one.world.last last_stamp k ≡ true
+      by true own = after_own one.world.last.0 last_stamp one.world.last.1 k (subst (λ (s : ℕ). s ≤ last_stamp) last.stamp_is (stamps one.world.last.1 in_run)) (eqb-true one.world.last.1 k own)
+      by false apart = or_left (nat_lt one.world.last.0 last_stamp) _ (lt-ltb one.world.last.0 last_stamp
+          (subst (λ (s : ℕ). s < last_stamp) last.stamp_is (stamps_before one.world.last.1 in_run (unlike one.world.last.1 k apart))))
 
   order : is_in_order one.world k last_stamp ≡ true
   order = and_from (nat_lt k one.world.size && nat_lt last_stamp stamp_limit) _ (and_from (nat_lt k one.world.size) (nat_lt last_stamp stamp_limit) (lt-ltb k one.world.size in_world) (lt-ltb last_stamp stamp_limit (omega arith)))
-      (and_from (is_after one.world.last last_stamp k) (nat_le (one.world.hosts k).stamp last_stamp) (or_left (nat_lt one.world.last.0 last_stamp) _ (lt-ltb one.world.last.0 last_stamp last_early)) (le-leb (one.world.hosts k).stamp last_stamp (within (one.world.hosts k).stamp last_stamp (stamps k in_k))))
+      (and_from (is_after one.world.last last_stamp k) (nat_le (one.world.hosts k).stamp last_stamp) after (le-leb (one.world.hosts k).stamp last_stamp (stamps k in_k)))
 
   its : HasLog k (up_at sites k) present.value.inc records (local k in_k).world
   its = (goes k in_k).has refl
@@ -137,35 +149,35 @@ module _ {D : Type 0} (told : Type 0) (state : D → DiskState) (o : Opening) (p
       (each_run_stands o (untimed one.moves) one.world k last_stamp (present.value.inc + 1) opens one.run order (subst (λ (i : ℕ). i < present.value.inc + 1) (sym same.network.inc) its.later))))
 
 pub each_cells_stand : {D : Type 0} (told : Type 0) (state : D → DiskState) (o : Opening) (plans : ℕ → ℕ → List LinkFault) (sites : List (Cast D)) (journal : List Entry) → CellsLeaveStanding told state o plans sites journal
-each_cells_stand told state o plans sites journal t opens are early entries k disk of_k image at present records used log =
-    chosen_stands told state o plans sites t opens are early k (low (slice_get_within (disks_of state sites) k disk of_k)) disk of_k image at present records used log journal entries
+each_cells_stand told state o plans sites journal t opens are entries k disk of_k early image at present records used log =
+    chosen_stands told state o plans sites t opens are k early (low (slice_get_within (disks_of state sites) k disk of_k)) disk of_k image at present records used log journal entries
   where
     low : k < length (disks_of state sites) → k < o.size
     low is = omega (arith, is, length-map sites (disk_state state), are.count)
 
 pub each_sites_stand : {D : Type 0} (told : Type 0) (state : D → DiskState) (o : Opening) (plans : ℕ → ℕ → List LinkFault) (sites : List (Cast D)) (journal : List Entry) → SitesLeaveStanding told state o plans sites journal
-each_sites_stand told state o plans sites journal t opens are early entries = each_cells_stand told state o plans sites journal t opens (each_cells told state o plans sites are) early entries
+each_sites_stand told state o plans sites journal t opens are entries = each_cells_stand told state o plans sites journal t opens (each_cells told state o plans sites are) entries
 
 -- ---- of a run that has begun
 
 module _ {D : Type 0} (may : (o : Opening) → MayBegin o) (told : Type 0) (state : D → DiskState) (own size : D → ℕ) (alloc : Global) (script : Script) (disks : List D) (all : SitesValue D) where
-  stand : (new : SitesValue D) (journal : List Entry) → told → AreReached told state alloc script disks all new → HaveStampsLeft new.sites → IsTold (length disks) journal new.sites
+  stand : (new : SitesValue D) (journal : List Entry) → told → AreReached told state alloc script disks all new → IsTold (length disks) journal new.sites
       → StandFor state (opening_over alloc script disks all.sites) journal new.sites
-  stand new journal t reached early entries = each_sites_stand told state (opening_over alloc script disks all.sites) (plans_of script) new.sites journal t reached.opens reached.are early entries
+  stand new journal t reached entries = each_sites_stand told state (opening_over alloc script disks all.sites) (plans_of script) new.sites journal t reached.opens reached.are entries
 
   pub each_rounds_stand : (rng : Lcg) (n : ℕ) (new : SitesValue D) (later : Lcg) (journal : List Entry) → RoundsLeaveStanding told state own size alloc script disks rng n all new later journal
-  each_rounds_stand rng n new later journal t begun once fits coherent rounds early entries =
-      stand new journal t (rounds_reach may told state own size alloc script disks all t begun once fits coherent rng n new later rounds) early entries
+  each_rounds_stand rng n new later journal t begun once fits coherent rounds entries =
+      stand new journal t (rounds_reach may told state own size alloc script disks all t begun once fits coherent rng n new later rounds) entries
 
   pub each_ending_stands : (seed : ℕ) (new : SitesValue D) (ending : Ending) (journal : List Entry) → EndingsLeaveStanding told state own size alloc script disks seed all new ending journal
-  each_ending_stands seed new ending journal t begun once fits coherent is early entries =
-      stand new journal t (ending_reaches may told state own size alloc script disks all t begun once fits coherent seed new ending is) early entries
+  each_ending_stands seed new ending journal t begun once fits coherent is entries =
+      stand new journal t (ending_reaches may told state own size alloc script disks all t begun once fits coherent seed new ending is) entries
 
   pub each_cut_stands : (seed : ℕ) (node : NodeNo) (new : SitesValue D) (journal : List Entry) → CutShortLeavesStanding told state own size alloc script disks seed node all new journal
-  each_cut_stands seed node new journal t begun once fits coherent is early entries =
-      stand new journal t (cut_reaches may told state own size alloc script disks all t begun once fits coherent seed node new is) early entries
+  each_cut_stands seed node new journal t begun once fits coherent is entries =
+      stand new journal t (cut_reaches may told state own size alloc script disks all t begun once fits coherent seed node new is) entries
 
   pub each_refused_stands : (seed : ℕ) (new : SitesValue D) (journal : List Entry) → RefusedLeavesStanding told state own size alloc script disks seed all new journal
-  each_refused_stands seed new journal t begun once fits coherent out early entries =
+  each_refused_stands seed new journal t begun once fits coherent out entries =
       let left : AreLeftThere told state alloc script disks all new = refused_leaves may told state own size alloc script disks all t begun once fits coherent seed new out in
-      each_cells_stand told state (opening_over alloc script disks all.sites) (plans_of script) new.sites journal t left.opens left.are early entries
+      each_cells_stand told state (opening_over alloc script disks all.sites) (plans_of script) new.sites journal t left.opens left.are entries

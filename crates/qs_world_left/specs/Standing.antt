@@ -1,6 +1,6 @@
 -- What the log of an image of a node's disk stands for: the node goes on from the machine, after a crash where it is up, by a lawful restart over that log; and
 -- what the machine has of that node then is what the log says.
-use Rattle.std.specs.Prelude.{◌≡◌, ℕ, ◌+◌, ◌<◌, Bool, true, false, List, [], ◌∷◌, length, Option, None, Some, is_none, slice_get}
+use Rattle.std.specs.Prelude.{◌≡◌, ◌≢◌, ℕ, ◌+◌, ◌<◌, Bool, true, false, List, [], ◌∷◌, length, Option, None, Some, is_none, slice_get}
 use Rattle.std.specs.Global.{Global}
 use Rattle.qs_base.specs.declared.identifiers.NodeNo.{NodeNo}
 use Rattle.qs_book_journal.specs.Merge.{IsMerged}
@@ -85,9 +85,9 @@ EachRunStands = (o : Opening) (moves : List Move) (world : PacketWorld) (n stamp
 abbrev pub IsStanding : BookValue → ℕ → Bool → List ℕ → Type 0
 IsStanding book n up image = (present : Present) (records : List Record) (used : ℕ) → IsLog present records used image → StandsFor book n up (present.value.inc + 1) records
 
--- each image of each disk does, by whether its node is up
-abbrev pub DisksStandFor : BookValue → (ℕ → Bool) → List DiskState → Type 0
-DisksStandFor book ups disks = (n : ℕ) (disk : DiskState) → slice_get disks n ≡ Some disk → EachImage (IsStanding book n (ups n)) disk.now
+-- each image of each disk of which this holds does, by whether its node is up
+abbrev pub DisksStandFor : BookValue → (ℕ → Bool) → (ℕ → Type 0) → List DiskState → Type 0
+DisksStandFor book ups Holds disks = (n : ℕ) (disk : DiskState) → slice_get disks n ≡ Some disk → Holds n → EachImage (IsStanding book n (ups n)) disk.now
 
 -- ---- of sites
 
@@ -98,47 +98,47 @@ up_by (Some site) = is_none (cause_of site.node.seat.node)
 abbrev pub up_at : {D : Type 0} → List (Cast D) → ℕ → Bool
 up_at sites n = up_by (slice_get sites n)
 
--- no node has come to the last stamp, so that each may make one more step behind all others
-abbrev pub HaveStampsLeft : {D : Type 0} → List (Cast D) → Type 0
-HaveStampsLeft sites = (n : ℕ) (site : Cast _) → slice_get sites n ≡ Some site → (carried_of site.node.seat.node).chronicle.told.stamp < last_stamp
+-- no other node has come to the last stamp, so that this one may make one more step behind all others
+abbrev pub HaveOthersStampsLeft : {D : Type 0} → List (Cast D) → ℕ → Type 0
+HaveOthersStampsLeft sites n = (m : ℕ) (site : Cast _) → slice_get sites m ≡ Some site → m ≢ n → (carried_of site.node.seat.node).chronicle.told.stamp < last_stamp
 
 -- all that the cells tell, merged
 abbrev pub IsTold : {D : Type 0} → ℕ → List Entry → List (Cast D) → Type 0
 IsTold size journal sites = IsMerged (journals_of size (λ k. observed_by (journal_at sites k) (trace_at sites k))) journal
 
 abbrev pub StandFor : {D : Type 0} → (D → DiskState) → Opening → List Entry → List (Cast D) → Type 0
-StandFor state o journal sites = DisksStandFor (book_after (book_of o) journal) (up_at sites) (disks_of state sites)
+StandFor state o journal sites = DisksStandFor (book_after (book_of o) journal) (up_at sites) (HaveOthersStampsLeft sites) (disks_of state sites)
 
 -- the disks of sites in the world stand for the machine after that
 abbrev pub SitesLeaveStanding : {D : Type 0} → Type 0 → (D → DiskState) → Opening → (ℕ → ℕ → List LinkFault) → List (Cast D) → List Entry → Type 0
 SitesLeaveStanding told state o plans sites journal =
-    told → IsOpening o → AreSitesIn told state o plans sites → HaveStampsLeft sites → IsTold o.size journal sites → StandFor state o journal sites
+    told → IsOpening o → AreSitesIn told state o plans sites → IsTold o.size journal sites → StandFor state o journal sites
 
 -- and so where their cells alone are known to be there, whose links keep their plans
 abbrev pub CellsLeaveStanding : {D : Type 0} → Type 0 → (D → DiskState) → Opening → (ℕ → ℕ → List LinkFault) → List (Cast D) → List Entry → Type 0
 CellsLeaveStanding told state o plans sites journal =
-    told → IsOpening o → AreCellsIn told state o plans sites → HaveStampsLeft sites → IsTold o.size journal sites → StandFor state o journal sites
+    told → IsOpening o → AreCellsIn told state o plans sites → IsTold o.size journal sites → StandFor state o journal sites
 
 -- and so do those of a run that has begun with a script that fits over coherent logs: after any rounds
 abbrev pub RoundsLeaveStanding : {D : Type 0} → Type 0 → (D → DiskState) → (D → ℕ) → (D → ℕ) → Global → Script → List D → Lcg → ℕ → SitesValue D → SitesValue D → Lcg → List Entry → Type 0
 RoundsLeaveStanding told state own size alloc script disks rng n all new later journal =
-    told → HasBegun told state own alloc script disks all → SitOnce script.seats → Fits (length disks) script → HaveCoherentLogs alloc disks all.sites → Rounds told state own size rng n all new later → HaveStampsLeft new.sites
+    told → HasBegun told state own alloc script disks all → SitOnce script.seats → Fits (length disks) script → HaveCoherentLogs alloc disks all.sites → Rounds told state own size rng n all new later
     → IsTold (length disks) journal new.sites → StandFor state (opening_over alloc script disks all.sites) journal new.sites
 
 -- as the rounds end
 abbrev pub EndingsLeaveStanding : {D : Type 0} → Type 0 → (D → DiskState) → (D → ℕ) → (D → ℕ) → Global → Script → List D → ℕ → SitesValue D → SitesValue D → Ending → List Entry → Type 0
 EndingsLeaveStanding told state own size alloc script disks seed all new ending journal =
-    told → HasBegun told state own alloc script disks all → SitOnce script.seats → Fits (length disks) script → HaveCoherentLogs alloc disks all.sites → IsEnding told state own size script seed all new ending → HaveStampsLeft new.sites
+    told → HasBegun told state own alloc script disks all → SitOnce script.seats → Fits (length disks) script → HaveCoherentLogs alloc disks all.sites → IsEnding told state own size script seed all new ending
     → IsTold (length disks) journal new.sites → StandFor state (opening_over alloc script disks all.sites) journal new.sites
 
 -- and where one was cut short
 abbrev pub CutShortLeavesStanding : {D : Type 0} → Type 0 → (D → DiskState) → (D → ℕ) → (D → ℕ) → Global → Script → List D → ℕ → NodeNo → SitesValue D → SitesValue D → List Entry → Type 0
 CutShortLeavesStanding told state own size alloc script disks seed node all new journal =
-    told → HasBegun told state own alloc script disks all → SitOnce script.seats → Fits (length disks) script → HaveCoherentLogs alloc disks all.sites → IsCutShort told state own size seed node all new → HaveStampsLeft new.sites
+    told → HasBegun told state own alloc script disks all → SitOnce script.seats → Fits (length disks) script → HaveCoherentLogs alloc disks all.sites → IsCutShort told state own size seed node all new
     → IsTold (length disks) journal new.sites → StandFor state (opening_over alloc script disks all.sites) journal new.sites
 
 -- and where memory was refused: the history is all that the cells would tell, and in it the node stopped, with or without its last step
 abbrev pub RefusedLeavesStanding : {D : Type 0} → Type 0 → (D → DiskState) → (D → ℕ) → (D → ℕ) → Global → Script → List D → ℕ → SitesValue D → SitesValue D → List Entry → Type 0
 RefusedLeavesStanding told state own size alloc script disks seed all new journal =
-    told → HasBegun told state own alloc script disks all → SitOnce script.seats → Fits (length disks) script → HaveCoherentLogs alloc disks all.sites → IsOutOfMemory told state own size seed all new → HaveStampsLeft new.sites
+    told → HasBegun told state own alloc script disks all → SitOnce script.seats → Fits (length disks) script → HaveCoherentLogs alloc disks all.sites → IsOutOfMemory told state own size seed all new
     → IsTold (length disks) journal new.sites → StandFor state (opening_over alloc script disks all.sites) journal new.sites

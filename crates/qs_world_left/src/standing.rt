@@ -22,7 +22,7 @@ pub fn packet_runs_leave_standing_logs()
 {}
 
 /// Whichever image a power cut leaves of the disk of a node of a run, its log stands for the machine after all that the cells tell, merged, whether the node is
-/// up or down. No node has come to its last stamp.
+/// up or down. No other node has come to the last stamp.
 pub fn runs_leave_standing_disks<D: Disk>()
     ensures sites { (o : Opening) (plans : ℕ → ℕ → List LinkFault) (sites : List (Cast D)) (journal : List Entry) → SitesLeaveStanding D.told D.state o plans sites journal }
     ensures rounds { (alloc : Global) (script : Script) (disks : List D) (rng later : Lcg) (n : ℕ) (all new : SitesValue D) (journal : List Entry)
