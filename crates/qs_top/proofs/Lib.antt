@@ -31,6 +31,8 @@ mod NodesGiven
 mod NodesLeft
 -- What it leaves where memory was refused.
 mod NodesUntold
+-- The room that it leaves.
+mod NodesRoomy
 -- Its journal, and the disks that are named.
 mod NodesLawful
 -- The text of its script, be it made or read.

@@ -23,7 +23,7 @@ use Rattle.qs_top.specs.Inner.Giving.{IsGiven}
 use Rattle.qs_top.specs.Inner.Making.{not_opened}
 use Rattle.qs_top.specs.Inner.Over.{IsOutput}
 use Rattle.qs_top.specs.Inner.OverNodes.{IsOverNodes}
-use Rattle.qs_top.specs.Nodes.{AreHeldBy, AreLasting, AreMerged, AreTold, DisksStayRoomy, IsNotBegunOf, IsRefusedOf, IsShortOf, IsWholeOf, machine_of, opened_in}
+use Rattle.qs_top.specs.Nodes.{AreHeldBy, AreLasting, AreMerged, AreTold, IsNotBegunOf, IsRefusedOf, IsShortOf, IsWholeOf, machine_of, opened_in}
 use Rattle.qs_top.specs.Run.{IsNothing, output_from}
 use Rattle.qs_top.specs.Statuses.{IfNot, IsEnd, IsOfRounds, Tells}
 use Rattle.qs_top.specs.Verdicts.{IsRefusal}
@@ -32,7 +32,7 @@ use Rattle.qs_top.specs.declared.whole.RunMade.{RunMade}
 use Rattle.qs_top.proofs.Given.{ends_given, given_part, given_whole, status_made, status_of_given}
 use Rattle.qs_top.proofs.NodesCame.{came_built, came_silent, came_to}
 use Rattle.qs_top.proofs.Coherent.{refused_by_script}
-use Rattle.qs_top.proofs.NodesMachine.{begun_sizes, left_sizes, left_states, machine_is}
+use Rattle.qs_top.proofs.NodesMachine.{left_states, machine_is}
 use Rattle.qs_top.proofs.NodesTold.{held_all, map_length, merged_journals, merged_traces, sites_count}
 use Rattle.qs_top.proofs.StatusLemmas.{IsFaultStatus, end_refuses, same_node, status_ends}
 use Rattle.qs_world.specs.Histories.{book_of}
@@ -49,8 +49,6 @@ use Rattle.qs_world_nodes.specs.Openings.{NodesHaveOpening, SitOnce, opening_ove
 use Rattle.qs_world_nodes.specs.Running.{CutShortIsTraced, EndingsAreTraced}
 use Rattle.qs_world_plans.specs.Waiting.{waiting_of}
 use Rattle.qs_world.specs.World.{Opening}
-use Rattle.qs_world_rooms.specs.Leaving.{BeginsRoomy, CutShortLeavesRoom, EndingsLeaveRoom, LeaveRoom}
-use Rattle.qs_world_rooms.specs.Rooms.{AreRoomyContents, AreRoomyDisks, RoomyAreRead, sizes_of}
 use Rattle.qs_world_rounds.specs.declared.faults.RoundFault.{RoundFault}
 use Rattle.qs_world_rounds.specs.declared.faults.RoundFault.TheVariants as faults
 use Rattle.qs_world_rounds.specs.declared.rounds.Ending.{Ending}
@@ -75,9 +73,6 @@ pub record NodesLaws {D : Type 0} (told : Type 0) (state : D → DiskState) (own
   pub cut_follows : (alloc : Global) (script : Script) (disks : List D) (seed : ℕ) (node : NodeNo) (all new : SitesValue D) → CutShortFollows told state own size alloc script disks seed node all new
   pub ends_stand : (alloc : Global) (script : Script) (disks : List D) (seed : ℕ) (all new : SitesValue D) (ending : Ending) (journal : List Entry) → EndingsLeaveStanding told state own size alloc script disks seed all new ending journal
   pub cut_stands : (alloc : Global) (script : Script) (disks : List D) (seed : ℕ) (node : NodeNo) (all new : SitesValue D) (journal : List Entry) → CutShortLeavesStanding told state own size alloc script disks seed node all new journal
-  pub ends_room : (alloc : Global) (script : Script) (disks : List D) (seed : ℕ) (all new : SitesValue D) (ending : Ending) → EndingsLeaveRoom told state own size alloc script disks seed all new ending
-  pub cut_room : (alloc : Global) (script : Script) (disks : List D) (seed : ℕ) (node : NodeNo) (all new : SitesValue D) → CutShortLeavesRoom told state own size alloc script disks seed node all new
-  pub read_room : (sizes : List ℕ) (disks : List DiskState) → RoomyAreRead sizes disks
   pub ends_lawful : (alloc : Global) (script : Script) (disks : List D) (seed : ℕ) (all new : SitesValue D) (ending : Ending) (journal : List Entry) (trace : List Step) → EndingsAreLawful told state own size alloc script disks seed all new ending journal trace
   pub cut_lawful : (alloc : Global) (script : Script) (disks : List D) (seed : ℕ) (node : NodeNo) (all new : SitesValue D) (journal : List Entry) (trace : List Step) → CutShortIsLawful told state own size alloc script disks seed node all new journal trace
 
@@ -133,43 +128,19 @@ module _ {D : Type 0} (told : Type 0) (state : D → DiskState) (own size : D �
         is : map state afters ≡ disks_of state ran.last.sites
         is = left_states told state own size script seed ending (Ok tells) disks afters ran
 
-    -- and so has each disk room again
-    begins_roomy : told → AreCoherentDisks (map state disks) → AreRoomyDisks (map size disks) (map state disks) → BeginsRoomy told state own size ran.alloc script disks ran.first
-    begins_roomy t coherent roomy = record {
-      begun = ran.begins;
-      once = once;
-      fits = fits_all;
-      coherent = logs t coherent;
-      roomy = subst (λ (sizes : List ℕ). AreRoomyContents sizes (map state disks)) (begun_sizes told state own size script seed ending tells disks afters ran)
-          (laws.read_room (map size disks) (map state disks) (read t) roomy);
-    }
-
-    left_roomy : LeaveRoom state size ran.last.sites → AreRoomyDisks (map size afters) (map state afters)
-    left_roomy leave = subst (λ (sizes : List ℕ). AreRoomyDisks sizes (map state afters)) (sym (left_sizes told state own size script seed ending tells disks afters ran))
-        (subst (AreRoomyDisks (sizes_of size ran.last.sites)) (sym (left_states told state own size script seed ending (Ok tells) disks afters ran)) leave.disks)
-
     pub told_as : Conforms script (machine_of tells) journal → (told → IsTraced (opening_over ran.alloc script disks ran.first.sites) (plans_of script) journal trace)
-        → (told → AreCoherentDisks (map state disks) → AreLasting state tells journal ran.last.sites afters) → DisksStayRoomy told state size disks afters
+        → (told → AreCoherentDisks (map state disks) → AreLasting state tells journal ran.last.sites afters)
         → AreTold told state own size script seed nodes ending tells disks afters ran journal trace
-    told_as conforms traced lasts roomy = record {
+    told_as conforms traced lasts = record {
       held = λ t. subst (λ (k : ℕ). AreHeldBy state script k disks (map opened_in tells)) count (held_all told state own size script seed ending tells disks afters ran t);
       merged = merged;
       conforms = conforms;
       traced = traced;
       lasts = lasts;
-      roomy = roomy;
     }
 
     lawful_by : told → IsLawful (book_of (opening_over ran.alloc script disks ran.first.sites)) journal → IsLawful (machine_of tells) journal
     lawful_by t lawful = subst (λ (b : BookValue). IsLawful b journal) (machine_is told state own size script seed ending tells disks afters ran t once opens) lawful
-
-  pub room_judged : (ending : Result Ending RoundFault) → IsJudged ending → (tells : List SiteTold) (ran : Ran ending tells) (journal : List Entry) (trace : List Step) → AreMerged tells journal trace → DisksStayRoomy told state size disks afters
-  room_judged (Ok ending) judged tells ran journal trace merged t coherent roomy = left_roomy (Ok ending) tells ran journal trace merged
-      (laws.ends_room ran.alloc script disks seed ran.first ran.last ending t (begins_roomy (Ok ending) tells ran journal trace merged t coherent roomy) ran.ends)
-  room_judged (Err (faults.DiskFault node)) judged tells ran journal trace merged t coherent roomy = left_roomy (Err (faults.DiskFault node)) tells ran journal trace merged
-      (laws.cut_room ran.alloc script disks seed node ran.first ran.last t (begins_roomy (Err (faults.DiskFault node)) tells ran journal trace merged t coherent roomy) (ran.cut node refl))
-  room_judged (Err faults.Damaged) judged tells ran journal trace merged t coherent roomy = absurd judged
-  room_judged (Err faults.NoMemory) judged tells ran journal trace merged t coherent roomy = absurd judged
 
   pub told_end : (ending : Ending) (tells : List SiteTold) (ran : Ran (Ok ending) tells) (journal : List Entry) (trace : List Step) → AreMerged tells journal trace → Conforms script (machine_of tells) journal
       → AreTold told state own size script seed nodes (Ok ending) tells disks afters ran journal trace
@@ -179,7 +150,6 @@ module _ {D : Type 0} (told : Type 0) (state : D → DiskState) (own size : D �
       (λ t coherent. lasting (Ok ending) tells ran journal trace merged t
       (laws.ends_follow ran.alloc script disks seed ran.first ran.last ending t (begins (Ok ending) tells ran journal trace merged t coherent) ran.ends)
       (laws.ends_stand ran.alloc script disks seed ran.first ran.last ending journal t ran.begins once fits_all (logs (Ok ending) tells ran journal trace merged t coherent) ran.ends (entries (Ok ending) tells ran journal trace merged)))
-      (room_judged (Ok ending) tt tells ran journal trace merged)
 
   pub told_short : (node : NodeNo) (tells : List SiteTold) (ran : Ran (Err (faults.DiskFault node)) tells) (journal : List Entry) (trace : List Step) → AreMerged tells journal trace → Conforms script (machine_of tells) journal
       → AreTold told state own size script seed nodes (Err (faults.DiskFault node)) tells disks afters ran journal trace
@@ -189,7 +159,6 @@ module _ {D : Type 0} (told : Type 0) (state : D → DiskState) (own size : D �
       (λ t coherent. lasting (Err (faults.DiskFault node)) tells ran journal trace merged t
       (laws.cut_follows ran.alloc script disks seed node ran.first ran.last t (begins (Err (faults.DiskFault node)) tells ran journal trace merged t coherent) (ran.cut node refl))
       (laws.cut_stands ran.alloc script disks seed node ran.first ran.last journal t ran.begins once fits_all (logs (Err (faults.DiskFault node)) tells ran journal trace merged t coherent) (ran.cut node refl) (entries (Err (faults.DiskFault node)) tells ran journal trace merged)))
-      (room_judged (Err (faults.DiskFault node)) tt tells ran journal trace merged)
 
   -- where the logs were coherent the journal is lawful, whether it conforms or not
   pub lawful_judged : (ending : Result Ending RoundFault) → IsJudged ending → (tells : List SiteTold) (ran : Ran ending tells) (journal : List Entry) (trace : List Step) → AreMerged tells journal trace → told → AreCoherentDisks (map state disks)
@@ -330,7 +299,6 @@ module _ {D K : Type 0} (told : Type 0) (state : D → DiskState) (own size : D 
         refused = c.failed.refused line clause made_is;
         by_script = λ t coherent. refused_by_script script (machine_of c.tells) c.journal line clause
             (lawful_judged told state own size script seed nodes disks afters count once fits over.read laws c.ending c.judged c.tells c.ran c.journal c.trace c.merged t coherent) (c.failed.refused line clause made_is);
-        roomy = room_judged told state own size script seed nodes disks afters count once fits over.read laws c.ending c.judged c.tells c.ran c.journal c.trace c.merged;
       }
       by (inr (inr (inr (inl c)))) = absurd (no_log c.node c.why (sym c.unopened.status ∙ made_is))
       by (inr (inr (inr (inr c)))) = absurd (cc (sym made_is ∙ c.nothing.status))

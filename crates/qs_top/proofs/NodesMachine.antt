@@ -62,14 +62,15 @@ pub left_states : {D : Type 0} (told : Type 0) (state : D → DiskState) (own si
 left_states told state own size script seed ending tells disks afters ran =
     sym (same_maps (disk_state state) state ran.last.sites afters ran.leaves.count (λ n site after is at. sym (ap state (ran.leaves.each n site after is at).disk)))
 
-module _ {D : Type 0} (told : Type 0) (state : D → DiskState) (own size : D → ℕ) (script : Script) (seed : ℕ) (ending : Result Ending RoundFault) (tells : List SiteTold) (disks afters : List D) (ran : HasRun told state own size script seed ending (Ok tells) disks afters) where
-  -- the numbers of their bytes, as the nodes began and as they are left
+-- the numbers of their bytes, as the nodes began and as they are left
+module _ {D : Type 0} (told : Type 0) (state : D → DiskState) (own size : D → ℕ) (script : Script) (seed : ℕ) (ending : Result Ending RoundFault) (tells : Result (List SiteTold) NoMemory) (disks afters : List D) (ran : HasRun told state own size script seed ending tells disks afters) where
   pub begun_sizes : map size disks ≡ sizes_of size ran.first.sites
   begun_sizes = same_maps size (disk_size size) disks ran.first.sites ran.bytes.count (λ n disk site is at. sym (ran.bytes.each n disk site is at))
 
   pub left_sizes : map size afters ≡ sizes_of size ran.last.sites
   left_sizes = sym (same_maps (disk_size size) size ran.last.sites afters ran.leaves.count (λ n site after is at. sym (ap size (ran.leaves.each n site after is at).disk)))
 
+module _ {D : Type 0} (told : Type 0) (state : D → DiskState) (own size : D → ℕ) (script : Script) (seed : ℕ) (ending : Result Ending RoundFault) (tells : List SiteTold) (disks afters : List D) (ran : HasRun told state own size script seed ending (Ok tells) disks afters) where
   module _ (t : told) (once : SitOnce script.seats) (opens : NodesHaveOpening told state own ran.alloc script disks ran.first) where
     abbrev o : Opening
     o = opening_over ran.alloc script disks ran.first.sites

@@ -21,7 +21,7 @@ use Rattle.qs_top.specs.Nodes.{HasLawfulOf, IsNotBegunOf, IsRefusedOf, IsShortOf
 use Rattle.qs_top.specs.Run.{IsNothing}
 use Rattle.qs_top.specs.Statuses.{Gives, IfNot, IsEnd, IsOfRounds, IsOfRun, Tells}
 use Rattle.qs_top.specs.Texts.{HasText, OfScriptOf}
-use Rattle.qs_top.specs.Untold.{AreOnlyTouched, RanOutOfMemoryOf, StayCoherentOf}
+use Rattle.qs_top.specs.Untold.{AreOnlyTouched, RanOutOfMemoryOf, StayCoherentOf, StayRoomyOf}
 use Rattle.qs_top.specs.declared.outcome.Run.{Run}
 use Rattle.qs_top.specs.declared.whole.RunMade.{RunMade}
 use Rattle.qs_top.proofs.Given.{built_given, empty_given, fault_given, silent_given, status_made, touched_alone}
@@ -30,6 +30,7 @@ use Rattle.qs_top.proofs.NodesGiven.{NodesLaws, nodes_cut_off, nodes_ended, node
 use Rattle.qs_top.proofs.NodesLawful.{nodes_damaged, nodes_fault, nodes_lawful}
 use Rattle.qs_top.proofs.NodesLeft.{nodes_leave}
 use Rattle.qs_top.proofs.TextLemmas.{text_of_script}
+use Rattle.qs_top.proofs.NodesRoomy.{RoomLaws, nodes_roomy}
 use Rattle.qs_top.proofs.NodesUntold.{UntoldLaws, nodes_coherent, nodes_out}
 use Rattle.qs_world_opening.specs.Scripts.{Fits}
 use Rattle.qs_world_nodes.proofs.Places.{same_some}
@@ -113,6 +114,10 @@ module _ {D K : Type 0} (told : Type 0) (state : D → DiskState) (own size : D 
       pub these_coherent : OfThese nodes (StayCoherentOf told state) old new
       these_coherent = with_holds (nodes_coherent told state own size seed nodes script shown faults_of given before after made run over.disks over.afters over.holds gave over.count once fits u)
 
+  module _ (once : SitOnce script.seats) (fits : Fits nodes script) (laws : NodesLaws told state own size) (rooms : RoomLaws told state own size) where
+    pub these_roomy : OfThese nodes (StayRoomyOf told state size) old new
+    these_roomy = with_holds (nodes_roomy told state own size seed nodes script shown made over.disks over.afters over.holds over.count once fits laws rooms)
+
 -- ---- a run without a script
 
 alone_leaves : {D : Type 0} (told : Type 0) (state : D → DiskState) (nodes : ℕ) (status : Status) → IsNoScript status → (n : ℕ) (d : D) → LeavesOf told state nodes status n d d
@@ -156,3 +161,6 @@ none_touched told state nodes disks few some =
 
 pub none_coherent : {D : Type 0} (told : Type 0) (state : D → DiskState) (nodes : ℕ) (disks : List D) → nodes ≤ 8 → 8 ≤ length disks → OfThese nodes (StayCoherentOf told state) disks disks
 none_coherent told state nodes disks few some = none_these nodes (StayCoherentOf told state) disks few some (λ t coherent. coherent)
+
+pub none_roomy : {D : Type 0} (told : Type 0) (state : D → DiskState) (size : D → ℕ) (nodes : ℕ) (disks : List D) → nodes ≤ 8 → 8 ≤ length disks → OfThese nodes (StayRoomyOf told state size) disks disks
+none_roomy told state size nodes disks few some = none_these nodes (StayRoomyOf told state size) disks few some (λ t coherent roomy. roomy)

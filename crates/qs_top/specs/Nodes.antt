@@ -27,7 +27,6 @@ use Rattle.qs_world_merge.specs.StepMoves.{step_key}
 use Rattle.qs_world_nodes.specs.Nodes.{plans_of}
 use Rattle.qs_world_nodes.specs.Openings.{opening_over}
 use Rattle.qs_world_plans.specs.Waiting.{waiting_of}
-use Rattle.qs_world_rooms.specs.Rooms.{AreRoomyDisks}
 use Rattle.qs_world_rounds.specs.Rounds.{Cast}
 use Rattle.qs_world_rounds.specs.declared.faults.RoundFault.{RoundFault}
 use Rattle.qs_world_rounds.specs.declared.faults.RoundFault.TheVariants as round_faults
@@ -81,20 +80,14 @@ pub record AreLasting {D : Type 0} (state : D → DiskState) (tells : List SiteT
   pub coherent : AreCoherentDisks (map state afters)
   pub stands : DisksStandFor (book_after (machine_of tells) journal) (up_at sites) (HaveOthersStampsLeft sites) (map state afters)
 
--- where the log of each of them had room for all that is kept there, each image that a power cut may leave has a log with that room again, if the logs were coherent
-abbrev pub DisksStayRoomy : {D : Type 0} → Type 0 → (D → DiskState) → (D → ℕ) → List D → List D → Type 0
-DisksStayRoomy told state size disks afters =
-    told → AreCoherentDisks (map state disks) → AreRoomyDisks (map size disks) (map state disks) → AreRoomyDisks (map size afters) (map state afters)
-
 -- it is what the nodes made, and conforms to the script, from what the logs held. It is a run of the world over packets from the logs that were raised, on whose links
--- packets come by the script's lines alone; and where the logs were coherent, it lasts, and leaves room where there was room
+-- packets come by the script's lines alone; and where the logs were coherent, it lasts
 pub record AreTold {D : Type 0} (told : Type 0) (state : D → DiskState) (own size : D → ℕ) (script : Script) (seed nodes : ℕ) (ending : Result Ending RoundFault) (tells : List SiteTold) (disks afters : List D) (ran : HasRun told state own size script seed ending (Ok tells) disks afters) (journal : List Entry) (trace : List Step) : Type 0 where
   pub held : told → AreHeldBy state script nodes disks (map opened_in tells)
   pub merged : AreMerged tells journal trace
   pub conforms : Conforms script (machine_of tells) journal
   pub traced : told → IsTraced (opening_over ran.alloc script disks ran.first.sites) (plans_of script) journal trace
   pub lasts : told → AreCoherentDisks (map state disks) → AreLasting state tells journal ran.last.sites afters
-  pub roomy : DisksStayRoomy told state size disks afters
 
 -- ---- how a run ended
 
@@ -129,7 +122,6 @@ pub record IsRefusedOf {D : Type 0} (told : Type 0) (state : D → DiskState) (o
   pub held : told → AreHeldBy state script nodes disks (map opened_in tells)
   pub refused : IsRefusedAt script (machine_of tells) journal line clause
   pub by_script : told → AreCoherentDisks (map state disks) → clause ≡ rule_of_script  -- then each entry is a lawful step
-  pub roomy : DisksStayRoomy told state size disks afters
 
 -- ---- what is left on the disks
 

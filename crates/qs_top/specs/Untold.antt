@@ -1,4 +1,4 @@
--- What stands of a run of many nodes where memory was refused, of which nothing is told; and that a run leaves its disks coherent again, however it ended.
+-- What stands of a run of many nodes where memory was refused, of which nothing is told; and that a run leaves its disks coherent, and with room, again, however it ended.
 use Rattle.std.specs.Prelude.{◌⊎◌, ℕ, List, Result, length, map}
 use Rattle.qs_base.specs.declared.memory.NoMemory.{NoMemory}
 use Rattle.qs_book_journal.specs.declared.entry.Entry.{Entry}
@@ -15,6 +15,7 @@ use Rattle.qs_world_merge.specs.MergedByKey.{IsMergedBy}
 use Rattle.qs_world_merge.specs.StepMoves.{step_key}
 use Rattle.qs_world_nodes.specs.Nodes.{trace_at}
 use Rattle.qs_world_nodes.specs.Openings.{opening_over}
+use Rattle.qs_world_rooms.specs.Rooms.{AreRoomyDisks}
 use Rattle.qs_world_rounds.specs.Rounds.{Cast}
 use Rattle.qs_world_rounds.specs.declared.faults.RoundFault.{RoundFault}
 use Rattle.qs_world_rounds.specs.declared.rounds.Ending.{Ending}
@@ -45,3 +46,7 @@ pub record RanOutOfMemoryOf {D : Type 0} (told : Type 0) (state : D → DiskStat
 -- disks that were coherent are so again
 abbrev pub StayCoherentOf : {D : Type 0} → Type 0 → (D → DiskState) → List D → List D → Type 0
 StayCoherentOf told state disks afters = told → AreCoherentDisks (map state disks) → AreCoherentDisks (map state afters)
+
+-- and where each image of each had a log with room for all that is kept there, each has it again
+abbrev pub StayRoomyOf : {D : Type 0} → Type 0 → (D → DiskState) → (D → ℕ) → List D → List D → Type 0
+StayRoomyOf told state size disks afters = told → AreCoherentDisks (map state disks) → AreRoomyDisks (map size disks) (map state disks) → AreRoomyDisks (map size afters) (map state afters)

@@ -20,7 +20,7 @@ ghost use Rattle.qs_top.specs.Nodes.{HasLawfulOf, IsNotBegunOf, IsRefusedOf, IsS
 ghost use Rattle.qs_top.specs.Run.{IsNothing, IsNotBegun, IsWhole, IsShort, IsRefused, RanOutOfMemory};
 ghost use Rattle.qs_top.specs.Statuses.{IfNot, IsEnd, IsPastScript, IsOfRun, Gives, Tells};
 ghost use Rattle.qs_top.specs.Texts.{HasText, ReadWhole, OfScript, OfScriptOf};
-ghost use Rattle.qs_top.specs.Untold.{AreOnlyTouched, RanOutOfMemoryOf, StayCoherentOf};
+ghost use Rattle.qs_top.specs.Untold.{AreOnlyTouched, RanOutOfMemoryOf, StayCoherentOf, StayRoomyOf};
 ghost use Rattle.qs_top.specs.Verdict.{IsUnlawfulText, IsVerdict, IsOfCheck};
 
 use crate::asking::{Asked, asked_by};
@@ -302,6 +302,7 @@ fn run_nodes<S: Source, K: Sink, D: Disk>(
     ensures others { AreOthers nodes disks.old.items disks.new.items }
     ensures left { OfThese nodes (LeaveAll D.told D.state nodes result.status) disks.old.items disks.new.items }
     ensures coherent { OfThese nodes (StayCoherentOf D.told D.state) disks.old.items disks.new.items }
+    ensures roomy { OfThese nodes (StayRoomyOf D.told D.state D.byte_count) disks.old.items disks.new.items }
 {
     let script = match script_for(alloc, source, nodes, shown) {
         Ok(script) => script,
@@ -430,7 +431,7 @@ pub fn run<R: Threads + Sync, S: Source, K: Sink, D: Disk>(
     ensures roomy { IfNot (IsOfMany (asked_by (form_of words.now))) (OfFirst (StaysRoomy D.told D.state D.byte_count) disks.old.items disks.new.items) }
 
     // Of a run of many nodes, and of a load, the like: of their scripts, of the rounds that they made over the links between them, of
-    // what they tell, merged by stamp and node, and of what each leaves on its disk, with room again where it had room. The script of a load
+    // what they tell, merged by stamp and node, and of what each leaves on its disk. The script of a load
     // is made from its seed, and nothing is taken of the source; what is given of it is its line.
     ensures nodes_script { (nodes seed : ℕ) (shown : Shown) → asked_by (form_of words.now) ≡ Some (Asked.SerialNodes nodes seed shown)
         → (line : ℕ) (fault : ScriptFault) → result.status ≡ Status.Script line fault
@@ -462,9 +463,12 @@ pub fn run<R: Threads + Sync, S: Source, K: Sink, D: Disk>(
     ensures nodes_left { (nodes seed : ℕ) (shown : Shown) → asked_by (form_of words.now) ≡ Some (Asked.SerialNodes nodes seed shown)
         → OfThese nodes (LeaveAll D.told D.state nodes result.status) disks.old.items disks.new.items }
 
-    // And runs follow one another, whatever the status: where the logs were coherent they are so again.
+    // And runs follow one another, whatever the status: where the logs were coherent they are so again, and where each had room for all that is
+    // kept there, each has room again.
     ensures nodes_coherent { (nodes seed : ℕ) (shown : Shown) → asked_by (form_of words.now) ≡ Some (Asked.SerialNodes nodes seed shown)
         → OfThese nodes (StayCoherentOf D.told D.state) disks.old.items disks.new.items }
+    ensures nodes_roomy { (nodes seed : ℕ) (shown : Shown) → asked_by (form_of words.now) ≡ Some (Asked.SerialNodes nodes seed shown)
+        → OfThese nodes (StayRoomyOf D.told D.state D.byte_count) disks.old.items disks.new.items }
 
     // Of a check: the text that was read is a history, and the verdict on it is what was given; no disk is opened.
     ensures unlawful { asked_by (form_of words.now) ≡ Some Asked.Check → (line clause : ℕ) → result.status ≡ Status.Unlawful line clause

@@ -76,7 +76,7 @@ module _ {D : Type 0} (told : Type 0) (state : D → DiskState) (own size : D �
     count : length later ≡ o.size
     count = set_length old k after ∙ was.count
 
-    site_refused : (place : ℕ) → told → one.RefusedAt told state own size place site after → Cells later
+    pub site_refused : (place : ℕ) → told → one.RefusedAt told state own size place site after → Cells later
     site_refused place t refused = record { count = count; each = each; keep = keep_at o.size later count other plans kept }
       where
         each : (n : ℕ) (b : Cast D) → slice_get later n ≡ Some b → CellAt n b

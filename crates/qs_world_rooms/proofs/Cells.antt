@@ -1,10 +1,11 @@
 -- A cell with room in its log: what an event, a packet and a restart leave of it.
-use Rattle.std.proofs.Common.{◌≡◌, ◌⊎◌, ◌∙◌, ap, subst, sym, ℕ, true, List, Some, None}
+use Rattle.std.proofs.Common.{◌≡◌, ◌⊎◌, ◌∙◌, ap, inl, inr, subst, sym, ℕ, zero, suc, true, List, Some, None}
 use Rattle.std.specs.Global.{Global}
 use Rattle.std.specs.Prelude.{Result, Bool}
 use Rattle.qs_cell.specs.Asides.{IsAsideOutcome}
 use Rattle.qs_cell.specs.Cell.{IsUnplanned, out_of}
-use Rattle.qs_cell.specs.Hearing.{HandsUp, HasHeard, Hears, HearsIn, Post, TakesIn}
+use Rattle.qs_cell.proofs.HearingTurns.{stays_down}
+use Rattle.qs_cell.specs.Hearing.{BreaksBelow, BreaksFrom, BreaksHearing, HandsUp, HasHeard, Hears, HearsBelow, HearsIn, HearsTimes, Post, TakesIn}
 use Rattle.qs_cell.specs.Outcomes.{Outcome}
 use Rattle.qs_cell.specs.Outcomes as outcomes
 use Rattle.qs_cell.specs.Restart.{IfUp, IsRestarted}
@@ -19,6 +20,7 @@ use Rattle.qs_cell.specs.declared.stopped.Restarted.TheVariants as restarts
 use Rattle.qs_cell.specs.declared.stopped.Stopped.{Stopped}
 use Rattle.qs_cell_chronicle.specs.declared.occasion.Occasion.{Occasion}
 use Rattle.qs_cell_chronicle.specs.declared.occasion.Occasion.TheVariants as occasions
+use Rattle.qs_cell_peers.specs.Links.{carried_from}
 use Rattle.qs_cell_peers.specs.declared.heard.Heard.{Heard}
 use Rattle.qs_cell_peers.specs.declared.heard.Heard.TheVariants as heards
 use Rattle.qs_disk.specs.Disk.{DiskState, EachImage}
@@ -89,6 +91,30 @@ module _ {D : Type 0} (told : Type 0) (state : D → DiskState) (own size : D �
 
   pub hears_roomy : (m : ℕ) (old new : Post D) → Hears told state own size m old new → HasRoom old.seat.node → HasRoom new.seat.node
   hears_roomy m old new hears was = hears_in m hears.ready old new hears.turn (seen_roomy (λ s. s) state size began old.seat.node hears.ready hears.same was)
+
+  -- all that were carried, whatever becomes of the node on the way
+  times_roomy : (m count : ℕ) (old new : Post D) → HearsTimes told state own size m count old new → HasRoom old.seat.node → HasRoom new.seat.node
+  times_roomy m zero old new same was = subst (λ (p : Post D). HasRoom p.seat.node) (sym same) was
+  times_roomy m (suc count) old new (mid, (before, hears)) was = hears_roomy m mid new hears (times_roomy m count old mid before was)
+
+  pub below_roomy : (nodes : ℕ) (old new : Post D) → HearsBelow told state own size nodes old new → HasRoom old.seat.node → HasRoom new.seat.node
+  below_roomy zero old new same was = subst (λ (p : Post D). HasRoom p.seat.node) (sym same) was
+  below_roomy (suc m) old new (mid, (before, hears)) was = times_roomy m (carried_from mid.links m) mid new hears (below_roomy m old mid before was)
+
+  -- one of them for which memory was refused
+  breaking_roomy : (m : ℕ) (old new : Post D) → BreaksHearing told state own size m old new → HasRoom old.seat.node → HasRoom new.seat.node
+  breaking_roomy m old new (inl same) was = seen_roomy (λ s. s) state size began old.seat.node new.seat.node same was
+  breaking_roomy m old new (inr (ready, (same, (packet, (has, (answers, takes)))))) was = by ready takes (seen_roomy (λ s. s) state size began old.seat.node ready same was)
+    where
+      by : (r : CellState D) → TakesIn told state own size packet r new.seat.node answers → HasRoom r → HasRoom new.seat.node
+      by (states.Up running) it now = taken_roomy packet running new.seat.node answers it now
+      by (states.Down stopped) it now = subst (λ (x : CellState D). HasRoom x) (sym (stays_down told state own size packet stopped new.seat.node answers it)) now
+
+  pub broken_roomy : (nodes : ℕ) (old new : Post D) → BreaksBelow told state own size nodes old new → HasRoom old.seat.node → HasRoom new.seat.node
+  broken_roomy nodes old new b was = breaking_roomy b.at from.mid new from.breaks (times_roomy b.at from.count b.mid from.mid from.heard (below_roomy b.at old b.mid b.heard was))
+    where
+      from : BreaksFrom told state own size b.at b.mid new
+      from = b.breaks
 
   -- ---- a restart, which finds one of two logs
 

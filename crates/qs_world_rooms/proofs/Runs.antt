@@ -23,18 +23,19 @@ use Rattle.qs_world_nodes.specs.Openings.{opening_over}
 use Rattle.qs_world_one.proofs.RoomyCells.{begun_roomy, is_set}
 use Rattle.qs_world_one.specs.Rooms.{Began, IsRoomyCell, IsRoomyDisk}
 use Rattle.qs_world_opening.specs.Scripts.{MayBegin}
+use Rattle.qs_world_plans.specs.Order.{drawn_order, seeded}
 use Rattle.qs_world_plans.specs.Plan.{setting_of}
 use Rattle.qs_world_rooms.proofs.AllThere.{log_named, sites_there}
-use Rattle.qs_world_rooms.proofs.Sites.{Stay, carried, failed, visited}
-use Rattle.qs_world_rooms.specs.Leaving.{BeginsRoomy, CutShortLeavesRoom, EndingsLeaveRoom, LeaveRoom, RoundsLeaveRoom}
+use Rattle.qs_world_rooms.proofs.Sites.{Stay, carried, failed, refused, visited}
+use Rattle.qs_world_rooms.specs.Leaving.{BeginsRoomy, CutShortLeavesRoom, EndingsLeaveRoom, LeaveRoom, RefusedLeavesRoom, RoundsLeaveRoom}
 use Rattle.qs_world_rooms.specs.Rooms.{AreRoomySites, RoomyAreRead, disk_size, is_full, sizes_of}
 use Rattle.qs_world_rounds.specs.Rounds.{Cast}
 use Rattle.qs_world_rounds.specs.Seats.{BeginsAt, plan_of}
 use Rattle.qs_world_rounds.specs.declared.rounds.Ending.{Ending}
 use Rattle.qs_world_seats.specs.Reached.{IsInWorld, IsRunning}
-use Rattle.qs_world_sites.specs.Endings.{IsCutShort, IsEnding}
+use Rattle.qs_world_sites.specs.Endings.{IsCutShort, IsEnding, IsOutOfMemory}
 use Rattle.qs_world_sites.specs.Rounds.{Rounds}
-use Rattle.qs_world_sites.specs.Sites.{SitesValue}
+use Rattle.qs_world_sites.specs.Sites.{SitesValue, count_of}
 use Rattle.rand_pcg.specs.Lcg.{Lcg}
 
 pub each_read : (sizes : List ℕ) (disks : List DiskState) → RoomyAreRead sizes disks
@@ -134,6 +135,10 @@ module _ {D : Type 0} (may : (o : Opening) → MayBegin o) (told : Type 0) (stat
   cut_leaves seed node new is = leave state size began new.sites ((cut_keeps told state own size Stays (visited told state own size o (plans_of script) began t opens)
       (carried told state own size o (plans_of script) began t opens) (failed told state own size o (plans_of script) began t opens) seed node all new is begins).rooms)
 
+  refused_leaves : (seed : ℕ) (new : SitesValue D) → IsOutOfMemory told state own size seed all new → LeaveRoom state size new.sites
+  refused_leaves seed new out = leave state size began new.sites (refused told state own size o (plans_of script) began t opens (drawn_order (count_of out.before) out.drawn).0 out.before new out.refused
+      (rounds_keep told state own size Stays (visited told state own size o (plans_of script) began t opens) (carried told state own size o (plans_of script) began t opens) (seeded seed) out.rounds all out.before out.drawn out.earlier begins))
+
 -- ---- the laws
 
 module _ {D : Type 0} (may : (o : Opening) → MayBegin o) (told : Type 0) (state : D → DiskState) (own size : D → ℕ) (alloc : Global) (script : Script) (disks : List D) (all : SitesValue D) where
@@ -145,3 +150,6 @@ module _ {D : Type 0} (may : (o : Opening) → MayBegin o) (told : Type 0) (stat
 
   pub each_cut_leaves : (seed : ℕ) (node : NodeNo) (new : SitesValue D) → CutShortLeavesRoom told state own size alloc script disks seed node all new
   each_cut_leaves seed node new t b is = cut_leaves may told state own size alloc script disks all t b seed node new is
+
+  pub each_refused_leaves : (seed : ℕ) (new : SitesValue D) → RefusedLeavesRoom told state own size alloc script disks seed all new
+  each_refused_leaves seed new t b out = refused_leaves may told state own size alloc script disks all t b seed new out

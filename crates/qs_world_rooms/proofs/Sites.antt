@@ -1,8 +1,8 @@
--- All sites keep room in their logs: as they are carried, through visits, and where a restart fails.
-use Rattle.std.proofs.Common.{◌≡◌, ◌⊎◌, ◌∙◌, ap, inl, inr, refl, subst, sym, ℕ, zero, suc, ◌<◌, Bool, true, false, List, length, Some, Result, Ok, Err, arith, slice_get, slice_set}
+-- All sites keep room in their logs: as they are carried, through visits, where a restart fails, and where memory was refused.
+use Rattle.std.proofs.Common.{◌≡◌, ◌⊎◌, ◌∙◌, ap, inl, inr, refl, subst, sym, ℕ, zero, suc, ◌<◌, Bool, true, false, List, [], ◌∷◌, length, Option, None, Some, Result, Ok, Err, arith, slice_get, slice_set}
 use Rattle.qs_base.specs.declared.identifiers.NodeNo.{NodeNo}
 use Rattle.qs_cell.specs.Hearing.{Post}
-use Rattle.qs_cell.specs.Starts.{CellValue, post_of, trace_of}
+use Rattle.qs_cell.specs.Starts.{CellValue, post_of}
 use Rattle.qs_cell.specs.State.{StartsAgain, cause_of}
 use Rattle.qs_cell.specs.declared.state.CellState.{CellState}
 use Rattle.qs_cell.specs.declared.state.CellState.TheVariants as states
@@ -10,29 +10,29 @@ use Rattle.qs_cell.specs.declared.state.RestartFault.{RestartFault}
 use Rattle.qs_cell.specs.declared.state.RestartFault.TheVariants as restart_faults
 use Rattle.qs_disk.specs.Disk.{DiskState}
 use Rattle.qs_link.specs.declared.outgoing.LinkFault.{LinkFault}
-use Rattle.qs_node_step.specs.declared.trace.Step.{Step}
 use Rattle.qs_world.specs.Openings.{IsOpening}
 use Rattle.qs_world.specs.World.{Opening}
-use Rattle.qs_world_links.proofs.Starting as starting
-use Rattle.qs_world_links.proofs.Visiting as visiting
-use Rattle.qs_world_links.specs.Posts.{IsPostOf, TellsOfLinks}
+use Rattle.qs_world_links.specs.Posts.{IsPostOf}
 use Rattle.qs_world_nodes.proofs.Carrying.{each_carries, same_cell}
 use Rattle.qs_world_nodes.proofs.Places.{found, low_of, post_there, same_some, set_other}
+use Rattle.qs_world_nodes.proofs.Refused.{site_refused}
 use Rattle.qs_world_nodes.proofs.Visiting.{site_failed, site_visited}
 use Rattle.qs_world_nodes.proofs.Walking.{broken_keeps, round_keeps, rounds_keep, visit_keeps, visits_keep}
-use Rattle.qs_world_nodes.specs.Nodes.{AreSitesIn, trace_at, trace_by}
+use Rattle.qs_world_nodes.specs.Nodes.{AreCellsIn, AreSitesIn, journal_at, trace_at}
 use Rattle.qs_world_one.specs.Rooms.{Began, IsRoomyCell}
-use Rattle.qs_world_rooms.proofs.AllThere.{logs_named, sites_there}
-use Rattle.qs_world_rooms.proofs.Amid.{IsFront, whole_front}
+use Rattle.qs_world_rooms.proofs.AllThere.{logs_named, sites_there, took_in}
 use Rattle.qs_world_rooms.proofs.Cells.{restart_roomy}
-use Rattle.qs_world_rooms.proofs.Visited.{here, visit_roomy}
-use Rattle.qs_world_rooms.specs.Rooms.{AreRoomySites, BrokenRoundStaysRoomy, CarriesStayRoomy, RoundStaysRoomy, RoundsStayRoomy, VisitStaysRoomy, VisitsStayRoomy}
-use Rattle.qs_world_rounds.specs.Breaks.{FailsAt}
+use Rattle.qs_world_rooms.proofs.Visited.{here, refused_roomy, visit_roomy}
+use Rattle.qs_world_rooms.specs.Rooms.{AreRoomySites, BrokenRoundStaysRoomy, CarriesStayRoomy, RefusedRoundStaysRoomy, RoundStaysRoomy, RoundsStayRoomy, VisitStaysRoomy, VisitsStayRoomy}
+use Rattle.qs_world_rounds.specs.Breaks as one
+use Rattle.qs_world_rounds.specs.Breaks.{FailsAt, NodeRefusedIf}
 use Rattle.qs_world_rounds.specs.Rounds.{Cast, NodeVisitIf, VisitAt, is_up}
 use Rattle.qs_world_seats.proofs.SitesGoOn.{not_memory}
 use Rattle.qs_world_seats.specs.Reached.{IsInWorld}
+use Rattle.qs_world_sites.specs.Breaks.{OfSite, OfTurn, RefusedAt, RefusesRound, VisitsUntil}
 use Rattle.qs_world_sites.specs.Sites.{AreCarried, SitesValue}
-use Rattle.qs_world_traces.specs.Links.{put_to}
+use Rattle.qs_world_sites.specs.declared.turn.Turn.{Turn}
+use Rattle.qs_world_traces.proofs.LinksBring.{each_link_brings}
 use Rattle.rand_pcg.specs.Lcg.{Lcg}
 
 module _ {D : Type 0} (state : D → DiskState) (size : D → ℕ) (began : ℕ → Began) where
@@ -88,67 +88,87 @@ module _ {D : Type 0} (told : Type 0) (state : D → DiskState) (own size : D �
     of_post : IsPostOf o.size k (post_of site.node)
     of_post = subst (λ (p : Post D). IsPostOf o.size k p) (post_there (post_of site.node) olds k site got) ((was.are.links (post_of site.node)).of k low)
 
-    -- the trace gets longer, and room is kept
-    record Goes : Type 0 where
-      front : IsFront (trace_of site.node) (trace_of after.node)
-      room : AreSitesIn told state o plans news → IsRoomyCell state size (began k) site.node.seat.node → IsRoomyCell state size (began k) after.node.seat.node
+    abbrev HasRoom : CellState D → Type 0
+    HasRoom node = IsRoomyCell state size (began k) node
 
-    told_front : TellsOfLinks o.size k (post_of site.node) (post_of after.node) → IsFront (trace_of site.node) (trace_of after.node)
-    told_front tells = record { rest = tells.steps; is = tells.trace }
+    same_room : (cell : CellValue D) → cell ≡ site.node → HasRoom site.node.seat.node → HasRoom cell.seat.node
+    same_room cell same room = subst (λ (c : CellValue D). HasRoom c.seat.node) (sym same) room
 
-    same_goes : after.node.seat.node ≡ site.node.seat.node → Goes
-    same_goes same = record {
-      front = subst (λ (x : CellState D). IsFront (trace_of site.node) (trace_of (record site.node { seat = record site.node.seat { node = x } }))) (sym same) (whole_front (trace_of site.node));
-      room = λ will room. subst (λ (x : CellState D). IsRoomyCell state size (began k) x) (sym same) room;
-    }
-
-    starts_goes : (answer : Result Bool RestartFault) → StartsAgain told state own size site.node.alloc site.node.seat.node after.node.seat.node answer → after.node.links ≡ site.node.links → Goes
-    starts_goes answer starts links = record { front = front; room = λ will room. by site.node.seat.node refl starts (was.are.each k site got).there.there room }
+    starts_room : (answer : Result Bool RestartFault) → StartsAgain told state own size site.node.alloc site.node.seat.node after.node.seat.node answer → HasRoom site.node.seat.node → HasRoom after.node.seat.node
+    starts_room answer starts room = by site.node.seat.node refl starts (was.are.each k site got).there.there room
       where
-        front : IsFront (trace_of site.node) (trace_of after.node)
-        front = told_front (starting.each_restart told state own size site.node.alloc o.size k (post_of site.node) (post_of after.node) answer starts links of_post)
-
         by : (node : CellState D) → site.node.seat.node ≡ node → StartsAgain told state own size site.node.alloc node after.node.seat.node answer
-            → IsInWorld told state o k node site.node.seat.ends site.clients → IsRoomyCell state size (began k) node → IsRoomyCell state size (began k) after.node.seat.node
-        by (states.Up running) e again there room = subst (λ (x : CellState D). IsRoomyCell state size (began k) x) (sym again.0) room
+            → IsInWorld told state o k node site.node.seat.ends site.clients → HasRoom node → HasRoom after.node.seat.node
+        by (states.Up running) e again there room = subst (λ (x : CellState D). HasRoom x) (sym again.0) room
         by (states.Down stopped) e again there room = restart_roomy told state own size (began k) t site.node.alloc stopped after.node.seat.node answer again there.first there.other (there.images t)
             (logs_named told state o opens olds (sites_there told state o plans olds was.are) k site got stopped site.node.seat.ends site.clients e there) room
 
-    node_goes : (up did : Bool) → NodeVisitIf up told state own size site.node after.node did → Goes
-    node_goes true did acts = record {
-      front = front;
-      room = λ will room. visit_roomy told state own size o plans t opens olds k site after got was.are will front (began k) acts.visits (not_memory (cause_of after.node.seat.node) acts.granted) of_post room;
-    }
-      where
-        front : IsFront (trace_of site.node) (trace_of after.node)
-        front = told_front (visiting.each_visit told state own size o.size k (post_of site.node) (post_of after.node) acts.visits of_post)
-    node_goes false did starts = starts_goes (Ok did) starts.starts starts.links
+    node_room : (up did : Bool) → NodeVisitIf up told state own size site.node after.node did → AreSitesIn told state o plans news → HasRoom site.node.seat.node → HasRoom after.node.seat.node
+    node_room true did acts will room = visit_roomy told state own size o plans t opens olds k site after got was.are (took_in told state o plans news will) (began k)
+        acts.visits (not_memory (cause_of after.node.seat.node) acts.granted) of_post room
+    node_room false did starts will room = starts_room (Ok did) starts.starts room
 
-    visit_goes : (place : ℕ) (did : Bool) → VisitAt told state own size place site after did → Goes
-    visit_goes zero did (visit, same) = node_goes (is_up site.node) did visit
-    visit_goes (suc at) did (same, visit) = same_goes (ap (λ (c : CellValue D). c.seat.node) same)
+    visit_room : (place : ℕ) (did : Bool) → VisitAt told state own size place site after did → AreSitesIn told state o plans news → HasRoom site.node.seat.node → HasRoom after.node.seat.node
+    visit_room zero did (visit, same) will room = node_room (is_up site.node) did visit will room
+    visit_room (suc at) did (same, visit) will room = same_room after.node same room
 
-    fails_goes : (place : ℕ) → FailsAt told state own size place site after → Goes
-    fails_goes zero (fails, same) = starts_goes (Err restart_faults.DiskFailed) fails.starts fails.links
-    fails_goes (suc at) fails = absurd fails
+    fails_room : (place : ℕ) → FailsAt told state own size place site after → HasRoom site.node.seat.node → HasRoom after.node.seat.node
+    fails_room zero (fails, same) room = starts_room (Err restart_faults.DiskFailed) fails.starts room
+    fails_room (suc at) fails room = absurd fails
 
-    goes_on : Goes → AreSitesIn told state o plans news → Stay news
-    goes_on goes will = record {
-      are = will;
-      rooms = changed state size began olds k site after got was.rooms (goes.room will (was.rooms k site got));
-    }
+    node_refused : (up : Bool) → NodeRefusedIf up told state own size site.node after.node → AreCellsIn told state o plans news → HasRoom site.node.seat.node → HasRoom after.node.seat.node
+    node_refused true refused cells room = refused_roomy told state own size o plans t opens olds k site after got was.are (each_link_brings o.size plans (journal_at news) (trace_at news) cells.keep) (began k) of_post room refused
+    node_refused false starts cells room = starts_room (Err restart_faults.NoMemory) starts room
+
+    refused_room : (place : ℕ) → one.RefusedAt told state own size place site after → AreCellsIn told state o plans news → HasRoom site.node.seat.node → HasRoom after.node.seat.node
+    refused_room zero refused cells room = node_refused (is_up site.node) refused cells room
+    refused_room (suc at) same cells room = same_room after.node same room
+
+    its_room : HasRoom site.node.seat.node
+    its_room = was.rooms k site got
+
+    with_room : HasRoom after.node.seat.node → AreRoomySites state size began news
+    with_room room = changed state size began olds k site after got was.rooms room
 
   pub visited : (olds : List (Cast D)) (k place : ℕ) (site after : Cast D) (did : Bool) → slice_get olds k ≡ Some site → VisitAt told state own size place site after did → Stay olds → Stay (slice_set olds k after)
-  visited olds k place site after did got visit was = goes_on olds k site after got was (visit_goes olds k site after got was place did visit) (site_visited told state own size o plans olds k site after got was.are place did t visit)
+  visited olds k place site after did got visit was = record { are = will; rooms = with_room olds k site after got was (visit_room olds k site after got was place did visit will (its_room olds k site after got was)) }
+    where
+      will : AreSitesIn told state o plans (slice_set olds k after)
+      will = site_visited told state own size o plans olds k site after got was.are place did t visit
 
   pub failed : (olds : List (Cast D)) (k place : ℕ) (site after : Cast D) → slice_get olds k ≡ Some site → FailsAt told state own size place site after → Stay olds → Stay (slice_set olds k after)
-  failed olds k place site after got fails was = goes_on olds k site after got was (fails_goes olds k site after got was place fails) (site_failed told state own size o plans olds k site after got was.are place t fails)
+  failed olds k place site after got fails was = record {
+    are = site_failed told state own size o plans olds k site after got was.are place t fails;
+    rooms = with_room olds k site after got was (fails_room olds k site after got was place fails (its_room olds k site after got was));
+  }
 
   pub carried : (olds news : List (Cast D)) → AreCarried olds news → Stay olds → Stay news
   carried olds news c was = record {
     are = each_carries told state o plans olds news c was.are;
     rooms = rooms_carried state size began olds news c was.rooms;
   }
+
+  -- ---- where memory was refused in a visit of one
+
+  of_site : (turn : Turn) (c : Option (Cast D)) (olds news : List (Cast D)) → slice_get olds turn.site ≡ c → OfSite (one.RefusedAt told state own size) turn c olds news → Stay olds → AreRoomySites state size began news
+  of_site turn None olds news got refused was = absurd refused
+  of_site turn (Some site) olds news got (after, (refused, is)) was = subst (AreRoomySites state size began) (sym is)
+      (with_room olds turn.site site after got was (refused_room olds turn.site site after got was turn.place refused
+      (site_refused told state own size o plans olds turn.site site after got was.are turn.place t refused) (its_room olds turn.site site after got was)))
+
+  of_turn : (turn : Option Turn) (olds news : List (Cast D)) → OfTurn (one.RefusedAt told state own size) turn olds news → Stay olds → AreRoomySites state size began news
+  of_turn None olds news refused was = absurd refused
+  of_turn (Some turn) olds news refused was = of_site turn (slice_get olds turn.site) olds news refl refused was
+
+  until : (places : List ℕ) (old new : SitesValue D) → VisitsUntil told state own size (RefusedAt told state own size) places old new → Stay old.sites → AreRoomySites state size began new.sites
+  until [] old new visits was = absurd visits
+  until (place ∷ places) old new (inl (refused, turns)) was = of_turn (slice_get old.turns place) old.sites new.sites refused was
+  until (place ∷ places) old new (inr (mid, (did, (visit, rest)))) was = until places mid new rest (visit_keeps told state own size Stay visited place old mid did visit was)
+
+  -- as the round began, or in a visit
+  pub refused : (order : List ℕ) (old new : SitesValue D) → RefusesRound told state own size order old new → Stay old.sites → AreRoomySites state size began new.sites
+  refused order old new (inl same) was = rooms_same state size began old.sites new.sites same.count (λ n a b a_is b_is. (same.each n a b a_is b_is).node) was.rooms
+  refused order old new (inr it) was = until order it.carried new it.visits (carried old.sites it.carried.sites it.carries was)
 
 -- ---- the laws
 
@@ -175,3 +195,6 @@ module _ {D : Type 0} (told : Type 0) (state : D → DiskState) (own size : D �
   pub each_broken : (order : List ℕ) (node : NodeNo) (old new : SitesValue D) → BrokenRoundStaysRoomy told state own size o plans began order node old new
   each_broken order node old new t opens are broken rooms = (broken_keeps told state own size (Stays t opens) (visited told state own size o plans began t opens) (carried told state own size o plans began t opens)
       (failed told state own size o plans began t opens) order node old new broken (record { are = are; rooms = rooms })).rooms
+
+  pub each_refused : (order : List ℕ) (old new : SitesValue D) → RefusedRoundStaysRoomy told state own size o plans began order old new
+  each_refused order old new t opens are out rooms = refused told state own size o plans began t opens order old new out (record { are = are; rooms = rooms })

@@ -12,7 +12,7 @@ use Rattle.qs_world_opening.specs.Scripts.{Fits}
 use Rattle.qs_world_rooms.specs.Rooms.{AreRoomyContents, AreRoomyDisks, NoneIsFull, sizes_of}
 use Rattle.qs_world_rounds.specs.Rounds.{Cast}
 use Rattle.qs_world_rounds.specs.declared.rounds.Ending.{Ending}
-use Rattle.qs_world_sites.specs.Endings.{IsCutShort, IsEnding}
+use Rattle.qs_world_sites.specs.Endings.{IsCutShort, IsEnding, IsOutOfMemory}
 use Rattle.qs_world_sites.specs.Rounds.{Rounds}
 use Rattle.qs_world_sites.specs.Seats.{HasBegun}
 use Rattle.qs_world_sites.specs.Sites.{SitesValue}
@@ -44,3 +44,8 @@ EndingsLeaveRoom told state own size alloc script disks seed all new ending =
 abbrev pub CutShortLeavesRoom : {D : Type 0} → Type 0 → (D → DiskState) → (D → ℕ) → (D → ℕ) → Global → Script → List D → ℕ → NodeNo → SitesValue D → SitesValue D → Type 0
 CutShortLeavesRoom told state own size alloc script disks seed node all new =
     told → BeginsRoomy told state own size alloc script disks all → IsCutShort told state own size seed node all new → LeaveRoom state size new.sites
+
+-- and where memory was refused
+abbrev pub RefusedLeavesRoom : {D : Type 0} → Type 0 → (D → DiskState) → (D → ℕ) → (D → ℕ) → Global → Script → List D → ℕ → SitesValue D → SitesValue D → Type 0
+RefusedLeavesRoom told state own size alloc script disks seed all new =
+    told → BeginsRoomy told state own size alloc script disks all → IsOutOfMemory told state own size seed all new → LeaveRoom state size new.sites

@@ -13,7 +13,7 @@ use Rattle.qs_world_left.specs.Left.{AreReadAsLeft}
 use Rattle.qs_world_nodes.specs.Nodes.{AreSitesIn}
 use Rattle.qs_world_one.specs.Rooms.{Began, IsRoomyCell, IsRoomyDisk}
 use Rattle.qs_world_rounds.specs.Rounds.{Cast}
-use Rattle.qs_world_sites.specs.Breaks.{BreaksRound}
+use Rattle.qs_world_sites.specs.Breaks.{BreaksRound, RefusesRound}
 use Rattle.qs_world_sites.specs.Rounds.{IsRound, Rounds, VisitAll, VisitAt}
 use Rattle.qs_world_sites.specs.Sites.{AreCarried, SitesValue}
 use Rattle.rand_pcg.specs.Lcg.{Lcg}
@@ -81,3 +81,8 @@ RoundsStayRoomy told state own size o plans began rng n old new later =
 abbrev pub BrokenRoundStaysRoomy : {D : Type 0} → Type 0 → (D → DiskState) → (D → ℕ) → (D → ℕ) → Opening → (ℕ → ℕ → List LinkFault) → (ℕ → Began) → List ℕ → NodeNo → SitesValue D → SitesValue D → Type 0
 BrokenRoundStaysRoomy told state own size o plans began order node old new =
     told → IsOpening o → AreSitesIn told state o plans old.sites → BreaksRound told state own size order node old new → StayRoomy state size began old.sites new.sites
+
+-- and one in which memory was refused, in whichever visit and within whichever step
+abbrev pub RefusedRoundStaysRoomy : {D : Type 0} → Type 0 → (D → DiskState) → (D → ℕ) → (D → ℕ) → Opening → (ℕ → ℕ → List LinkFault) → (ℕ → Began) → List ℕ → SitesValue D → SitesValue D → Type 0
+RefusedRoundStaysRoomy told state own size o plans began order old new =
+    told → IsOpening o → AreSitesIn told state o plans old.sites → RefusesRound told state own size order old new → StayRoomy state size began old.sites new.sites

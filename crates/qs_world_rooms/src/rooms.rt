@@ -7,8 +7,8 @@ ghost use Rattle.qs_disk.specs.Disk.{DiskState};
 ghost use Rattle.qs_link.specs.declared.outgoing.LinkFault.{LinkFault};
 ghost use Rattle.qs_world.specs.World.{Opening};
 ghost use Rattle.qs_world_one.specs.Rooms.{Began};
-ghost use Rattle.qs_world_rooms.specs.Leaving.{CutShortLeavesRoom, EndingsLeaveRoom, RoundsLeaveRoom};
-ghost use Rattle.qs_world_rooms.specs.Rooms.{BrokenRoundStaysRoomy, CarriesStayRoomy, RoomyAreRead, RoundStaysRoomy, RoundsStayRoomy, VisitStaysRoomy, VisitsStayRoomy};
+ghost use Rattle.qs_world_rooms.specs.Leaving.{CutShortLeavesRoom, EndingsLeaveRoom, RefusedLeavesRoom, RoundsLeaveRoom};
+ghost use Rattle.qs_world_rooms.specs.Rooms.{BrokenRoundStaysRoomy, CarriesStayRoomy, RefusedRoundStaysRoomy, RoomyAreRead, RoundStaysRoomy, RoundsStayRoomy, VisitStaysRoomy, VisitsStayRoomy};
 ghost use Rattle.qs_world_rounds.specs.Rounds.{Cast};
 ghost use Rattle.qs_world_rounds.specs.declared.rounds.Ending.{Ending};
 ghost use Rattle.qs_world_sites.specs.Sites.{SitesValue};
@@ -23,7 +23,7 @@ pub fn roomy_disks_are_read()
 {}
 
 /// Nodes that have room in their logs for all that is kept there, in a world that a run may begin with, have it as lanes and links are carried, through visits
-/// of any of them, so through rounds, also through one that is cut short as a disk fails: each step finds room for its records and leaves as much as the next
+/// of any of them, so through rounds, also through one that is cut short as a disk fails, and through one in which memory was refused: each step finds room for its records and leaves as much as the next
 /// may need, and each restart finds it again.
 pub fn sites_stay_roomy<D: Disk>()
     ensures carries { (began : ℕ → Began) (old new : List (Cast D)) → CarriesStayRoomy D.state D.byte_count began old new }
@@ -32,14 +32,17 @@ pub fn sites_stay_roomy<D: Disk>()
     ensures round { (o : Opening) (plans : ℕ → ℕ → List LinkFault) (began : ℕ → Began) (order : List ℕ) (old new : SitesValue D) (quiet : Bool) → RoundStaysRoomy D.told D.state D.fault_count D.byte_count o plans began order old new quiet }
     ensures rounds { (o : Opening) (plans : ℕ → ℕ → List LinkFault) (began : ℕ → Began) (rng later : Lcg) (n : ℕ) (old new : SitesValue D) → RoundsStayRoomy D.told D.state D.fault_count D.byte_count o plans began rng n old new later }
     ensures broken { (o : Opening) (plans : ℕ → ℕ → List LinkFault) (began : ℕ → Began) (order : List ℕ) (node : NodeNo) (old new : SitesValue D) → BrokenRoundStaysRoomy D.told D.state D.fault_count D.byte_count o plans began order node old new }
+    ensures refused { (o : Opening) (plans : ℕ → ℕ → List LinkFault) (began : ℕ → Began) (order : List ℕ) (old new : SitesValue D) → RefusedRoundStaysRoomy D.told D.state D.fault_count D.byte_count o plans began order old new }
 {}
 
 /// Where a run of many nodes has begun with a script that fits, over coherent logs with room for all that is kept there, each image of each disk has a log
-/// with that room after any rounds, as the rounds end, and where one is cut short as a disk fails; and no node has stopped for a full log.
+/// with that room after any rounds, as the rounds end, where one is cut short as a disk fails, and where memory was refused in one; and no node has stopped for
+/// a full log.
 pub fn runs_leave_room<D: Disk>()
     ensures rounds { (alloc : Global) (script : Script) (disks : List D) (rng later : Lcg) (n : ℕ) (all new : SitesValue D) → RoundsLeaveRoom D.told D.state D.fault_count D.byte_count alloc script disks rng n all new later }
     ensures ends { (alloc : Global) (script : Script) (disks : List D) (seed : ℕ) (all new : SitesValue D) (ending : Ending) → EndingsLeaveRoom D.told D.state D.fault_count D.byte_count alloc script disks seed all new ending }
     ensures cut { (alloc : Global) (script : Script) (disks : List D) (seed : ℕ) (node : NodeNo) (all new : SitesValue D) → CutShortLeavesRoom D.told D.state D.fault_count D.byte_count alloc script disks seed node all new }
+    ensures refused { (alloc : Global) (script : Script) (disks : List D) (seed : ℕ) (all new : SitesValue D) → RefusedLeavesRoom D.told D.state D.fault_count D.byte_count alloc script disks seed all new }
 {
     what_fits_may_begin();
 }

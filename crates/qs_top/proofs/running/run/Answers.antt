@@ -9,7 +9,7 @@ use Rattle.qs_top.specs.Nodes.{IsNotBegunOf, IsRefusedOf, IsShortOf}
 use Rattle.qs_top.specs.declared.asking.Asked.TheVariants as Asked
 use Rattle.qs_top.specs.Run.{IsNotBegun, IsShort, IsRefused, RanOutOfMemory}
 use Rattle.qs_top.specs.Texts.{HasText, ReadWhole, OfScript, OfScriptOf}
-use Rattle.qs_top.specs.Untold.{AreOnlyTouched, RanOutOfMemoryOf, StayCoherentOf}
+use Rattle.qs_top.specs.Untold.{AreOnlyTouched, RanOutOfMemoryOf, StayCoherentOf, StayRoomyOf}
 use Rattle.qs_text.specs.declared.given.Shown.{Shown}
 use Rattle.qs_text_script.specs.Words.{form_of}
 use Rattle.qs_top.specs.Asking.{asked_by, nodes_of}
@@ -131,3 +131,8 @@ pub returns-in-Some-SerialNodes-clause-nodes_coherent : goal.returns-in-Some-Ser
 returns-in-Some-SerialNodes-clause-nodes_coherent g c = λ nodes seed shown asked.
     let same : c.in-Some-SerialNodes.nodes ≡ nodes = cc (c.asked_by.ensures, c.in-Some-SerialNodes.is, c.in-Some-SerialNodes.field-0-is, asked) in
     subst (λ (n : ℕ). OfThese n (StayCoherentOf g.D.Disk.told g.D.Disk.state) c.args.disks.now.items c.run_nodes.new.disks.items) same c.run_nodes.ensures.coherent
+
+pub returns-in-Some-SerialNodes-clause-nodes_roomy : goal.returns-in-Some-SerialNodes-clause-nodes_roomy
+returns-in-Some-SerialNodes-clause-nodes_roomy g c = λ nodes seed shown asked.
+    let same : c.in-Some-SerialNodes.nodes ≡ nodes = cc (c.asked_by.ensures, c.in-Some-SerialNodes.is, c.in-Some-SerialNodes.field-0-is, asked) in
+    subst (λ (n : ℕ). OfThese n (StayRoomyOf g.D.Disk.told g.D.Disk.state g.D.Disk.byte_count) c.args.disks.now.items c.run_nodes.new.disks.items) same c.run_nodes.ensures.roomy

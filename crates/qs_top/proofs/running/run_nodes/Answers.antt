@@ -3,7 +3,7 @@ use Rattle.qs_top.specs.Inner.Giving.{IsNoScript}
 use Rattle.qs_top.proofs.Firsts.{others_these, others_same}
 use Rattle.qs_top.proofs.NodesGiven.{NodesLaws}
 use Rattle.qs_top.proofs.NodesLawful.{none_lawful}
-use Rattle.qs_top.proofs.NodesThese.{none_coherent, none_leave, none_touched, these_coherent, these_out, these_cut_off, these_damaged, these_empty, these_ended, these_fault, these_built, these_lawful, these_leave, these_ran, these_read, these_refused, these_script, these_short, these_silent, these_written}
+use Rattle.qs_top.proofs.NodesThese.{none_coherent, none_leave, none_roomy, none_touched, these_coherent, these_out, these_cut_off, these_damaged, these_empty, these_ended, these_fault, these_built, these_lawful, these_leave, these_ran, these_read, these_refused, these_roomy, these_script, these_short, these_silent, these_written}
 use Rattle.qs_top.proofs.TextLemmas.{text_fits, text_sits_once}
 use Rattle.qs_top.proofs.running.run_nodes.Goals as goal
 
@@ -23,16 +23,16 @@ pub returns-clause-damaged : goal.returns-clause-damaged
 returns-clause-damaged g c = λ node at is. these_damaged g.D.Disk.told g.D.Disk.state g.D.Disk.fault_count g.D.Disk.byte_count c.args.seed c.args.nodes c.in-Ok.script c.args.shown g.K.Sink.faults g.K.Sink.given c.args.sink.now c.give.new.sink c.run_over_nodes-made.result c.give.result c.args.disks.now.items c.run_over_nodes-made.new.disks.items c.run_over_nodes-made.ensures.over c.give.ensures node at is
 
 pub returns-clause-ended : goal.returns-clause-ended
-returns-clause-ended g c = λ e. these_ended g.D.Disk.told g.D.Disk.state g.D.Disk.fault_count g.D.Disk.byte_count c.args.seed c.args.nodes c.in-Ok.script c.args.shown g.K.Sink.faults g.K.Sink.given c.args.sink.now c.give.new.sink c.run_over_nodes-made.result c.give.result c.args.disks.now.items c.run_over_nodes-made.new.disks.items c.run_over_nodes-made.ensures.over c.give.ensures c.in-Ok.ensures.read (text_sits_once c.args.shown c.args.nodes c.in-Ok.script c.nodes_have_openings.ensures.read c.in-Ok.ensures.read) (text_fits c.args.shown c.args.nodes c.in-Ok.script c.requires.some (few_enough c.args.nodes c.requires.few) c.scripts_fit.ensures c.in-Ok.ensures.read) (record { opens = c.nodes_have_openings.ensures.opens; ends = c.rounds_are_runs_of_the_world.ensures.ends; cut = c.rounds_are_runs_of_the_world.ensures.cut; raised = c.runs_follow_runs.ensures.raised; read = c.disks_are_read.ensures.read; ends_follow = c.runs_follow_runs.ensures.ends; cut_follows = c.runs_follow_runs.ensures.cut; ends_stand = c.runs_leave_standing_disks.ensures.ends; cut_stands = c.runs_leave_standing_disks.ensures.cut; ends_room = c.runs_leave_room.ensures.ends; cut_room = c.runs_leave_room.ensures.cut; read_room = c.roomy_disks_are_read.ensures; ends_lawful = c.rounds_are_lawful.ensures.ends; cut_lawful = c.rounds_are_lawful.ensures.cut }) e
+returns-clause-ended g c = λ e. these_ended g.D.Disk.told g.D.Disk.state g.D.Disk.fault_count g.D.Disk.byte_count c.args.seed c.args.nodes c.in-Ok.script c.args.shown g.K.Sink.faults g.K.Sink.given c.args.sink.now c.give.new.sink c.run_over_nodes-made.result c.give.result c.args.disks.now.items c.run_over_nodes-made.new.disks.items c.run_over_nodes-made.ensures.over c.give.ensures c.in-Ok.ensures.read (text_sits_once c.args.shown c.args.nodes c.in-Ok.script c.nodes_have_openings.ensures.read c.in-Ok.ensures.read) (text_fits c.args.shown c.args.nodes c.in-Ok.script c.requires.some (few_enough c.args.nodes c.requires.few) c.scripts_fit.ensures c.in-Ok.ensures.read) (record { opens = c.nodes_have_openings.ensures.opens; ends = c.rounds_are_runs_of_the_world.ensures.ends; cut = c.rounds_are_runs_of_the_world.ensures.cut; raised = c.runs_follow_runs.ensures.raised; read = c.disks_are_read.ensures.read; ends_follow = c.runs_follow_runs.ensures.ends; cut_follows = c.runs_follow_runs.ensures.cut; ends_stand = c.runs_leave_standing_disks.ensures.ends; cut_stands = c.runs_leave_standing_disks.ensures.cut; ends_lawful = c.rounds_are_lawful.ensures.ends; cut_lawful = c.rounds_are_lawful.ensures.cut }) e
 
 pub returns-clause-cut_off : goal.returns-clause-cut_off
-returns-clause-cut_off g c = λ fault. these_cut_off g.D.Disk.told g.D.Disk.state g.D.Disk.fault_count g.D.Disk.byte_count c.args.seed c.args.nodes c.in-Ok.script c.args.shown g.K.Sink.faults g.K.Sink.given c.args.sink.now c.give.new.sink c.run_over_nodes-made.result c.give.result c.args.disks.now.items c.run_over_nodes-made.new.disks.items c.run_over_nodes-made.ensures.over c.give.ensures c.in-Ok.ensures.read (text_sits_once c.args.shown c.args.nodes c.in-Ok.script c.nodes_have_openings.ensures.read c.in-Ok.ensures.read) (text_fits c.args.shown c.args.nodes c.in-Ok.script c.requires.some (few_enough c.args.nodes c.requires.few) c.scripts_fit.ensures c.in-Ok.ensures.read) (record { opens = c.nodes_have_openings.ensures.opens; ends = c.rounds_are_runs_of_the_world.ensures.ends; cut = c.rounds_are_runs_of_the_world.ensures.cut; raised = c.runs_follow_runs.ensures.raised; read = c.disks_are_read.ensures.read; ends_follow = c.runs_follow_runs.ensures.ends; cut_follows = c.runs_follow_runs.ensures.cut; ends_stand = c.runs_leave_standing_disks.ensures.ends; cut_stands = c.runs_leave_standing_disks.ensures.cut; ends_room = c.runs_leave_room.ensures.ends; cut_room = c.runs_leave_room.ensures.cut; read_room = c.roomy_disks_are_read.ensures; ends_lawful = c.rounds_are_lawful.ensures.ends; cut_lawful = c.rounds_are_lawful.ensures.cut }) fault
+returns-clause-cut_off g c = λ fault. these_cut_off g.D.Disk.told g.D.Disk.state g.D.Disk.fault_count g.D.Disk.byte_count c.args.seed c.args.nodes c.in-Ok.script c.args.shown g.K.Sink.faults g.K.Sink.given c.args.sink.now c.give.new.sink c.run_over_nodes-made.result c.give.result c.args.disks.now.items c.run_over_nodes-made.new.disks.items c.run_over_nodes-made.ensures.over c.give.ensures c.in-Ok.ensures.read (text_sits_once c.args.shown c.args.nodes c.in-Ok.script c.nodes_have_openings.ensures.read c.in-Ok.ensures.read) (text_fits c.args.shown c.args.nodes c.in-Ok.script c.requires.some (few_enough c.args.nodes c.requires.few) c.scripts_fit.ensures c.in-Ok.ensures.read) (record { opens = c.nodes_have_openings.ensures.opens; ends = c.rounds_are_runs_of_the_world.ensures.ends; cut = c.rounds_are_runs_of_the_world.ensures.cut; raised = c.runs_follow_runs.ensures.raised; read = c.disks_are_read.ensures.read; ends_follow = c.runs_follow_runs.ensures.ends; cut_follows = c.runs_follow_runs.ensures.cut; ends_stand = c.runs_leave_standing_disks.ensures.ends; cut_stands = c.runs_leave_standing_disks.ensures.cut; ends_lawful = c.rounds_are_lawful.ensures.ends; cut_lawful = c.rounds_are_lawful.ensures.cut }) fault
 
 pub returns-clause-cut_short : goal.returns-clause-cut_short
-returns-clause-cut_short g c = λ node is. these_short g.D.Disk.told g.D.Disk.state g.D.Disk.fault_count g.D.Disk.byte_count c.args.seed c.args.nodes c.in-Ok.script c.args.shown g.K.Sink.faults g.K.Sink.given c.args.sink.now c.give.new.sink c.run_over_nodes-made.result c.give.result c.args.disks.now.items c.run_over_nodes-made.new.disks.items c.run_over_nodes-made.ensures.over c.give.ensures c.in-Ok.ensures.read (text_sits_once c.args.shown c.args.nodes c.in-Ok.script c.nodes_have_openings.ensures.read c.in-Ok.ensures.read) (text_fits c.args.shown c.args.nodes c.in-Ok.script c.requires.some (few_enough c.args.nodes c.requires.few) c.scripts_fit.ensures c.in-Ok.ensures.read) (record { opens = c.nodes_have_openings.ensures.opens; ends = c.rounds_are_runs_of_the_world.ensures.ends; cut = c.rounds_are_runs_of_the_world.ensures.cut; raised = c.runs_follow_runs.ensures.raised; read = c.disks_are_read.ensures.read; ends_follow = c.runs_follow_runs.ensures.ends; cut_follows = c.runs_follow_runs.ensures.cut; ends_stand = c.runs_leave_standing_disks.ensures.ends; cut_stands = c.runs_leave_standing_disks.ensures.cut; ends_room = c.runs_leave_room.ensures.ends; cut_room = c.runs_leave_room.ensures.cut; read_room = c.roomy_disks_are_read.ensures; ends_lawful = c.rounds_are_lawful.ensures.ends; cut_lawful = c.rounds_are_lawful.ensures.cut }) node is
+returns-clause-cut_short g c = λ node is. these_short g.D.Disk.told g.D.Disk.state g.D.Disk.fault_count g.D.Disk.byte_count c.args.seed c.args.nodes c.in-Ok.script c.args.shown g.K.Sink.faults g.K.Sink.given c.args.sink.now c.give.new.sink c.run_over_nodes-made.result c.give.result c.args.disks.now.items c.run_over_nodes-made.new.disks.items c.run_over_nodes-made.ensures.over c.give.ensures c.in-Ok.ensures.read (text_sits_once c.args.shown c.args.nodes c.in-Ok.script c.nodes_have_openings.ensures.read c.in-Ok.ensures.read) (text_fits c.args.shown c.args.nodes c.in-Ok.script c.requires.some (few_enough c.args.nodes c.requires.few) c.scripts_fit.ensures c.in-Ok.ensures.read) (record { opens = c.nodes_have_openings.ensures.opens; ends = c.rounds_are_runs_of_the_world.ensures.ends; cut = c.rounds_are_runs_of_the_world.ensures.cut; raised = c.runs_follow_runs.ensures.raised; read = c.disks_are_read.ensures.read; ends_follow = c.runs_follow_runs.ensures.ends; cut_follows = c.runs_follow_runs.ensures.cut; ends_stand = c.runs_leave_standing_disks.ensures.ends; cut_stands = c.runs_leave_standing_disks.ensures.cut; ends_lawful = c.rounds_are_lawful.ensures.ends; cut_lawful = c.rounds_are_lawful.ensures.cut }) node is
 
 pub returns-clause-refused : goal.returns-clause-refused
-returns-clause-refused g c = λ line clause is. these_refused g.D.Disk.told g.D.Disk.state g.D.Disk.fault_count g.D.Disk.byte_count c.args.seed c.args.nodes c.in-Ok.script c.args.shown g.K.Sink.faults g.K.Sink.given c.args.sink.now c.give.new.sink c.run_over_nodes-made.result c.give.result c.args.disks.now.items c.run_over_nodes-made.new.disks.items c.run_over_nodes-made.ensures.over c.give.ensures c.in-Ok.ensures.read (text_sits_once c.args.shown c.args.nodes c.in-Ok.script c.nodes_have_openings.ensures.read c.in-Ok.ensures.read) (text_fits c.args.shown c.args.nodes c.in-Ok.script c.requires.some (few_enough c.args.nodes c.requires.few) c.scripts_fit.ensures c.in-Ok.ensures.read) (record { opens = c.nodes_have_openings.ensures.opens; ends = c.rounds_are_runs_of_the_world.ensures.ends; cut = c.rounds_are_runs_of_the_world.ensures.cut; raised = c.runs_follow_runs.ensures.raised; read = c.disks_are_read.ensures.read; ends_follow = c.runs_follow_runs.ensures.ends; cut_follows = c.runs_follow_runs.ensures.cut; ends_stand = c.runs_leave_standing_disks.ensures.ends; cut_stands = c.runs_leave_standing_disks.ensures.cut; ends_room = c.runs_leave_room.ensures.ends; cut_room = c.runs_leave_room.ensures.cut; read_room = c.roomy_disks_are_read.ensures; ends_lawful = c.rounds_are_lawful.ensures.ends; cut_lawful = c.rounds_are_lawful.ensures.cut }) line clause is
+returns-clause-refused g c = λ line clause is. these_refused g.D.Disk.told g.D.Disk.state g.D.Disk.fault_count g.D.Disk.byte_count c.args.seed c.args.nodes c.in-Ok.script c.args.shown g.K.Sink.faults g.K.Sink.given c.args.sink.now c.give.new.sink c.run_over_nodes-made.result c.give.result c.args.disks.now.items c.run_over_nodes-made.new.disks.items c.run_over_nodes-made.ensures.over c.give.ensures c.in-Ok.ensures.read (text_sits_once c.args.shown c.args.nodes c.in-Ok.script c.nodes_have_openings.ensures.read c.in-Ok.ensures.read) (text_fits c.args.shown c.args.nodes c.in-Ok.script c.requires.some (few_enough c.args.nodes c.requires.few) c.scripts_fit.ensures c.in-Ok.ensures.read) (record { opens = c.nodes_have_openings.ensures.opens; ends = c.rounds_are_runs_of_the_world.ensures.ends; cut = c.rounds_are_runs_of_the_world.ensures.cut; raised = c.runs_follow_runs.ensures.raised; read = c.disks_are_read.ensures.read; ends_follow = c.runs_follow_runs.ensures.ends; cut_follows = c.runs_follow_runs.ensures.cut; ends_stand = c.runs_leave_standing_disks.ensures.ends; cut_stands = c.runs_leave_standing_disks.ensures.cut; ends_lawful = c.rounds_are_lawful.ensures.ends; cut_lawful = c.rounds_are_lawful.ensures.cut }) line clause is
 
 pub returns-clause-script : goal.returns-clause-script
 returns-clause-script g c = λ line fault is. absurd (these_script g.D.Disk.told g.D.Disk.state g.D.Disk.fault_count g.D.Disk.byte_count c.args.seed c.args.nodes c.in-Ok.script c.args.shown g.K.Sink.faults g.K.Sink.given c.args.sink.now c.give.new.sink c.run_over_nodes-made.result c.give.result c.args.disks.now.items c.run_over_nodes-made.new.disks.items c.run_over_nodes-made.ensures.over c.give.ensures line fault is)
@@ -75,10 +75,16 @@ pub returns-in-Err-clause-out_of_memory : goal.returns-in-Err-clause-out_of_memo
 returns-in-Err-clause-out_of_memory g c = λ is. inl (none_touched g.D.Disk.told g.D.Disk.state c.args.nodes c.args.disks.now.items c.requires.few c.requires.disks)
 
 pub returns-clause-out_of_memory : goal.returns-clause-out_of_memory
-returns-clause-out_of_memory g c = λ is. these_out g.D.Disk.told g.D.Disk.state g.D.Disk.fault_count g.D.Disk.byte_count c.args.seed c.args.nodes c.in-Ok.script c.args.shown g.K.Sink.faults g.K.Sink.given c.args.sink.now c.give.new.sink c.run_over_nodes-made.result c.give.result c.args.disks.now.items c.run_over_nodes-made.new.disks.items c.run_over_nodes-made.ensures.over c.give.ensures c.in-Ok.ensures.read (text_sits_once c.args.shown c.args.nodes c.in-Ok.script c.nodes_have_openings.ensures.read c.in-Ok.ensures.read) (text_fits c.args.shown c.args.nodes c.in-Ok.script c.requires.some (few_enough c.args.nodes c.requires.few) c.scripts_fit.ensures c.in-Ok.ensures.read) (record { opens = c.nodes_have_openings.ensures.opens; ends = c.rounds_are_runs_of_the_world.ensures.ends; cut = c.rounds_are_runs_of_the_world.ensures.cut; raised = c.runs_follow_runs.ensures.raised; read = c.disks_are_read.ensures.read; ends_follow = c.runs_follow_runs.ensures.ends; cut_follows = c.runs_follow_runs.ensures.cut; ends_stand = c.runs_leave_standing_disks.ensures.ends; cut_stands = c.runs_leave_standing_disks.ensures.cut; ends_room = c.runs_leave_room.ensures.ends; cut_room = c.runs_leave_room.ensures.cut; read_room = c.roomy_disks_are_read.ensures; ends_lawful = c.rounds_are_lawful.ensures.ends; cut_lawful = c.rounds_are_lawful.ensures.cut }) (record { laws = record { opens = c.nodes_have_openings.ensures.opens; ends = c.rounds_are_runs_of_the_world.ensures.ends; cut = c.rounds_are_runs_of_the_world.ensures.cut; raised = c.runs_follow_runs.ensures.raised; read = c.disks_are_read.ensures.read; ends_follow = c.runs_follow_runs.ensures.ends; cut_follows = c.runs_follow_runs.ensures.cut; ends_stand = c.runs_leave_standing_disks.ensures.ends; cut_stands = c.runs_leave_standing_disks.ensures.cut; ends_room = c.runs_leave_room.ensures.ends; cut_room = c.runs_leave_room.ensures.cut; read_room = c.roomy_disks_are_read.ensures; ends_lawful = c.rounds_are_lawful.ensures.ends; cut_lawful = c.rounds_are_lawful.ensures.cut }; follows = c.runs_follow_runs.ensures.refused; stands = c.refused_runs_leave_standing_disks.ensures.refused; lawful = c.rounds_are_lawful.ensures.refused; touched = c.touched_disks_stay_coherent.ensures }) is
+returns-clause-out_of_memory g c = λ is. these_out g.D.Disk.told g.D.Disk.state g.D.Disk.fault_count g.D.Disk.byte_count c.args.seed c.args.nodes c.in-Ok.script c.args.shown g.K.Sink.faults g.K.Sink.given c.args.sink.now c.give.new.sink c.run_over_nodes-made.result c.give.result c.args.disks.now.items c.run_over_nodes-made.new.disks.items c.run_over_nodes-made.ensures.over c.give.ensures c.in-Ok.ensures.read (text_sits_once c.args.shown c.args.nodes c.in-Ok.script c.nodes_have_openings.ensures.read c.in-Ok.ensures.read) (text_fits c.args.shown c.args.nodes c.in-Ok.script c.requires.some (few_enough c.args.nodes c.requires.few) c.scripts_fit.ensures c.in-Ok.ensures.read) (record { opens = c.nodes_have_openings.ensures.opens; ends = c.rounds_are_runs_of_the_world.ensures.ends; cut = c.rounds_are_runs_of_the_world.ensures.cut; raised = c.runs_follow_runs.ensures.raised; read = c.disks_are_read.ensures.read; ends_follow = c.runs_follow_runs.ensures.ends; cut_follows = c.runs_follow_runs.ensures.cut; ends_stand = c.runs_leave_standing_disks.ensures.ends; cut_stands = c.runs_leave_standing_disks.ensures.cut; ends_lawful = c.rounds_are_lawful.ensures.ends; cut_lawful = c.rounds_are_lawful.ensures.cut }) (record { laws = record { opens = c.nodes_have_openings.ensures.opens; ends = c.rounds_are_runs_of_the_world.ensures.ends; cut = c.rounds_are_runs_of_the_world.ensures.cut; raised = c.runs_follow_runs.ensures.raised; read = c.disks_are_read.ensures.read; ends_follow = c.runs_follow_runs.ensures.ends; cut_follows = c.runs_follow_runs.ensures.cut; ends_stand = c.runs_leave_standing_disks.ensures.ends; cut_stands = c.runs_leave_standing_disks.ensures.cut; ends_lawful = c.rounds_are_lawful.ensures.ends; cut_lawful = c.rounds_are_lawful.ensures.cut }; follows = c.runs_follow_runs.ensures.refused; stands = c.refused_runs_leave_standing_disks.ensures.refused; lawful = c.rounds_are_lawful.ensures.refused; touched = c.touched_disks_stay_coherent.ensures }) is
 
 pub returns-in-Err-clause-coherent : goal.returns-in-Err-clause-coherent
 returns-in-Err-clause-coherent g c = none_coherent g.D.Disk.told g.D.Disk.state c.args.nodes c.args.disks.now.items c.requires.few c.requires.disks
 
 pub returns-clause-coherent : goal.returns-clause-coherent
-returns-clause-coherent g c = these_coherent g.D.Disk.told g.D.Disk.state g.D.Disk.fault_count g.D.Disk.byte_count c.args.seed c.args.nodes c.in-Ok.script c.args.shown g.K.Sink.faults g.K.Sink.given c.args.sink.now c.give.new.sink c.run_over_nodes-made.result c.give.result c.args.disks.now.items c.run_over_nodes-made.new.disks.items c.run_over_nodes-made.ensures.over c.give.ensures c.in-Ok.ensures.read (text_sits_once c.args.shown c.args.nodes c.in-Ok.script c.nodes_have_openings.ensures.read c.in-Ok.ensures.read) (text_fits c.args.shown c.args.nodes c.in-Ok.script c.requires.some (few_enough c.args.nodes c.requires.few) c.scripts_fit.ensures c.in-Ok.ensures.read) (record { opens = c.nodes_have_openings.ensures.opens; ends = c.rounds_are_runs_of_the_world.ensures.ends; cut = c.rounds_are_runs_of_the_world.ensures.cut; raised = c.runs_follow_runs.ensures.raised; read = c.disks_are_read.ensures.read; ends_follow = c.runs_follow_runs.ensures.ends; cut_follows = c.runs_follow_runs.ensures.cut; ends_stand = c.runs_leave_standing_disks.ensures.ends; cut_stands = c.runs_leave_standing_disks.ensures.cut; ends_room = c.runs_leave_room.ensures.ends; cut_room = c.runs_leave_room.ensures.cut; read_room = c.roomy_disks_are_read.ensures; ends_lawful = c.rounds_are_lawful.ensures.ends; cut_lawful = c.rounds_are_lawful.ensures.cut }) (record { laws = record { opens = c.nodes_have_openings.ensures.opens; ends = c.rounds_are_runs_of_the_world.ensures.ends; cut = c.rounds_are_runs_of_the_world.ensures.cut; raised = c.runs_follow_runs.ensures.raised; read = c.disks_are_read.ensures.read; ends_follow = c.runs_follow_runs.ensures.ends; cut_follows = c.runs_follow_runs.ensures.cut; ends_stand = c.runs_leave_standing_disks.ensures.ends; cut_stands = c.runs_leave_standing_disks.ensures.cut; ends_room = c.runs_leave_room.ensures.ends; cut_room = c.runs_leave_room.ensures.cut; read_room = c.roomy_disks_are_read.ensures; ends_lawful = c.rounds_are_lawful.ensures.ends; cut_lawful = c.rounds_are_lawful.ensures.cut }; follows = c.runs_follow_runs.ensures.refused; stands = c.refused_runs_leave_standing_disks.ensures.refused; lawful = c.rounds_are_lawful.ensures.refused; touched = c.touched_disks_stay_coherent.ensures })
+returns-clause-coherent g c = these_coherent g.D.Disk.told g.D.Disk.state g.D.Disk.fault_count g.D.Disk.byte_count c.args.seed c.args.nodes c.in-Ok.script c.args.shown g.K.Sink.faults g.K.Sink.given c.args.sink.now c.give.new.sink c.run_over_nodes-made.result c.give.result c.args.disks.now.items c.run_over_nodes-made.new.disks.items c.run_over_nodes-made.ensures.over c.give.ensures c.in-Ok.ensures.read (text_sits_once c.args.shown c.args.nodes c.in-Ok.script c.nodes_have_openings.ensures.read c.in-Ok.ensures.read) (text_fits c.args.shown c.args.nodes c.in-Ok.script c.requires.some (few_enough c.args.nodes c.requires.few) c.scripts_fit.ensures c.in-Ok.ensures.read) (record { opens = c.nodes_have_openings.ensures.opens; ends = c.rounds_are_runs_of_the_world.ensures.ends; cut = c.rounds_are_runs_of_the_world.ensures.cut; raised = c.runs_follow_runs.ensures.raised; read = c.disks_are_read.ensures.read; ends_follow = c.runs_follow_runs.ensures.ends; cut_follows = c.runs_follow_runs.ensures.cut; ends_stand = c.runs_leave_standing_disks.ensures.ends; cut_stands = c.runs_leave_standing_disks.ensures.cut; ends_lawful = c.rounds_are_lawful.ensures.ends; cut_lawful = c.rounds_are_lawful.ensures.cut }) (record { laws = record { opens = c.nodes_have_openings.ensures.opens; ends = c.rounds_are_runs_of_the_world.ensures.ends; cut = c.rounds_are_runs_of_the_world.ensures.cut; raised = c.runs_follow_runs.ensures.raised; read = c.disks_are_read.ensures.read; ends_follow = c.runs_follow_runs.ensures.ends; cut_follows = c.runs_follow_runs.ensures.cut; ends_stand = c.runs_leave_standing_disks.ensures.ends; cut_stands = c.runs_leave_standing_disks.ensures.cut; ends_lawful = c.rounds_are_lawful.ensures.ends; cut_lawful = c.rounds_are_lawful.ensures.cut }; follows = c.runs_follow_runs.ensures.refused; stands = c.refused_runs_leave_standing_disks.ensures.refused; lawful = c.rounds_are_lawful.ensures.refused; touched = c.touched_disks_stay_coherent.ensures })
+
+pub returns-in-Err-clause-roomy : goal.returns-in-Err-clause-roomy
+returns-in-Err-clause-roomy g c = none_roomy g.D.Disk.told g.D.Disk.state g.D.Disk.byte_count c.args.nodes c.args.disks.now.items c.requires.few c.requires.disks
+
+pub returns-clause-roomy : goal.returns-clause-roomy
+returns-clause-roomy g c = these_roomy g.D.Disk.told g.D.Disk.state g.D.Disk.fault_count g.D.Disk.byte_count c.args.seed c.args.nodes c.in-Ok.script c.args.shown g.K.Sink.faults g.K.Sink.given c.args.sink.now c.give.new.sink c.run_over_nodes-made.result c.give.result c.args.disks.now.items c.run_over_nodes-made.new.disks.items c.run_over_nodes-made.ensures.over c.give.ensures (text_sits_once c.args.shown c.args.nodes c.in-Ok.script c.nodes_have_openings.ensures.read c.in-Ok.ensures.read) (text_fits c.args.shown c.args.nodes c.in-Ok.script c.requires.some (few_enough c.args.nodes c.requires.few) c.scripts_fit.ensures c.in-Ok.ensures.read) (record { opens = c.nodes_have_openings.ensures.opens; ends = c.rounds_are_runs_of_the_world.ensures.ends; cut = c.rounds_are_runs_of_the_world.ensures.cut; raised = c.runs_follow_runs.ensures.raised; read = c.disks_are_read.ensures.read; ends_follow = c.runs_follow_runs.ensures.ends; cut_follows = c.runs_follow_runs.ensures.cut; ends_stand = c.runs_leave_standing_disks.ensures.ends; cut_stands = c.runs_leave_standing_disks.ensures.cut; ends_lawful = c.rounds_are_lawful.ensures.ends; cut_lawful = c.rounds_are_lawful.ensures.cut }) (record { ends = c.runs_leave_room.ensures.ends; cut = c.runs_leave_room.ensures.cut; refused = c.runs_leave_room.ensures.refused; read = c.roomy_disks_are_read.ensures })
