@@ -1,6 +1,5 @@
--- Where the log of a disk was coherent, or had room, it is so where a run did not begin, and what the judge refuses of a lawful journal is for a rule of the script.
-use Rattle.std.proofs.Common.{◌≡◌, ◌∙◌, ◌≤◌, ◌⊎◌, inl, inr, ℕ, ◌+◌, List, [], ◌∷◌, Option, Some, None, ap, subst, sym, arith}
-use Rattle.std.specs.Global.{Global}
+-- Where the log of a disk had room, it has where a run did not begin; and what the judge refuses of a lawful journal is for a rule of the script.
+use Rattle.std.proofs.Common.{◌≡◌, inl, inr, ℕ, ◌+◌, List, [], ◌∷◌, Option, Some, None, subst, sym}
 use Rattle.qs_cell.proofs.Rooms.{raised_roomy}
 use Rattle.qs_book_conformance.specs.Begun.{at_start}
 use Rattle.qs_book_conformance.specs.Conforming.{fault_from, first_misfit_from}
@@ -13,61 +12,15 @@ use Rattle.qs_book_conformance.specs.declared.fault.Rule.{Rule}
 use Rattle.qs_disk.specs.Disk.{DiskState, IsImage}
 use Rattle.qs_disk.specs.Moments.{Keeps}
 use Rattle.qs_node_host.specs.Roomy.{HasRoomyLog}
-use Rattle.qs_log_start.proofs.Beginning.{one_log}
-use Rattle.qs_log_start.specs.Incarnation.{IsOldOrRaised, IsTouched}
+use Rattle.qs_log_start.specs.Incarnation.{IsTouched}
 use Rattle.qs_book_journal.specs.declared.entry.Entry.{Entry}
-use Rattle.qs_log.specs.Image.{IsLog}
-use Rattle.qs_log.specs.Log.{raised_of}
 use Rattle.qs_book_machine.specs.Book.{BookValue}
 use Rattle.qs_book_machine.specs.Lawful.{IsLawful, broken}
-use Rattle.qs_world_opening.specs.Coherent.{AreCoherentLogs, IsCoherentDisk, IsCoherentImage}
-use Rattle.qs_world_opening.specs.Scripts.{StayCoherent}
-use Rattle.qs_record.specs.declared.record.Record.{Record}
-use Rattle.qs_world_one.proofs.Reaching.{same_present}
 use Rattle.qs_world_one.specs.Rooms.{IsRoomyDisk}
-use Rattle.qs_slot.specs.Slot.{Present}
 use Rattle.qs_book_script.specs.declared.script.Script.{Script}
 use Rattle.qs_top.specs.Verdicts.{IsRefusedAt, TellsMisfit, rule_of_script}
 
--- ---- a log that was raised at most
-
--- logs stay coherent as incarnations grow
-abbrev pub Later : Type 0
-Later = (alloc : Global) (size : ℕ) (incs later : ℕ → ℕ) (logs : ℕ → List Record) → StayCoherent alloc size incs later logs
-
-one_present : (p q : Present) (a b : List Record) (m n : ℕ) (image : List ℕ) → IsLog p a m image → IsLog q b n image → p ≡ q
-one_present p q a b m n image first other = same_present (sym first.slots ∙ other.slots)
-
-raised_coherent : Later → (alloc : Global) (content c : List ℕ) → IsOldOrRaised content c → IsCoherentImage alloc content → IsCoherentImage alloc c
-raised_coherent stay alloc content c old coherent = λ p records used other. by p records used other old.says
-  where
-    was : AreCoherentLogs alloc 1 (λ n. old.present.value.inc + 1) (λ n. old.records)
-    was = coherent old.present old.records old.used old.log
-
-    at : (p : Present) (records : List Record) → old.records ≡ records → old.present.value.inc ≤ p.value.inc → AreCoherentLogs alloc 1 (λ n. p.value.inc + 1) (λ n. records)
-    at p records same least = subst (λ (l : List Record). AreCoherentLogs alloc 1 (λ n. p.value.inc + 1) (λ n. l)) same
-        (stay alloc 1 (λ n. old.present.value.inc + 1) (λ n. p.value.inc + 1) (λ n. old.records) (λ n less. omega (arith, least)) was)
-
-    least_of : (inc : ℕ) (p : Present) → inc ≡ p.value.inc → old.present.value.inc ≤ inc → old.present.value.inc ≤ p.value.inc
-    least_of inc p is least = omega (arith, is, least)
-
-    by : (p : Present) (records : List Record) (used : ℕ) → IsLog p records used c → IsLog old.present old.records old.used c ⊎ IsLog (raised_of old.present) old.records old.used c
-        → AreCoherentLogs alloc 1 (λ n. p.value.inc + 1) (λ n. records)
-    by p records used other (inl log) = at p records (one_log old.present p old.records records old.used used c log other)
-        (least_of old.present.value.inc p (ap (λ (q : Present). q.value.inc) (one_present old.present p old.records records old.used used c log other)) (omega arith))
-    by p records used other (inr log) = at p records (one_log (raised_of old.present) p old.records records old.used used c log other)
-        (least_of (old.present.value.inc + 1) p (ap (λ (q : Present). q.value.inc) (one_present (raised_of old.present) p old.records records old.used used c log other)) (omega arith))
-
--- the content is an image
-pub touched_coherent : Later → (old new : DiskState) → IsImage old.now old.content → Keeps (IsTouched old) old new → IsCoherentDisk old → IsCoherentDisk new
-touched_coherent stay old new image keeps coherent = λ alloc c left. by alloc c (keeps.here c left)
-  where
-    by : (alloc : Global) (c : List ℕ) → IsTouched old c → IsCoherentImage alloc c
-    by alloc c (inl was) = coherent alloc c was
-    by alloc c (inr (inl same)) = subst (IsCoherentImage alloc) (sym same) (coherent alloc old.content image)
-    by alloc c (inr (inr raised)) = raised_coherent stay alloc old.content c raised (coherent alloc old.content image)
-
--- and where the log had room it has
+-- where the log had room it has
 pub touched_roomy : (size : ℕ) (old new : DiskState) → IsImage old.now old.content → Keeps (IsTouched old) old new → IsRoomyDisk size old → IsRoomyDisk size new
 touched_roomy size old new image keeps roomy = λ c left. by c (keeps.here c left)
   where

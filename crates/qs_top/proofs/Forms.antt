@@ -1,11 +1,10 @@
 -- How many nodes a run has that the words ask for.
-use Rattle.std.proofs.Common.{◌≡◌, ◌≤◌, refl, ℕ, ◌==◌, ◌&&◌, Bool, true, false, Option, Some, None, arith, nat_le, if◌then◌else◌}
+use Rattle.std.proofs.Common.{◌≡◌, ◌≤◌, refl, ℕ, ◌&&◌, Bool, true, false, Option, Some, None, arith, nat_le, if◌then◌else◌}
 use Rattle.std.proofs.lemmas.Bool.Decides.{nat_tests}
 use Rattle.qs_base_lemmas.proofs.Tests.{and_first, and_last}
 use Rattle.qs_text_script.specs.declared.form.Form.{Form}
 use Rattle.qs_text_script.specs.declared.form.Form.TheVariants as forms
 use Rattle.qs_top.specs.Asking.{asked_by, asked_in, serial_run, shown_with}
-use Rattle.qs_top.specs.declared.asking.Asked.{Asked}
 use Rattle.qs_top.specs.declared.asking.Asked.TheVariants as asked
 use Rattle.qs_text.specs.declared.given.Shown.{Shown}
 
@@ -16,36 +15,35 @@ record IsFew (nodes : ℕ) : Type 0 where
   some : 1 ≤ nodes
   few : nodes ≤ 8
 
-few_serial : (n seed : ℕ) (journal : Shown) (nodes at : ℕ) (shown : Shown) → serial_run n seed journal ≡ Some (asked.SerialNodes nodes at shown) → IsFew nodes
-few_serial n seed journal nodes at shown is = by (n == 1) (nat_le 2 n && nat_le n 8) refl is
+few_serial : (n seed : ℕ) (given : Shown) (nodes at : ℕ) (shown : Shown) → serial_run n seed given ≡ Some (asked.Serial nodes at shown) → IsFew nodes
+few_serial n seed given nodes at shown is = by (nat_le 1 n && nat_le n 8) refl is
   where
-    of_n : (nat_le 2 n && nat_le n 8) ≡ true → n ≡ nodes → IsFew nodes
+    of_n : (nat_le 1 n && nat_le n 8) ≡ true → n ≡ nodes → IsFew nodes
     of_n tests same = record {
-      some = omega (arith, same, le_of 2 n (and_first (nat_le 2 n) (nat_le n 8) tests));
-      few = omega (arith, same, le_of n 8 (and_last (nat_le 2 n) (nat_le n 8) tests));
+      some = omega (arith, same, le_of 1 n (and_first (nat_le 1 n) (nat_le n 8) tests));
+      few = omega (arith, same, le_of n 8 (and_last (nat_le 1 n) (nat_le n 8) tests));
     }
 
-    by : (one low : Bool) → (nat_le 2 n && nat_le n 8) ≡ low → (if one then Some (asked.Serial seed journal) else if low then Some (asked.SerialNodes n seed journal) else None) ≡ Some (asked.SerialNodes nodes at shown) → IsFew nodes
-    by true low tests is = absurd (cc is)
-    by false false tests is = absurd (cc is)
-    by false true tests is = of_n tests (cc is)
+    by : (low : Bool) → (nat_le 1 n && nat_le n 8) ≡ low → (if low then Some (asked.Serial n seed given) else None) ≡ Some (asked.Serial nodes at shown) → IsFew nodes
+    by false tests is = absurd (cc is)
+    by true tests is = of_n tests (cc is)
 
 -- a load
 few_load : (nodes : ℕ) → 4 ≡ nodes → IsFew nodes
 few_load nodes same = record { some = omega (arith, same); few = omega (arith, same) }
 
-few_in : (form : Form) (nodes seed : ℕ) (shown : Shown) → asked_in form ≡ Some (asked.SerialNodes nodes seed shown) → IsFew nodes
+few_in : (form : Form) (nodes seed : ℕ) (shown : Shown) → asked_in form ≡ Some (asked.Serial nodes seed shown) → IsFew nodes
 few_in (forms.Run n None journal) nodes seed shown is = absurd (cc is)
 few_in (forms.Run n (Some at) journal) nodes seed shown is = few_serial n at (shown_with journal) nodes seed shown is
 few_in forms.Check nodes seed shown is = absurd (cc is)
 few_in (forms.Load at) nodes seed shown is = few_load nodes (cc is)
 
-few_by : (form : Option Form) (nodes seed : ℕ) (shown : Shown) → asked_by form ≡ Some (asked.SerialNodes nodes seed shown) → IsFew nodes
+few_by : (form : Option Form) (nodes seed : ℕ) (shown : Shown) → asked_by form ≡ Some (asked.Serial nodes seed shown) → IsFew nodes
 few_by None nodes seed shown is = absurd (cc is)
 few_by (Some form) nodes seed shown is = few_in form nodes seed shown is
 
-pub some_nodes : (form : Option Form) (nodes seed : ℕ) (shown : Shown) → asked_by form ≡ Some (asked.SerialNodes nodes seed shown) → 1 ≤ nodes
+pub some_nodes : (form : Option Form) (nodes seed : ℕ) (shown : Shown) → asked_by form ≡ Some (asked.Serial nodes seed shown) → 1 ≤ nodes
 some_nodes form nodes seed shown is = (few_by form nodes seed shown is).some
 
-pub few_nodes : (form : Option Form) (nodes seed : ℕ) (shown : Shown) → asked_by form ≡ Some (asked.SerialNodes nodes seed shown) → nodes ≤ 8
+pub few_nodes : (form : Option Form) (nodes seed : ℕ) (shown : Shown) → asked_by form ≡ Some (asked.Serial nodes seed shown) → nodes ≤ 8
 few_nodes form nodes seed shown is = (few_by form nodes seed shown is).few

@@ -1,29 +1,21 @@
--- Where the log was coherent.
-pub mod Coherent
+-- Where the log had room, and what the judge refuses.
+mod Coherent
 -- What a run is once its output was given.
 mod Given
 -- What the machine opens with.
 mod Held
--- A script that was read has too few rounds for a restart that finds damage.
-mod Late
--- What a run over one disk comes to.
-mod Overs
--- What it comes to, whatever its rounds were answered.
-mod Ran
 -- What a status says of how a run ended.
 mod StatusLemmas
--- What it comes to where the log was not opened.
-mod Unopened
 -- The lines of a history that was read are few enough to be numbered.
 mod VerdictLemmas
-pub mod Courses
--- The first disk as one of the disks of a run.
-mod Firsts
+mod Courses
+-- The disks of no node of a run.
+mod Others
 -- What all nodes of a run tell.
 mod NodesTold
 -- What the machine opens with.
 mod NodesMachine
--- Which end a run of many nodes came to.
+-- Which end a run came to.
 mod NodesCame
 -- What it is once its output was given.
 mod NodesGiven

@@ -1,8 +1,7 @@
 -- Which end a run over the disks of many nodes came to, and what its status says.
-use Rattle.std.proofs.Common.{◌≡◌, ◌⊎◌, ◌∙◌, ap, inl, inr, refl, subst, sym, ℕ, Bool, List, Result, Ok, Err, None}
+use Rattle.std.proofs.Common.{◌≡◌, inl, inr, subst, sym, ℕ, List, Result, Ok, Err, None}
 use Rattle.qs_base.specs.declared.identifiers.NodeNo.{NodeNo}
 use Rattle.qs_book_script.specs.declared.script.Script.{Script}
-use Rattle.qs_book_script.specs.declared.status.Status.{Status}
 use Rattle.qs_book_script.specs.declared.status.Status.TheVariants as statuses
 use Rattle.qs_disk.specs.Disk.{DiskState}
 use Rattle.qs_log.specs.declared.fault.OpenFault.{OpenFault}
@@ -10,8 +9,7 @@ use Rattle.qs_log.specs.declared.fault.OpenFault.TheVariants as open_faults
 use Rattle.qs_top.specs.Inner.CameTo.{CameTo}
 use Rattle.qs_top.specs.Inner.Making.{IsMadeFrom, IsOutOfMemory, not_opened}
 use Rattle.qs_top.specs.Inner.OverNodes.{IsMadeOfRun, IsMadeOfTold, IsOverNodes}
-use Rattle.qs_top.specs.Nodes.{machine_of}
-use Rattle.qs_top.specs.Run.{IsNothing}
+use Rattle.qs_top.specs.Run.{IsNothing, machine_of}
 use Rattle.qs_top.specs.Statuses.{IfNot, IsEnd, IsOfRounds, Tells}
 use Rattle.qs_top.specs.declared.whole.RunMade.{RunMade}
 use Rattle.qs_top.proofs.StatusLemmas.{end_built, refusal_built, status_ends, status_tells}

@@ -1,7 +1,6 @@
 -- What a run of many nodes is once its output was given.
-use Rattle.std.proofs.Common.{◌≡◌, ◌⊎◌, ◌∙◌, ap, inl, inr, refl, subst, sym, ℕ, ◌<◌, ◌^◌, Bool, List, [], length, map, Option, Some, None, Result, Ok, Err, arith, slice_get}
+use Rattle.std.proofs.Common.{◌≡◌, ◌⊎◌, ◌∙◌, inl, inr, refl, subst, sym, ℕ, List, length, map, Option, Some, None, Result, Ok, Err}
 use Rattle.std.specs.Io.KnownBytes.{Appends}
-use Rattle.qs_base.specs.Causes.{Rose}
 use Rattle.qs_base.specs.declared.identifiers.NodeNo.{NodeNo}
 use Rattle.qs_book_journal.specs.declared.entry.Entry.{Entry}
 use Rattle.qs_book_journal.specs.Merge.{IsMerged}
@@ -12,20 +11,15 @@ use Rattle.qs_book_script.specs.declared.status.Status.{Status}
 use Rattle.qs_book_script.specs.declared.status.Status.TheVariants as statuses
 use Rattle.qs_disk.specs.Disk.{DiskState}
 use Rattle.qs_io.specs.Streams.{GivesPart}
-use Rattle.qs_log.specs.Image.{IsDamaged}
 use Rattle.qs_log.specs.declared.fault.OpenFault.{OpenFault}
 use Rattle.qs_log.specs.declared.fault.OpenFault.TheVariants as open_faults
 use Rattle.qs_node_step.specs.declared.trace.Step.{Step}
-use Rattle.qs_top.specs.Disks.{AtNode, OfThese}
-use Rattle.qs_top.specs.Ends.{status_of}
 use Rattle.qs_top.specs.Inner.CameTo.{CameShort, CameTo, CameToEnd, CameToNoLog, IsJudged}
 use Rattle.qs_top.specs.Inner.Giving.{IsGiven}
 use Rattle.qs_top.specs.Inner.Making.{not_opened}
-use Rattle.qs_top.specs.Inner.Over.{IsOutput}
 use Rattle.qs_top.specs.Inner.OverNodes.{IsOverNodes}
-use Rattle.qs_top.specs.Nodes.{AreHeldBy, AreLasting, AreMerged, AreTold, IsNotBegunOf, IsRefusedOf, IsShortOf, IsWholeOf, machine_of, opened_in}
-use Rattle.qs_top.specs.Run.{IsNothing, output_from}
-use Rattle.qs_top.specs.Statuses.{IfNot, IsEnd, IsOfRounds, Tells}
+use Rattle.qs_top.specs.Run.{AreHeldBy, AreLasting, AreMerged, AreTold, IsNotBegun, IsRefused, IsShort, IsWhole, machine_of, opened_in, output_from}
+use Rattle.qs_top.specs.Statuses.{IfNot, IsEnd, IsOfRounds}
 use Rattle.qs_top.specs.Verdicts.{IsRefusal}
 use Rattle.qs_top.specs.declared.outcome.Run.{Run}
 use Rattle.qs_top.specs.declared.whole.RunMade.{RunMade}
@@ -38,7 +32,7 @@ use Rattle.qs_top.proofs.StatusLemmas.{IsFaultStatus, end_refuses, same_node, st
 use Rattle.qs_world.specs.Histories.{book_of}
 use Rattle.qs_world_left.specs.Disks.{AreCoherentDisks, AreCoherentImages, LeaveCoherent, content_at, disks_of}
 use Rattle.qs_world_left.specs.Left.{AreReadAsLeft, BeginsCoherent, CoherentAreRead, CutShortFollows, EndingsFollow, HaveCoherentContents, RaisedStayCoherent}
-use Rattle.qs_world_left.specs.Standing.{CutShortLeavesStanding, DisksStandFor, EndingsLeaveStanding, HaveOthersStampsLeft, StandFor, up_at}
+use Rattle.qs_world_left.specs.Standing.{CutShortLeavesStanding, DisksStandFor, EndingsLeaveStanding, HaveOthersStampsLeft, StandFor, StandsAlone, up_at}
 use Rattle.qs_world_merge.specs.MergedByKey.{IsMergedBy}
 use Rattle.qs_world_merge.specs.Observed.{journals_of}
 use Rattle.qs_world_merge.specs.StepMoves.{step_key}
@@ -122,7 +116,9 @@ module _ {D : Type 0} (told : Type 0) (state : D → DiskState) (own size : D �
     lasting t coherent stands = record {
       coherent = subst AreCoherentDisks (sym is) coherent;
       stands = subst (DisksStandFor (book_after (machine_of tells) journal) (up_at ran.last.sites) (HaveOthersStampsLeft ran.last.sites)) (sym is)
-          (subst (λ (b : BookValue). DisksStandFor (book_after b journal) (up_at ran.last.sites) (HaveOthersStampsLeft ran.last.sites) (disks_of state ran.last.sites)) (machine_is told state own size script seed ending tells disks afters ran t once opens) stands);
+          (subst (λ (b : BookValue). DisksStandFor (book_after b journal) (up_at ran.last.sites) (HaveOthersStampsLeft ran.last.sites) (disks_of state ran.last.sites)) (machine_is told state own size script seed ending tells disks afters ran t once opens) stands.each);
+      alone = subst (StandsAlone (book_after (machine_of tells) journal) (up_at ran.last.sites 0)) (sym is)
+          (subst (λ (b : BookValue). StandsAlone (book_after b journal) (up_at ran.last.sites 0) (disks_of state ran.last.sites)) (machine_is told state own size script seed ending tells disks afters ran t once opens) stands.alone);
     }
       where
         is : map state afters ≡ disks_of state ran.last.sites
@@ -213,9 +209,9 @@ module _ {D K : Type 0} (told : Type 0) (state : D → DiskState) (own size : D 
       by (inr (inr (inr (inr c)))) = absurd (subst IsEnd c.nothing.status e)
 
   whole_as : (Has : Status → Type 0) (Gave : List ℕ → Type 0) (c : CameToEnd told state own size seed script shown made disks afters) → Has made.status → ((bytes : List ℕ) → made.output ≡ Some bytes → Gave bytes)
-      → IsWholeOf told state own size seed nodes script shown Has Gave run.journal run.trace disks afters
-  whole_as Has Gave c has out = subst (λ (entries : List Entry). IsWholeOf told state own size seed nodes script shown Has Gave entries run.trace disks afters) (sym (gave.entries ∙ c.passed.passed.entries))
-      (subst (λ (steps : List Step). IsWholeOf told state own size seed nodes script shown Has Gave c.journal steps disks afters) (sym (gave.steps ∙ c.passed.passed.steps)) (record {
+      → IsWhole told state own size seed nodes script shown Has Gave run.journal run.trace disks afters
+  whole_as Has Gave c has out = subst (λ (entries : List Entry). IsWhole told state own size seed nodes script shown Has Gave entries run.trace disks afters) (sym (gave.entries ∙ c.passed.passed.entries))
+      (subst (λ (steps : List Step). IsWhole told state own size seed nodes script shown Has Gave c.journal steps disks afters) (sym (gave.steps ∙ c.passed.passed.steps)) (record {
         ending = c.ending;
         tells = c.tells;
         ran = c.ran;
@@ -224,18 +220,18 @@ module _ {D K : Type 0} (told : Type 0) (state : D → DiskState) (own size : D 
         gave = out (output_from script c.journal shown (machine_of c.tells)) c.passed.output;
       }))
 
-  pub nodes_ended : IsEnd run.status → IsWholeOf told state own size seed nodes script shown (λ status. run.status ≡ status) (Appends (given before) (given after)) run.journal run.trace disks afters
+  pub nodes_ended : IsEnd run.status → IsWhole told state own size seed nodes script shown (λ status. run.status ≡ status) (Appends (given before) (given after)) run.journal run.trace disks afters
   nodes_ended e = by status_or
     where
-      by : StatusOr → IsWholeOf told state own size seed nodes script shown (λ status. run.status ≡ status) (Appends (given before) (given after)) run.journal run.trace disks afters
+      by : StatusOr → IsWhole told state own size seed nodes script shown (λ status. run.status ≡ status) (Appends (given before) (given after)) run.journal run.trace disks afters
       by (inl same) = whole_as (λ status. run.status ≡ status) (Appends (given before) (given after)) (end_of (subst IsEnd same e)) same
           (λ bytes is. (given_whole faults_of given before after made.output made.status run.status bytes gave.output is e).1)
       by (inr cut) = absurd (subst IsEnd cut.0 e)
 
-  pub nodes_cut_off : run.status ≡ statuses.WriteFault → IsWholeOf told state own size seed nodes script shown IsEnd (GivesPart (given before) (given after)) run.journal run.trace disks afters
+  pub nodes_cut_off : run.status ≡ statuses.WriteFault → IsWhole told state own size seed nodes script shown IsEnd (GivesPart (given before) (given after)) run.journal run.trace disks afters
   nodes_cut_off fault = by status_or
     where
-      by : StatusOr → IsWholeOf told state own size seed nodes script shown IsEnd (GivesPart (given before) (given after)) run.journal run.trace disks afters
+      by : StatusOr → IsWhole told state own size seed nodes script shown IsEnd (GivesPart (given before) (given after)) run.journal run.trace disks afters
       by (inl same) = absurd (subst IsOfRounds (sym same ∙ fault) built)
       by (inr cut) = whole_as IsEnd (GivesPart (given before) (given after)) (end_of e) e (λ bytes is. given_part faults_of given before after made.output made.status run.status bytes gave.output is e fault)
         where
@@ -243,22 +239,22 @@ module _ {D K : Type 0} (told : Type 0) (state : D → DiskState) (own size : D 
           e = ended cut.1.0 cut.1.1
 
   pub nodes_short : (node : NodeNo) → run.status ≡ statuses.DiskFault node
-      → IsNotBegunOf told state own size node run.journal run.trace disks afters ⊎ IsShortOf told state own size seed nodes script node run.journal run.trace disks afters
+      → IsNotBegun told state own size node run.journal run.trace disks afters ⊎ IsShort told state own size seed nodes script node run.journal run.trace disks afters
   nodes_short node is = by came
     where
       made_is : made.status ≡ statuses.DiskFault node
       made_is = as_made (statuses.DiskFault node) is (λ same. absurd (cc same))
 
-      short_as : (m : NodeNo) → m ≡ node → (c : CameShort told state own size seed script made disks afters) → c.node ≡ m → IsShortOf told state own size seed nodes script m run.journal run.trace disks afters
-      short_as m same c here = subst (λ (k : NodeNo). IsShortOf told state own size seed nodes script k run.journal run.trace disks afters) here
-          (subst (λ (entries : List Entry). IsShortOf told state own size seed nodes script c.node entries run.trace disks afters) (sym (gave.entries ∙ c.passed.passed.entries))
-          (subst (λ (steps : List Step). IsShortOf told state own size seed nodes script c.node c.journal steps disks afters) (sym (gave.steps ∙ c.passed.passed.steps)) (record {
+      short_as : (m : NodeNo) → m ≡ node → (c : CameShort told state own size seed script made disks afters) → c.node ≡ m → IsShort told state own size seed nodes script m run.journal run.trace disks afters
+      short_as m same c here = subst (λ (k : NodeNo). IsShort told state own size seed nodes script k run.journal run.trace disks afters) here
+          (subst (λ (entries : List Entry). IsShort told state own size seed nodes script c.node entries run.trace disks afters) (sym (gave.entries ∙ c.passed.passed.entries))
+          (subst (λ (steps : List Step). IsShort told state own size seed nodes script c.node c.journal steps disks afters) (sym (gave.steps ∙ c.passed.passed.steps)) (record {
             tells = c.tells;
             ran = c.ran;
             is_told = told_short told state own size script seed nodes disks afters count once fits over.read laws c.node c.tells c.ran c.journal c.trace c.merged c.passed.passed.conforms;
           })))
 
-      no_log : (c : CameToNoLog told state own size made disks afters) (why : OpenFault) → c.why ≡ why → made.status ≡ not_opened c.node why → IsNotBegunOf told state own size node run.journal run.trace disks afters
+      no_log : (c : CameToNoLog told state own size made disks afters) (why : OpenFault) → c.why ≡ why → made.status ≡ not_opened c.node why → IsNotBegun told state own size node run.journal run.trace disks afters
       no_log c open_faults.DiskFailed why status = record {
         nothing = record { entries = gave.entries ∙ c.unopened.nothing.nothing.entries; steps = gave.steps ∙ c.unopened.nothing.nothing.steps };
         not = subst (λ (m : NodeNo). IsNotOpened told state own size m.0 open_faults.DiskFailed disks afters) (same_node (sym status ∙ made_is))
@@ -267,14 +263,14 @@ module _ {D K : Type 0} (told : Type 0) (state : D → DiskState) (own size : D 
       no_log c (open_faults.Damaged at) why status = absurd (subst IsFaultStatus (sym made_is ∙ status) tt)
       no_log c open_faults.NoMemory why status = absurd (subst IsFaultStatus (sym made_is ∙ status) tt)
 
-      by : CameTo told state own size seed script shown made disks afters → IsNotBegunOf told state own size node run.journal run.trace disks afters ⊎ IsShortOf told state own size seed nodes script node run.journal run.trace disks afters
+      by : CameTo told state own size seed script shown made disks afters → IsNotBegun told state own size node run.journal run.trace disks afters ⊎ IsShort told state own size seed nodes script node run.journal run.trace disks afters
       by (inl c) = absurd (subst IsEnd made_is (subst IsEnd (sym c.passed.status) (status_ends c.ending.rounds c.ending.settled (waiting_of script c.journal))))
       by (inr (inl c)) = inr (short_as node refl c (same_node (sym c.passed.status ∙ made_is)))
       by (inr (inr (inl c))) = absurd (subst IsRefusal made_is c.failed.refusal)
       by (inr (inr (inr (inl c)))) = inl (no_log c c.why refl c.unopened.status)
       by (inr (inr (inr (inr c)))) = absurd (subst IsFaultStatus (sym made_is ∙ c.nothing.status) tt)
 
-  pub nodes_refused : (line clause : ℕ) → run.status ≡ statuses.Unlawful line clause → IsRefusedOf told state own size seed nodes script line clause disks afters
+  pub nodes_refused : (line clause : ℕ) → run.status ≡ statuses.Unlawful line clause → IsRefused told state own size seed nodes script line clause disks afters
   nodes_refused line clause is = by came
     where
       made_is : made.status ≡ statuses.Unlawful line clause
@@ -285,7 +281,7 @@ module _ {D K : Type 0} (told : Type 0) (state : D → DiskState) (own size : D 
       no_log node (open_faults.Damaged at) same = cc same
       no_log node open_faults.NoMemory same = cc same
 
-      by : CameTo told state own size seed script shown made disks afters → IsRefusedOf told state own size seed nodes script line clause disks afters
+      by : CameTo told state own size seed script shown made disks afters → IsRefused told state own size seed nodes script line clause disks afters
       by (inl c) = absurd (subst IsEnd made_is (subst IsEnd (sym c.passed.status) (status_ends c.ending.rounds c.ending.settled (waiting_of script c.journal))))
       by (inr (inl c)) = absurd (cc (sym made_is ∙ c.passed.status))
       by (inr (inr (inl c))) = record {

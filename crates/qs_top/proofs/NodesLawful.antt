@@ -1,5 +1,5 @@
 -- The journal of a run of many nodes is lawful, and a fault of a disk and a damage are of the disk that is named.
-use Rattle.std.proofs.Common.{◌≡◌, ◌⊎◌, ◌∙◌, ap, inl, inr, refl, subst, sym, ℕ, zero, suc, ◌<◌, ◌^◌, Bool, List, [], ◌∷◌, ◌++◌, length, map, Option, Some, None, Result, Ok, Err, arith, slice_get}
+use Rattle.std.proofs.Common.{◌≡◌, ◌∙◌, ap, inl, inr, refl, subst, sym, ℕ, zero, suc, ◌<◌, ◌^◌, List, [], ◌∷◌, ◌++◌, length, map, Option, Some, Result, Ok, Err, arith, slice_get}
 use Rattle.qs_base.specs.Causes.{Rose}
 use Rattle.qs_base.specs.declared.identifiers.NodeNo.{NodeNo}
 use Rattle.qs_book_journal.specs.declared.entry.Entry.{Entry}
@@ -12,12 +12,12 @@ use Rattle.qs_disk.specs.Disk.{DiskState}
 use Rattle.qs_log.specs.Image.{IsDamaged}
 use Rattle.qs_log.specs.declared.fault.OpenFault.{OpenFault}
 use Rattle.qs_log.specs.declared.fault.OpenFault.TheVariants as open_faults
-use Rattle.qs_top.specs.Disks.{AtNode, OfThese}
+use Rattle.qs_top.specs.Disks.{AtNode}
 use Rattle.qs_top.specs.Inner.CameTo.{CameShort, CameTo, CameToNoLog}
 use Rattle.qs_top.specs.Inner.Giving.{IsGiven}
 use Rattle.qs_top.specs.Inner.Making.{not_opened}
 use Rattle.qs_top.specs.Inner.OverNodes.{IsOverNodes}
-use Rattle.qs_top.specs.Nodes.{AreHeldBy, HasLawfulOf, machine_of, opened_in}
+use Rattle.qs_top.specs.Run.{AreHeldBy, HasLawful, machine_of, opened_in}
 use Rattle.qs_top.specs.Statuses.{IsEnd}
 use Rattle.qs_top.specs.Verdicts.{IsRefusal}
 use Rattle.qs_top.specs.declared.outcome.Run.{Run}
@@ -42,7 +42,7 @@ in_front [] rest n x is = absurd (cc is)
 in_front (y ∷ xs) rest zero x is = is
 in_front (y ∷ xs) rest (suc n) x is = in_front xs rest n x is
 
-pub none_lawful : {D : Type 0} (told : Type 0) (state : D → DiskState) (nodes : ℕ) (journal : List Entry) (old new : List D) → journal ≡ [] → HasLawfulOf told state nodes journal old new
+pub none_lawful : {D : Type 0} (told : Type 0) (state : D → DiskState) (nodes : ℕ) (journal : List Entry) (old new : List D) → journal ≡ [] → HasLawful told state nodes journal old new
 none_lawful told state nodes journal old new none = record { opened = []; lawful = subst (IsLawful (opening [])) (sym none) tt; count = λ some. absurd (no_entry journal none some); held = λ some. absurd (no_entry journal none some) }
   where
     no_entry : (entries : List Entry) → entries ≡ [] → 0 < length entries → ⊥
@@ -57,7 +57,7 @@ module _ {D K : Type 0} (told : Type 0) (state : D → DiskState) (own size : D 
   came = came_to told state own size seed script shown made disks afters over
 
   -- what is told is lawful
-  told_lawful : (ending : Result Ending RoundFault) (tells : List SiteTold) → HasRun told state own size script seed ending (Ok tells) disks afters → (journal : List Entry) → run.journal ≡ journal → IsLawful (machine_of tells) journal → HasLawfulOf told state nodes run.journal old new
+  told_lawful : (ending : Result Ending RoundFault) (tells : List SiteTold) → HasRun told state own size script seed ending (Ok tells) disks afters → (journal : List Entry) → run.journal ≡ journal → IsLawful (machine_of tells) journal → HasLawful told state nodes run.journal old new
   told_lawful ending tells ran journal is lawful = record {
     opened = map opened_in tells;
     lawful = subst (IsLawful (machine_of tells)) (sym is) lawful;
@@ -77,10 +77,10 @@ module _ {D K : Type 0} (told : Type 0) (state : D → DiskState) (own size : D 
     };
   }
 
-  pub nodes_lawful : HasLawfulOf told state nodes run.journal old new
+  pub nodes_lawful : HasLawful told state nodes run.journal old new
   nodes_lawful = by came
     where
-      by : CameTo told state own size seed script shown made disks afters → HasLawfulOf told state nodes run.journal old new
+      by : CameTo told state own size seed script shown made disks afters → HasLawful told state nodes run.journal old new
       by (inl c) = told_lawful (Ok c.ending) c.tells c.ran c.journal (gave.entries ∙ c.passed.passed.entries) c.passed.passed.conforms.lawful
       by (inr (inl c)) = told_lawful (Err (faults.DiskFault c.node)) c.tells c.ran c.journal (gave.entries ∙ c.passed.passed.entries) c.passed.passed.conforms.lawful
       by (inr (inr (inl c))) = none_lawful told state nodes run.journal old new (gave.entries ∙ c.failed.nothing.nothing.entries)

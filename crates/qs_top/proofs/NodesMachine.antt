@@ -1,12 +1,10 @@
 -- The reference machine over what the logs of many nodes held opens as the world of the run does; and the disks of the sites as they are left.
-use Rattle.std.proofs.Common.{◌≡◌, ◌∙◌, ap, refl, subst, sym, ℕ, zero, suc, ◌+◌, ◌<◌, List, [], ◌∷◌, ◌++◌, length, map, Option, Some, Result, Ok, append-nil, arith, slice_get}
-use Rattle.std.specs.Global.{Global}
+use Rattle.std.proofs.Common.{◌≡◌, ◌∙◌, ap, refl, subst, sym, ℕ, zero, suc, ◌+◌, ◌<◌, List, [], ◌∷◌, ◌++◌, length, map, Some, Result, Ok, append-nil, arith, slice_get}
 use Rattle.qs_base.specs.declared.memory.NoMemory.{NoMemory}
 use Rattle.qs_base_lemmas.proofs.Tests.{is_zero_plus}
 use Rattle.qs_book_machine.specs.Opening.{opening}
 use Rattle.qs_book_machine.specs.declared.opened.Opened.{Opened}
 use Rattle.qs_book_script.specs.declared.script.Script.{Script}
-use Rattle.qs_cell.specs.Restart.{found_in}
 use Rattle.qs_cell.specs.Starts.{setting_in}
 use Rattle.qs_disk.specs.Disk.{DiskState}
 use Rattle.qs_disk.specs.Fuse.{FusedValue}
@@ -14,13 +12,12 @@ use Rattle.qs_log.specs.Log.{LogValue}
 use Rattle.qs_node_step.specs.Opening.{recovered_of}
 use Rattle.qs_node_step.specs.declared.setting.Setting.{Setting}
 use Rattle.qs_record.specs.declared.record.Record.{Record}
-use Rattle.qs_top.specs.Nodes.{machine_of, opened_in}
+use Rattle.qs_top.specs.Run.{machine_of, opened_in}
 use Rattle.qs_top.proofs.NodesTold.{map_has, map_length, sites_count}
 use Rattle.qs_world.specs.Histories.{book_of, opened_from, opened_with}
 use Rattle.qs_world.specs.World.{Opening}
 use Rattle.qs_world_left.specs.Disks.{disk_state, disks_of}
 use Rattle.qs_world_nodes.proofs.Places.{found, low_of}
-use Rattle.qs_world_nodes.specs.Nodes.{OpensSites}
 use Rattle.qs_world_nodes.specs.Openings.{NodesHaveOpening, SitOnce, opening_over}
 use Rattle.qs_world_plans.specs.Plan.{setting_of}
 use Rattle.qs_world_rooms.specs.Rooms.{disk_size, sizes_of}
@@ -29,7 +26,7 @@ use Rattle.qs_world_rounds.specs.Seats.{BeginsAt}
 use Rattle.qs_world_rounds.specs.declared.faults.RoundFault.{RoundFault}
 use Rattle.qs_world_rounds.specs.declared.rounds.Ending.{Ending}
 use Rattle.qs_world_seats.specs.Sites.{OpensSite}
-use Rattle.qs_world_serial.specs.Serial.{EachBeside, HasRun, LeavesDisk}
+use Rattle.qs_world_serial.specs.Serial.{HasRun}
 use Rattle.qs_world_serial.specs.declared.serial.SiteTold.{SiteTold}
 
 -- ---- lists

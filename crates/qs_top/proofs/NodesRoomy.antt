@@ -9,7 +9,7 @@ use Rattle.qs_disk.specs.Disk.{DiskState}
 use Rattle.qs_text.specs.declared.given.Shown.{Shown}
 use Rattle.qs_top.specs.Inner.CameTo.{CameTo, HasRunSo}
 use Rattle.qs_top.specs.Inner.OverNodes.{IsOverNodes}
-use Rattle.qs_top.specs.Untold.{StayRoomyOf}
+use Rattle.qs_top.specs.Untold.{StayRoomy}
 use Rattle.qs_top.specs.declared.whole.RunMade.{RunMade}
 use Rattle.qs_top.proofs.Coherent.{touched_roomy}
 use Rattle.qs_top.proofs.NodesCame.{came_to}
@@ -63,7 +63,7 @@ module _ {D : Type 0} (told : Type 0) (state : D → DiskState) (own size : D �
         (subst (AreRoomyDisks (sizes_of size ran.last.sites)) (sym (left_states told state own size script seed ending tells disks afters ran)) leave.disks)
 
   -- the nodes ran
-  ran_roomy : (ending : Result Ending RoundFault) (tells : Result (List SiteTold) NoMemory) → Ran ending tells → StayRoomyOf told state size disks afters
+  ran_roomy : (ending : Result Ending RoundFault) (tells : Result (List SiteTold) NoMemory) → Ran ending tells → StayRoomy told state size disks afters
   ran_roomy (Ok ending) tells ran t coherent roomy = left (Ok ending) tells ran t coherent roomy
       (rooms.ends ran.alloc script disks seed ran.first ran.last ending t (begins (Ok ending) tells ran t coherent roomy) ran.ends)
   ran_roomy (Err (faults.DiskFault node)) tells ran t coherent roomy = left (Err (faults.DiskFault node)) tells ran t coherent roomy
@@ -73,7 +73,7 @@ module _ {D : Type 0} (told : Type 0) (state : D → DiskState) (own size : D �
   ran_roomy (Err faults.Damaged) tells ran t coherent roomy = absurd (ran.undamaged t fits.few refl)
 
   -- disks were raised at most
-  touched_stay : EachBeside (λ n. IsTouchedDisk told state size) disks afters → StayRoomyOf told state size disks afters
+  touched_stay : EachBeside (λ n. IsTouchedDisk told state size) disks afters → StayRoomy told state size disks afters
   touched_stay each t coherent roomy n bytes b bytes_is b_is = by (map_has size afters n bytes bytes_is) (map_has state afters n b b_is)
     where
       by : (x : D) × ((slice_get afters n ≡ Some x) × (size x ≡ bytes)) → (y : D) × ((slice_get afters n ≡ Some y) × (state y ≡ b)) → IsRoomyDisk bytes b
@@ -92,22 +92,22 @@ module _ {D : Type 0} (told : Type 0) (state : D → DiskState) (own size : D �
 
 module _ {D : Type 0} (told : Type 0) (state : D → DiskState) (own size : D → ℕ) (seed nodes : ℕ) (script : Script) (shown : Shown) (made : RunMade) (disks afters : List D) (over : IsOverNodes told state own size seed script shown made disks afters)
     (count : length disks ≡ nodes) (once : SitOnce script.seats) (fits : Fits nodes script) (laws : NodesLaws told state own size) (rooms : RoomLaws told state own size) where
-  pub nodes_roomy : StayRoomyOf told state size disks afters
+  pub nodes_roomy : StayRoomy told state size disks afters
   nodes_roomy = by (came_to told state own size seed script shown made disks afters over)
     where
-      ran_so : (ending : Result Ending RoundFault) (tells : Result (List SiteTold) NoMemory) → HasRun told state own size script seed ending tells disks afters → StayRoomyOf told state size disks afters
+      ran_so : (ending : Result Ending RoundFault) (tells : Result (List SiteTold) NoMemory) → HasRun told state own size script seed ending tells disks afters → StayRoomy told state size disks afters
       ran_so ending tells ran = ran_roomy told state own size script seed nodes disks afters count once fits over.read laws rooms ending tells ran
 
-      touched_so : EachBeside (λ n. IsTouchedDisk told state size) disks afters → StayRoomyOf told state size disks afters
+      touched_so : EachBeside (λ n. IsTouchedDisk told state size) disks afters → StayRoomy told state size disks afters
       touched_so touched = touched_stay told state own size script seed nodes disks afters count once fits over.read laws rooms touched
 
-      by : CameTo told state own size seed script shown made disks afters → StayRoomyOf told state size disks afters
+      by : CameTo told state own size seed script shown made disks afters → StayRoomy told state size disks afters
       by (inl c) = ran_so (Ok c.ending) (Ok c.tells) c.ran
       by (inr (inl c)) = ran_so (Err (faults.DiskFault c.node)) (Ok c.tells) c.ran
       by (inr (inr (inl c))) = ran_so c.ending (Ok c.tells) c.ran
       by (inr (inr (inr (inl c)))) = touched_so (each_of (λ n. IsTouchedUpTo told state size c.node.0 n) (λ n. IsTouchedDisk told state size) disks afters (λ n a b t. t.touched) c.not.each)
       by (inr (inr (inr (inr c)))) = left_so c.left
         where
-          left_so : EachBeside (λ n. IsTouchedDisk told state size) disks afters ⊎ HasRunSo told state own size seed script disks afters → StayRoomyOf told state size disks afters
+          left_so : EachBeside (λ n. IsTouchedDisk told state size) disks afters ⊎ HasRunSo told state own size seed script disks afters → StayRoomy told state size disks afters
           left_so (inl touched) = touched_so touched
           left_so (inr ran) = ran_so ran.ending ran.tells ran.ran

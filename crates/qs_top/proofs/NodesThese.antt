@@ -1,5 +1,5 @@
 -- A run of many nodes, by the disks of which it is and the text that was read.
-use Rattle.std.proofs.Common.{◌≡◌, ◌⊎◌, ◌∙◌, inl, inr, ℕ, ◌^◌, ◌≤◌, Bool, List, length, Option, Ok, refl, subst, sym, arith}
+use Rattle.std.proofs.Common.{◌≡◌, ◌⊎◌, ◌∙◌, inl, inr, ℕ, ◌^◌, ◌≤◌, List, length, Option, Ok, refl, subst, sym, arith}
 use Rattle.std.proofs.lemmas.List.{length-take-le, take-append-drop}
 use Rattle.std.specs.Io.KnownBytes.{Appends}
 use Rattle.std.specs.Prelude.{drop, take}
@@ -17,11 +17,10 @@ use Rattle.qs_top.specs.Disks.{AtNode, IsOnlyTouched, OfThese}
 use Rattle.qs_top.specs.Inner.CameTo.{CameTo}
 use Rattle.qs_top.specs.Inner.Giving.{IsGiven, IsNoScript}
 use Rattle.qs_top.specs.Inner.OverNodes.{IsOverNodes}
-use Rattle.qs_top.specs.Nodes.{HasLawfulOf, IsNotBegunOf, IsRefusedOf, IsShortOf, IsWholeOf, LeaveAll, LeavesOf}
-use Rattle.qs_top.specs.Run.{IsNothing}
+use Rattle.qs_top.specs.Run.{HasLawful, IsNotBegun, IsNothing, IsRefused, IsShort, IsWhole, LeaveAll, Leaves}
 use Rattle.qs_top.specs.Statuses.{Gives, IfNot, IsEnd, IsOfRounds, IsOfRun, Tells}
-use Rattle.qs_top.specs.Texts.{HasText, OfScriptOf}
-use Rattle.qs_top.specs.Untold.{AreOnlyTouched, RanOutOfMemoryOf, StayCoherentOf, StayRoomyOf}
+use Rattle.qs_top.specs.Texts.{HasText, OfScript}
+use Rattle.qs_top.specs.Untold.{AreOnlyTouched, RanOutOfMemory, StayCoherent, StayRoomy}
 use Rattle.qs_top.specs.declared.outcome.Run.{Run}
 use Rattle.qs_top.specs.declared.whole.RunMade.{RunMade}
 use Rattle.qs_top.proofs.Given.{built_given, empty_given, fault_given, silent_given, status_made, touched_alone}
@@ -49,7 +48,7 @@ module _ {D K : Type 0} (told : Type 0) (state : D → DiskState) (own size : D 
   built : IsOfRounds made.status
   built = came_built told state own size seed script shown made over.disks over.afters came
 
-  pub these_lawful : HasLawfulOf told state nodes run.journal old new
+  pub these_lawful : HasLawful told state nodes run.journal old new
   these_lawful = nodes_lawful told state own size seed nodes script shown faults_of given before after made run over.disks over.afters over.holds gave old new over.rest over.old_is over.new_is over.count over.count_after
 
   pub these_fault : (node : NodeNo) → run.status ≡ statuses.DiskFault node → AtNode nodes node (λ disk end. Rose (own disk) (own end)) old new
@@ -83,44 +82,44 @@ module _ {D K : Type 0} (told : Type 0) (state : D → DiskState) (own size : D 
   pub these_leave : OfThese nodes (LeaveAll told state nodes run.status) old new
   these_leave = with_holds (nodes_leave told state own size seed nodes script shown faults_of given before after made run over.disks over.afters over.holds gave over.count)
 
-  module _ {l m : Option (List ℕ)} (read : HasText shown l m (λ text. script_of nodes text ≡ Ok script)) (once : SitOnce script.seats) (fits : Fits nodes script) (laws : NodesLaws told state own size) where
-    pub these_ended : IsEnd run.status → HasText shown l m (OfScriptOf nodes (λ script. OfThese nodes (IsWholeOf told state own size seed nodes script shown (λ status. run.status ≡ status) (Appends (given before) (given after)) run.journal run.trace) old new))
-    these_ended e = text_of_script shown nodes script (λ script. OfThese nodes (IsWholeOf told state own size seed nodes script shown (λ status. run.status ≡ status) (Appends (given before) (given after)) run.journal run.trace) old new) read
+  module _ (l m : Option (List ℕ)) (read : HasText shown l m (λ text. script_of nodes text ≡ Ok script)) (once : SitOnce script.seats) (fits : Fits nodes script) (laws : NodesLaws told state own size) where
+    pub these_ended : IsEnd run.status → HasText shown l m (OfScript nodes (λ script. OfThese nodes (IsWhole told state own size seed nodes script shown (λ status. run.status ≡ status) (Appends (given before) (given after)) run.journal run.trace) old new))
+    these_ended e = text_of_script l m shown nodes script (λ script. OfThese nodes (IsWhole told state own size seed nodes script shown (λ status. run.status ≡ status) (Appends (given before) (given after)) run.journal run.trace) old new) read
         (with_holds (nodes_ended told state own size seed nodes script shown faults_of given before after made run over.disks over.afters over.holds gave over.count once fits laws e))
 
-    pub these_cut_off : run.status ≡ statuses.WriteFault → HasText shown l m (OfScriptOf nodes (λ script. OfThese nodes (IsWholeOf told state own size seed nodes script shown IsEnd (GivesPart (given before) (given after)) run.journal run.trace) old new))
-    these_cut_off fault = text_of_script shown nodes script (λ script. OfThese nodes (IsWholeOf told state own size seed nodes script shown IsEnd (GivesPart (given before) (given after)) run.journal run.trace) old new) read
+    pub these_cut_off : run.status ≡ statuses.WriteFault → HasText shown l m (OfScript nodes (λ script. OfThese nodes (IsWhole told state own size seed nodes script shown IsEnd (GivesPart (given before) (given after)) run.journal run.trace) old new))
+    these_cut_off fault = text_of_script l m shown nodes script (λ script. OfThese nodes (IsWhole told state own size seed nodes script shown IsEnd (GivesPart (given before) (given after)) run.journal run.trace) old new) read
         (with_holds (nodes_cut_off told state own size seed nodes script shown faults_of given before after made run over.disks over.afters over.holds gave over.count once fits laws fault))
 
     pub these_short : (node : NodeNo) → run.status ≡ statuses.DiskFault node
-        → HasText shown l m (OfScriptOf nodes (λ script. OfThese nodes (λ disks afters. IsNotBegunOf told state own size node run.journal run.trace disks afters ⊎ IsShortOf told state own size seed nodes script node run.journal run.trace disks afters) old new))
-    these_short node is = text_of_script shown nodes script (λ script. OfThese nodes (λ disks afters. IsNotBegunOf told state own size node run.journal run.trace disks afters ⊎ IsShortOf told state own size seed nodes script node run.journal run.trace disks afters) old new) read
+        → HasText shown l m (OfScript nodes (λ script. OfThese nodes (λ disks afters. IsNotBegun told state own size node run.journal run.trace disks afters ⊎ IsShort told state own size seed nodes script node run.journal run.trace disks afters) old new))
+    these_short node is = text_of_script l m shown nodes script (λ script. OfThese nodes (λ disks afters. IsNotBegun told state own size node run.journal run.trace disks afters ⊎ IsShort told state own size seed nodes script node run.journal run.trace disks afters) old new) read
         (with_holds (nodes_short told state own size seed nodes script shown faults_of given before after made run over.disks over.afters over.holds gave over.count once fits laws node is))
 
     pub these_refused : (line clause : ℕ) → run.status ≡ statuses.Unlawful line clause
-        → HasText shown l m (OfScriptOf nodes (λ script. OfThese nodes (IsRefusedOf told state own size seed nodes script line clause) old new))
-    these_refused line clause is = text_of_script shown nodes script (λ script. OfThese nodes (IsRefusedOf told state own size seed nodes script line clause) old new) read
+        → HasText shown l m (OfScript nodes (λ script. OfThese nodes (IsRefused told state own size seed nodes script line clause) old new))
+    these_refused line clause is = text_of_script l m shown nodes script (λ script. OfThese nodes (IsRefused told state own size seed nodes script line clause) old new) read
         (with_holds (nodes_refused told state own size seed nodes script shown faults_of given before after made run over.disks over.afters over.holds gave over.count once fits laws line clause is))
 
     module _ (u : UntoldLaws told state own size) where
-      pub these_out : run.status ≡ statuses.NoMemory → OfThese nodes (AreOnlyTouched told state) old new ⊎ HasText shown l m (OfScriptOf nodes (λ script. OfThese nodes (RanOutOfMemoryOf told state own size seed script) old new))
+      pub these_out : run.status ≡ statuses.NoMemory → OfThese nodes (AreOnlyTouched told state) old new ⊎ HasText shown l m (OfScript nodes (λ script. OfThese nodes (RanOutOfMemory told state own size seed script) old new))
       these_out is = by (nodes_out told state own size seed nodes script shown faults_of given before after made run over.disks over.afters over.holds gave over.count once fits u is)
         where
-          by : AreOnlyTouched told state over.disks over.afters ⊎ RanOutOfMemoryOf told state own size seed script over.disks over.afters
-              → OfThese nodes (AreOnlyTouched told state) old new ⊎ HasText shown l m (OfScriptOf nodes (λ script. OfThese nodes (RanOutOfMemoryOf told state own size seed script) old new))
+          by : AreOnlyTouched told state over.disks over.afters ⊎ RanOutOfMemory told state own size seed script over.disks over.afters
+              → OfThese nodes (AreOnlyTouched told state) old new ⊎ HasText shown l m (OfScript nodes (λ script. OfThese nodes (RanOutOfMemory told state own size seed script) old new))
           by (inl touched) = inl (with_holds touched)
-          by (inr ran) = inr (text_of_script shown nodes script (λ script. OfThese nodes (RanOutOfMemoryOf told state own size seed script) old new) read (with_holds ran))
+          by (inr ran) = inr (text_of_script l m shown nodes script (λ script. OfThese nodes (RanOutOfMemory told state own size seed script) old new) read (with_holds ran))
 
-      pub these_coherent : OfThese nodes (StayCoherentOf told state) old new
+      pub these_coherent : OfThese nodes (StayCoherent told state) old new
       these_coherent = with_holds (nodes_coherent told state own size seed nodes script shown faults_of given before after made run over.disks over.afters over.holds gave over.count once fits u)
 
   module _ (once : SitOnce script.seats) (fits : Fits nodes script) (laws : NodesLaws told state own size) (rooms : RoomLaws told state own size) where
-    pub these_roomy : OfThese nodes (StayRoomyOf told state size) old new
+    pub these_roomy : OfThese nodes (StayRoomy told state size) old new
     these_roomy = with_holds (nodes_roomy told state own size seed nodes script shown made over.disks over.afters over.holds over.count once fits laws rooms)
 
 -- ---- a run without a script
 
-alone_leaves : {D : Type 0} (told : Type 0) (state : D → DiskState) (nodes : ℕ) (status : Status) → IsNoScript status → (n : ℕ) (d : D) → LeavesOf told state nodes status n d d
+alone_leaves : {D : Type 0} (told : Type 0) (state : D → DiskState) (nodes : ℕ) (status : Status) → IsNoScript status → (n : ℕ) (d : D) → Leaves told state nodes status n d d
 alone_leaves told state nodes (statuses.Script line fault) none n d = refl
 alone_leaves told state nodes statuses.ReadFault none n d = refl
 alone_leaves told state nodes statuses.NoMemory none n d = inl (λ yes. touched_alone (state d))
@@ -153,14 +152,14 @@ each_alone P disks alone = record { count = refl; each = λ n a b is other. subs
 
 pub none_leave : {D : Type 0} (told : Type 0) (state : D → DiskState) (nodes : ℕ) (status : Status) (disks : List D) → IsNoScript status → nodes ≤ 8 → 8 ≤ length disks → OfThese nodes (LeaveAll told state nodes status) disks disks
 none_leave told state nodes status disks none few some =
-    none_these nodes (LeaveAll told state nodes status) disks few some (each_alone (LeavesOf told state nodes status) (take nodes disks) (λ n d. alone_leaves told state nodes status none n d))
+    none_these nodes (LeaveAll told state nodes status) disks few some (each_alone (Leaves told state nodes status) (take nodes disks) (λ n d. alone_leaves told state nodes status none n d))
 
 pub none_touched : {D : Type 0} (told : Type 0) (state : D → DiskState) (nodes : ℕ) (disks : List D) → nodes ≤ 8 → 8 ≤ length disks → OfThese nodes (AreOnlyTouched told state) disks disks
 none_touched told state nodes disks few some =
     none_these nodes (AreOnlyTouched told state) disks few some (each_alone (λ n disk end. IsOnlyTouched told state disk end) (take nodes disks) (λ n d yes. touched_alone (state d)))
 
-pub none_coherent : {D : Type 0} (told : Type 0) (state : D → DiskState) (nodes : ℕ) (disks : List D) → nodes ≤ 8 → 8 ≤ length disks → OfThese nodes (StayCoherentOf told state) disks disks
-none_coherent told state nodes disks few some = none_these nodes (StayCoherentOf told state) disks few some (λ t coherent. coherent)
+pub none_coherent : {D : Type 0} (told : Type 0) (state : D → DiskState) (nodes : ℕ) (disks : List D) → nodes ≤ 8 → 8 ≤ length disks → OfThese nodes (StayCoherent told state) disks disks
+none_coherent told state nodes disks few some = none_these nodes (StayCoherent told state) disks few some (λ t coherent. coherent)
 
-pub none_roomy : {D : Type 0} (told : Type 0) (state : D → DiskState) (size : D → ℕ) (nodes : ℕ) (disks : List D) → nodes ≤ 8 → 8 ≤ length disks → OfThese nodes (StayRoomyOf told state size) disks disks
-none_roomy told state size nodes disks few some = none_these nodes (StayRoomyOf told state size) disks few some (λ t coherent roomy. roomy)
+pub none_roomy : {D : Type 0} (told : Type 0) (state : D → DiskState) (size : D → ℕ) (nodes : ℕ) (disks : List D) → nodes ≤ 8 → 8 ≤ length disks → OfThese nodes (StayRoomy told state size) disks disks
+none_roomy told state size nodes disks few some = none_these nodes (StayRoomy told state size) disks few some (λ t coherent roomy. roomy)

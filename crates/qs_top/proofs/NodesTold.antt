@@ -1,11 +1,8 @@
 -- What all nodes tell, as lists by the numbers of the nodes: what their logs held, and that it is of a run of the world.
-use Rattle.std.proofs.Common.{◌≡◌, ◌∙◌, ap, refl, subst, sym, ℕ, zero, suc, ◌+◌, ◌<◌, ◌≤◌, Bool, true, false, List, [], ◌∷◌, ◌++◌, length, map, Option, Some, None, Result, Ok, Err, get_or, nat_lt, slice_get, arith}
+use Rattle.std.proofs.Common.{◌≡◌, ◌∙◌, ap, refl, subst, sym, ℕ, zero, suc, ◌+◌, ◌<◌, ◌≤◌, Bool, true, false, List, [], ◌∷◌, ◌++◌, length, map, Some, None, Result, Ok, get_or, nat_lt, slice_get, arith}
 use Rattle.std.proofs.lemmas.Bool.Decides.{nat_tests}
 use Rattle.std.proofs.lemmas.List.{ext_get_or, length-append}
-use Rattle.std.proofs.lemmas.Option.{get_or_from_slice_get}
-use Rattle.std.specs.Global.{Global}
 use Rattle.std.specs.List.Sorted.{IsStableBy}
-use Rattle.qs_base.specs.declared.identifiers.NodeNo.{NodeNo}
 use Rattle.qs_book_journal.specs.Merge.{IsMerged}
 use Rattle.qs_book_journal.specs.declared.entry.Entry.{Entry}
 use Rattle.qs_book_machine.specs.declared.opened.Opened.{Opened}
@@ -13,10 +10,9 @@ use Rattle.qs_book_script.specs.declared.script.Script.{Script}
 use Rattle.qs_disk.specs.Disk.{DiskState}
 use Rattle.qs_node_step.specs.declared.trace.Step.{Step}
 use Rattle.qs_top.specs.Disks.{IsHeldBy}
-use Rattle.qs_top.specs.Nodes.{AreHeldBy, AreMerged, journal_in, opened_in, trace_in}
+use Rattle.qs_top.specs.Run.{AreHeldBy, journal_in, opened_in, trace_in}
 use Rattle.qs_top.proofs.Held.{held_at}
 use Rattle.qs_world.specs.Moves.{node_no}
-use Rattle.qs_world.specs.World.{Opening}
 use Rattle.qs_world_merge.specs.MergedByKey.{IsMergedBy, flat_of, key_lt}
 use Rattle.qs_world_merge.specs.Observed.{Observed, journals_of}
 use Rattle.qs_world_merge.specs.StepMoves.{step_key}

@@ -1,5 +1,5 @@
 -- What a run of many nodes leaves where memory was refused, and that it leaves its disks coherent again.
-use Rattle.std.proofs.Common.{◌≡◌, ◌⊎◌, ◌∙◌, inl, inr, refl, subst, sym, ℕ, Bool, List, length, map, Option, Some, Result, Ok, Err, slice_get}
+use Rattle.std.proofs.Common.{◌≡◌, ◌⊎◌, ◌∙◌, inl, inr, refl, subst, sym, ℕ, List, length, map, Option, Some, Result, Ok, Err, slice_get}
 use Rattle.std.specs.Global.{Global}
 use Rattle.qs_base.specs.declared.memory.NoMemory.{NoMemory}
 use Rattle.qs_book_journal.specs.declared.entry.Entry.{Entry}
@@ -14,7 +14,7 @@ use Rattle.qs_top.specs.Inner.CameTo.{CameTo, HasRunSo}
 use Rattle.qs_top.specs.Inner.Giving.{IsGiven}
 use Rattle.qs_top.specs.Inner.OverNodes.{IsOverNodes}
 use Rattle.qs_top.specs.Statuses.{IsEnd}
-use Rattle.qs_top.specs.Untold.{AreLastingUntold, AreOnlyTouched, RanOutOfMemoryOf, StayCoherentOf}
+use Rattle.qs_top.specs.Untold.{AreLastingUntold, AreOnlyTouched, RanOutOfMemory, StayCoherent}
 use Rattle.qs_top.specs.declared.outcome.Run.{Run}
 use Rattle.qs_top.specs.declared.whole.RunMade.{RunMade}
 use Rattle.qs_top.proofs.Given.{status_made}
@@ -27,7 +27,7 @@ use Rattle.qs_top.proofs.StatusLemmas.{status_ends}
 use Rattle.qs_world.specs.Histories.{book_of}
 use Rattle.qs_world_left.specs.Disks.{AreCoherentDisks, LeaveCoherent, disks_of}
 use Rattle.qs_world_left.specs.Left.{AreReadAsLeft, RefusedFollows}
-use Rattle.qs_world_left.specs.Standing.{DisksStandFor, HaveOthersStampsLeft, IsTold, RefusedLeavesStanding, StandFor, up_at}
+use Rattle.qs_world_left.specs.Standing.{DisksStandFor, HaveOthersStampsLeft, IsTold, RefusedLeavesStanding, StandFor, StandsAlone, up_at}
 use Rattle.qs_world_left.specs.Touched.{TouchedStayCoherent, WasTouched}
 use Rattle.qs_world_merge.specs.MergedByKey.{IsMergedBy}
 use Rattle.qs_world_merge.specs.StepMoves.{step_key}
@@ -98,14 +98,15 @@ module _ {D : Type 0} (told : Type 0) (state : D → DiskState) (own size : D �
     pub again : told → AreCoherentDisks (map state disks) → AreCoherentDisks (map state afters)
     again t coherent = subst AreCoherentDisks (sym left) (leaves ending tells ran t coherent)
 
-    pub untold : RanOutOfMemoryOf told state own size seed script disks afters
+    pub untold : RanOutOfMemory told state own size seed script disks afters
     untold = record { ending = ending; tells = tells; ran = ran; lasts = lasts }
       where
         lasts : told → AreCoherentDisks (map state disks) → AreLastingUntold state (opening_over ran.alloc script disks ran.first.sites) (length disks) ran.last.sites afters
         lasts t coherent = record {
           coherent = again t coherent;
           lawful = is_lawful ending tells ran t coherent;
-          stands = λ journal entries. subst (DisksStandFor (book_after (book_of (opening_over ran.alloc script disks ran.first.sites)) journal) (up_at ran.last.sites) (HaveOthersStampsLeft ran.last.sites)) (sym left) (stands ending tells ran t coherent journal entries);
+          stands = λ journal entries. subst (DisksStandFor (book_after (book_of (opening_over ran.alloc script disks ran.first.sites)) journal) (up_at ran.last.sites) (HaveOthersStampsLeft ran.last.sites)) (sym left) (stands ending tells ran t coherent journal entries).each;
+          alone = λ journal entries. subst (StandsAlone (book_after (book_of (opening_over ran.alloc script disks ran.first.sites)) journal) (up_at ran.last.sites 0)) (sym left) (stands ending tells ran t coherent journal entries).alone;
         }
 
   -- ---- disks that were raised at most
@@ -134,27 +135,27 @@ module _ {D K : Type 0} (told : Type 0) (state : D → DiskState) (own size : D 
   abbrev Touched : Type 0
   Touched = AreOnlyTouched told state disks afters
 
-  of_run : (ending : Result Ending RoundFault) (tells : Result (List SiteTold) NoMemory) → HasRun told state own size script seed ending tells disks afters → RanOutOfMemoryOf told state own size seed script disks afters
+  of_run : (ending : Result Ending RoundFault) (tells : Result (List SiteTold) NoMemory) → HasRun told state own size script seed ending tells disks afters → RanOutOfMemory told state own size seed script disks afters
   of_run ending tells ran = untold told state own size script seed nodes disks afters count once fits over.read u ending tells ran
 
-  pub nodes_out : run.status ≡ statuses.NoMemory → Touched ⊎ RanOutOfMemoryOf told state own size seed script disks afters
+  pub nodes_out : run.status ≡ statuses.NoMemory → Touched ⊎ RanOutOfMemory told state own size seed script disks afters
   nodes_out is = by came
     where
       made_is : made.status ≡ statuses.NoMemory
       made_is = status_made faults_of given before after made run gave statuses.NoMemory is (λ same. absurd (cc same))
 
-      by : CameTo told state own size seed script shown made disks afters → Touched ⊎ RanOutOfMemoryOf told state own size seed script disks afters
+      by : CameTo told state own size seed script shown made disks afters → Touched ⊎ RanOutOfMemory told state own size seed script disks afters
       by (inl c) = absurd (subst IsEnd made_is (subst IsEnd (sym c.passed.status) (status_ends c.ending.rounds c.ending.settled (waiting_of script c.journal))))
       by (inr (inl c)) = absurd (cc (sym made_is ∙ c.passed.status))
       by (inr (inr (inl c))) = inr (of_run c.ending (Ok c.tells) c.ran)
       by (inr (inr (inr (inl c)))) = inl (each_of (λ n. IsTouchedUpTo told state size c.node.0 n) (λ n disk end. IsOnlyTouched told state disk end) disks afters (λ n a b t. t.touched.moments) c.not.each)
       by (inr (inr (inr (inr c)))) = left c.left
         where
-          left : EachBeside (λ n. IsTouchedDisk told state size) disks afters ⊎ HasRunSo told state own size seed script disks afters → Touched ⊎ RanOutOfMemoryOf told state own size seed script disks afters
+          left : EachBeside (λ n. IsTouchedDisk told state size) disks afters ⊎ HasRunSo told state own size seed script disks afters → Touched ⊎ RanOutOfMemory told state own size seed script disks afters
           left (inl touched) = inl (each_of (λ n. IsTouchedDisk told state size) (λ n disk end. IsOnlyTouched told state disk end) disks afters (λ n a b t. t.moments) touched)
           left (inr ran) = inr (of_run ran.ending ran.tells ran.ran)
 
-  pub nodes_coherent : StayCoherentOf told state disks afters
+  pub nodes_coherent : StayCoherent told state disks afters
   nodes_coherent t coherent = by came
     where
       ran_so : (ending : Result Ending RoundFault) (tells : Result (List SiteTold) NoMemory) → HasRun told state own size script seed ending tells disks afters → AreCoherentDisks (map state afters)

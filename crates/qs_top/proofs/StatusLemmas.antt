@@ -1,15 +1,12 @@
--- What a status says of how a run ended, of the log that it leaves, and of what it tells.
+-- What a status says of how a run ended, and of what it tells.
 use Rattle.std.proofs.Common.{◌≡◌, ◌⊎◌, inl, inr, ℕ, Bool, List, [], ◌∷◌, true, false, ap}
 use Rattle.std.specs.Prelude.{⊤}
 use Rattle.qs_base.specs.declared.identifiers.NodeNo.{NodeNo}
-use Rattle.qs_disk.specs.Disk.{DiskState}
-use Rattle.qs_world_rounds.specs.Seats.{first_node}
 use Rattle.qs_book_script.specs.declared.status.Status.{Status}
 use Rattle.qs_book_script.specs.declared.status.Status.TheVariants as statuses
 use Rattle.qs_book_script.specs.declared.status.Waiting.{Waiting}
 use Rattle.qs_top.specs.Ends.{status_of}
 use Rattle.qs_top.specs.Verdicts.{IsRefusal}
-use Rattle.qs_top.specs.Disks.{IsLogged, IsUntold, Leaves}
 use Rattle.qs_top.specs.Statuses.{Gives, IsEnd, IsOfRounds, IsOfRun, Tells}
 
 -- a run came to its end or it did not
@@ -27,53 +24,6 @@ end_or (statuses.NoRoom node need room) = inr (λ e. e)
 end_or (statuses.Unlawful line clause) = inr (λ e. e)
 end_or (statuses.Journal line) = inr (λ e. e)
 end_or (statuses.LastGeneration node) = inr (λ e. e)
-
--- it leaves a log, as the judge's refusal does
-module _ {D : Type 0} (told : Type 0) (state : D → DiskState) (disk after : D) where
-  pub end_leaves : (status : Status) → IsEnd status → IsLogged told state disk after → Leaves told state status disk after
-  end_leaves statuses.Finished e logged = logged
-  end_leaves (statuses.Unfinished rounds waiting) e logged = logged
-  end_leaves statuses.Usage e logged = absurd e
-  end_leaves (statuses.Script line fault) e logged = absurd e
-  end_leaves statuses.ReadFault e logged = absurd e
-  end_leaves statuses.WriteFault e logged = absurd e
-  end_leaves (statuses.DiskFault node) e logged = absurd e
-  end_leaves (statuses.Damaged node at) e logged = absurd e
-  end_leaves statuses.NoMemory e logged = absurd e
-  end_leaves (statuses.NoRoom node need room) e logged = absurd e
-  end_leaves (statuses.Unlawful line clause) e logged = absurd e
-  end_leaves (statuses.Journal line) e logged = absurd e
-  end_leaves (statuses.LastGeneration node) e logged = absurd e
-
-  pub end_logged : (status : Status) → IsEnd status → Leaves told state status disk after → IsLogged told state disk after
-  end_logged statuses.Finished e leaves = leaves
-  end_logged (statuses.Unfinished rounds waiting) e leaves = leaves
-  end_logged statuses.Usage e leaves = absurd e
-  end_logged (statuses.Script line fault) e leaves = absurd e
-  end_logged statuses.ReadFault e leaves = absurd e
-  end_logged statuses.WriteFault e leaves = absurd e
-  end_logged (statuses.DiskFault node) e leaves = absurd e
-  end_logged (statuses.Damaged node at) e leaves = absurd e
-  end_logged statuses.NoMemory e leaves = absurd e
-  end_logged (statuses.NoRoom node need room) e leaves = absurd e
-  end_logged (statuses.Unlawful line clause) e leaves = absurd e
-  end_logged (statuses.Journal line) e leaves = absurd e
-  end_logged (statuses.LastGeneration node) e leaves = absurd e
-
-  pub refusal_leaves : (status : Status) → IsRefusal status → IsUntold told state disk after → Leaves told state status disk after
-  refusal_leaves (statuses.Unlawful line clause) r left = left.logged
-  refusal_leaves statuses.NoMemory r left = inr left
-  refusal_leaves statuses.Finished r logged = absurd r
-  refusal_leaves (statuses.Unfinished rounds waiting) r logged = absurd r
-  refusal_leaves statuses.Usage r logged = absurd r
-  refusal_leaves (statuses.Script line fault) r logged = absurd r
-  refusal_leaves statuses.ReadFault r logged = absurd r
-  refusal_leaves statuses.WriteFault r logged = absurd r
-  refusal_leaves (statuses.DiskFault node) r logged = absurd r
-  refusal_leaves (statuses.Damaged node at) r logged = absurd r
-  refusal_leaves (statuses.NoRoom node need room) r logged = absurd r
-  refusal_leaves (statuses.Journal line) r logged = absurd r
-  refusal_leaves (statuses.LastGeneration node) r logged = absurd r
 
 -- what the judge refuses has the status of a run, and tells nothing
 pub refusal_built : (status : Status) → IsRefusal status → IsOfRounds status
@@ -139,7 +89,7 @@ IsFaultStatus _ = ⊥
 
 abbrev fault_node : Status → NodeNo
 fault_node (statuses.DiskFault node) = node
-fault_node _ = first_node
+fault_node _ = record { 0 = 0 }
 
 pub same_node : {m n : NodeNo} → statuses.DiskFault m ≡ statuses.DiskFault n → m ≡ n
 same_node is = ap fault_node is

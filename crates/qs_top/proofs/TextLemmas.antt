@@ -5,11 +5,11 @@ use Rattle.qs_gen.specs.Load.{load_script}
 use Rattle.qs_text.specs.declared.given.Shown.{Shown}
 use Rattle.qs_text.specs.declared.given.Shown.TheVariants as shows
 use Rattle.qs_text_script.specs.Script.{script_of}
-use Rattle.qs_top.specs.Texts.{HasText, OfScriptOf, ReadWhole}
+use Rattle.qs_top.specs.Texts.{HasText, OfScript, ReadWhole}
 use Rattle.qs_world_nodes.specs.Openings.{ReadSitOnce, SitOnce}
 use Rattle.qs_world_opening.specs.Scripts.{Fits, ScriptFits}
 
-module _ {l m : Option (List ℕ)} where
+module _ (l m : Option (List ℕ)) where
   map_read : (P Q : List ℕ → Type 0) → ((text : List ℕ) → P text → Q text) → ReadWhole 1048576 l m P → ReadWhole 1048576 l m Q
   map_read P Q more read = record { text = read.text; consumed = read.consumed; whole = read.whole; holds = more read.text read.holds }
 
@@ -24,8 +24,8 @@ module _ {l m : Option (List ℕ)} where
   from_text shows.Journal P more has = more has.text has.holds
   from_text (shows.Load seed) P more has = more (load_script seed) has.1
 
-  pub text_of_script : (shown : Shown) (nodes : ℕ) (script : Script) (P : Script → Type 0) → HasText shown l m (λ text. script_of nodes text ≡ Ok script) → P script → HasText shown l m (OfScriptOf nodes P)
-  text_of_script shown nodes script P has holds = map_text shown (λ text. script_of nodes text ≡ Ok script) (OfScriptOf nodes P) (λ text read. record { script = script; read = read; holds = holds }) has
+  pub text_of_script : (shown : Shown) (nodes : ℕ) (script : Script) (P : Script → Type 0) → HasText shown l m (λ text. script_of nodes text ≡ Ok script) → P script → HasText shown l m (OfScript nodes P)
+  text_of_script shown nodes script P has holds = map_text shown (λ text. script_of nodes text ≡ Ok script) (OfScript nodes P) (λ text read. record { script = script; read = read; holds = holds }) has
 
   -- a script that was read fits, and no client of it sits at two nodes
   pub text_fits : (shown : Shown) (nodes : ℕ) (script : Script) → 1 ≤ nodes → nodes ≤ 16 → ((nodes : ℕ) (text : List ℕ) (read : Script) → ScriptFits nodes text read) → HasText shown l m (λ text. script_of nodes text ≡ Ok script) → Fits nodes script

@@ -4,9 +4,7 @@
 pub mod Giving
 -- How what a run made is judged.
 pub mod Making
--- What a run over one disk comes to.
-pub mod Over
--- What a run over the disks of many nodes comes to.
+-- What a run over disks comes to.
 pub mod OverNodes
 -- The ends of such a run.
 pub mod CameTo

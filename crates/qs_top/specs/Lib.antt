@@ -6,8 +6,6 @@ pub mod Disks
 pub mod Inner
 -- What the top call promises of a run.
 pub mod Run
--- What it promises of a run of many nodes.
-pub mod Nodes
 -- Statuses by how far a run came.
 pub mod Statuses
 -- The text that was read.
@@ -18,5 +16,5 @@ pub mod Verdict
 pub mod Ends
 -- How a run judges its own journal.
 pub mod Verdicts
--- What stands of a run of many nodes of which nothing is told.
+-- What stands of a run of which nothing is told.
 pub mod Untold

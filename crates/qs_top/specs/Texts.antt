@@ -1,11 +1,10 @@
 -- The text that was read or made, and the script that it is.
-use Rattle.std.specs.Prelude.{◌≡◌, ◌×◌, ℕ, List, Option, Ok}
+use Rattle.std.specs.Prelude.{◌≡◌, ℕ, List, Option, Ok}
 use Rattle.std.specs.Io.KnownBytes.{Consumes}
 use Rattle.qs_gen.specs.Load.{load_script}
 use Rattle.qs_io.specs.Streams.{IsWholeOrLonger}
 use Rattle.qs_text.specs.declared.given.Shown.{Shown}
 use Rattle.qs_text.specs.declared.given.Shown.TheVariants as shows
-use Rattle.qs_world_rounds.specs.Seats.{node_count}
 use Rattle.qs_text_script.specs.Script.{script_of}
 use Rattle.qs_book_script.specs.declared.script.Script.{Script}
 
@@ -17,14 +16,10 @@ pub record ReadWhole (limit : ℕ) (old new : Option (List ℕ)) (P : List ℕ �
   pub holds : P text
 
 -- the text is a script of a run of so many nodes that has P
-pub record OfScriptOf (nodes : ℕ) (P : Script → Type 0) (text : List ℕ) : Type 0 where
+pub record OfScript (nodes : ℕ) (P : Script → Type 0) (text : List ℕ) : Type 0 where
   pub script : Script
   pub read : script_of nodes text ≡ Ok script
   pub holds : P script
-
--- of a run of one node
-abbrev pub OfScript : (Script → Type 0) → List ℕ → Type 0
-OfScript P text = OfScriptOf node_count P text
 
 -- the text of the script of a run of which this is shown has P: a load's is the load script of its seed, and nothing is taken of the source; any other is what was
 -- read of the source

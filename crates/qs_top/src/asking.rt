@@ -3,17 +3,14 @@ ghost use Rattle.std.specs.Prelude.{◌≡◌};
 ghost use Rattle.qs_text_script.specs.Words.{form_of};
 ghost use Rattle.qs_top.specs.Asking.{asked_in, asked_by, serial_run, shown_with};
 
-use qs_gen::NODE_COUNT as LOAD_NODES;
+use qs_gen::NODE_COUNT;
 use qs_text::{Form, Shown, read_words};
-use qs_world_rounds::NODE_COUNT;
 
 /// What the words ask for, as far as it is carried out at this stage.
 #[derive(Clone, Copy)]
 pub enum Asked {
-    /// A run of one node in one thread.
-    Serial { seed: u64, shown: Shown },
-    /// A run of more than one node, and of at most eight, in one thread; or a load, of which its line is shown.
-    SerialNodes { nodes: u8, seed: u64, shown: Shown },
+    /// A run of one to eight nodes in one thread; or a load, of which its line is shown.
+    Serial { nodes: u8, seed: u64, shown: Shown },
     /// A history is to be judged.
     Check,
 }
@@ -41,8 +38,8 @@ fn asked_in(form: Form) -> Option<Asked>
         } => serial_run(nodes, seed, shown_with(journal)),
         Form::Run { .. } => None,
         Form::Check => Some(Asked::Check),
-        Form::Load { seed } => Some(Asked::SerialNodes {
-            nodes: LOAD_NODES,
+        Form::Load { seed } => Some(Asked::Serial {
+            nodes: NODE_COUNT,
             seed,
             shown: Shown::Load { seed },
         }),
@@ -53,19 +50,18 @@ fn asked_in(form: Form) -> Option<Asked>
 fn shown_with(journal: bool) -> Shown
     ensures { result ≡ shown_with journal }
 {
-    if journal { Shown::Journal } else { Shown::Output }
+    if journal {
+        Shown::Journal
+    } else {
+        Shown::Output
+    }
 }
 
 fn serial_run(nodes: u8, seed: u64, shown: Shown) -> Option<Asked>
     ensures { result ≡ serial_run nodes seed shown }
 {
     match nodes {
-        NODE_COUNT => Some(Asked::Serial { seed, shown }),
-        2..=8 => Some(Asked::SerialNodes {
-            nodes,
-            seed,
-            shown,
-        }),
+        1..=8 => Some(Asked::Serial { nodes, seed, shown }),
         _ => None,
     }
 }

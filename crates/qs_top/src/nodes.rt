@@ -3,9 +3,9 @@ ghost use Rattle.std.specs.Prelude.{◌≡◌, ◌≤◌, ◌++◌, ◌∷◌, [
 ghost use Rattle.qs_book_journal.specs.declared.entry.Entry.{Entry};
 ghost use Rattle.qs_node_step.specs.declared.trace.Step.{Step};
 ghost use Rattle.qs_top.specs.Disks.{OfThese};
-ghost use Rattle.qs_top.specs.Inner.OverNodes.{IsGathered, IsGatheredOf, IsMadeOfRun, IsOverNodes};
+ghost use Rattle.qs_top.specs.Inner.OverNodes.{IsGatheredOf, IsMadeOfRun, IsOverNodes};
 ghost use Rattle.qs_world_left.specs.Left.{AreReadAsLeft};
-ghost use Rattle.qs_top.specs.Nodes.{journal_in, opened_in, trace_in};
+ghost use Rattle.qs_top.specs.Run.{journal_in, opened_in, trace_in};
 
 use crate::whole::{RunMade, made_from, not_opened, nothing_made};
 use qs_base::{List, NoMemory};

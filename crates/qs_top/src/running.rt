@@ -7,28 +7,24 @@ ghost use Rattle.qs_log.specs.Image.{IsDamaged};
 ghost use Rattle.qs_gen.specs.Load.{load_script};
 ghost use Rattle.qs_io.specs.Streams.{TakesAtMost, GivesPart};
 ghost use Rattle.qs_text_history.specs.Journal.{IsFault};
-ghost use Rattle.qs_world_rounds.specs.Seats.{node_count};
 ghost use Rattle.qs_text_script.specs.Script.{script_of};
 ghost use Rattle.qs_text_script.specs.Words.{form_of};
 ghost use Rattle.qs_text_script.specs.declared.reading.ScriptFailed.TheVariants.{Fault};
 ghost use Rattle.qs_book_script.specs.declared.status.ScriptFault.{ScriptFault};
-ghost use Rattle.qs_top.specs.Asking.{asked_by, nodes_of, IsOfMany};
-ghost use Rattle.qs_top.specs.Disks.{OfFirst, OfThese, AtNode, IsOnlyTouched, Leaves, StaysCoherent, StaysRoomy, AreOthers};
+ghost use Rattle.qs_top.specs.Asking.{asked_by, nodes_of};
+ghost use Rattle.qs_top.specs.Disks.{AreOthers, AtNode, OfThese};
 ghost use Rattle.qs_top.specs.Inner.Giving.{IsGiven, IsGivenOf, IsNoScript, IsTextFault};
-ghost use Rattle.qs_top.specs.Inner.Over.{IsOver};
-ghost use Rattle.qs_top.specs.Nodes.{HasLawfulOf, IsNotBegunOf, IsRefusedOf, IsShortOf, IsWholeOf, LeaveAll};
-ghost use Rattle.qs_top.specs.Run.{IsNothing, IsNotBegun, IsWhole, IsShort, IsRefused, RanOutOfMemory};
+ghost use Rattle.qs_top.specs.Run.{HasLawful, IsNotBegun, IsNothing, IsRefused, IsShort, IsWhole, LeaveAll};
 ghost use Rattle.qs_top.specs.Statuses.{IfNot, IsEnd, IsPastScript, IsOfRun, Gives, Tells};
-ghost use Rattle.qs_top.specs.Texts.{HasText, ReadWhole, OfScript, OfScriptOf};
-ghost use Rattle.qs_top.specs.Untold.{AreOnlyTouched, RanOutOfMemoryOf, StayCoherentOf, StayRoomyOf};
+ghost use Rattle.qs_top.specs.Texts.{HasText, OfScript, ReadWhole};
+ghost use Rattle.qs_top.specs.Untold.{AreOnlyTouched, RanOutOfMemory, StayCoherent, StayRoomy};
 ghost use Rattle.qs_top.specs.Verdict.{IsUnlawfulText, IsVerdict, IsOfCheck};
 
 use crate::asking::{Asked, asked_by};
 use crate::checking::check_source;
 use crate::nodes::run_over_nodes;
 use crate::outcome::Run;
-use crate::whole::{RunMade, run_over};
-use core::mem;
+use crate::whole::RunMade;
 use qs_base::{Bytes, List};
 use qs_disk::Disk;
 use qs_gen::load_script;
@@ -41,7 +37,6 @@ use qs_world_left::{
 use qs_world_nodes::{nodes_have_openings, rounds_are_lawful, rounds_are_runs_of_the_world};
 use qs_world_opening::scripts_fit;
 use qs_world_rooms::{roomy_disks_are_read, runs_leave_room};
-use qs_world_rounds::NODE_COUNT;
 use std::alloc::Global;
 use std::thread::Threads;
 
@@ -120,41 +115,9 @@ fn script_for<S: Source>(
 {
     match shown {
         Shown::Load { seed } => script_of_load(alloc, seed, nodes),
-        Shown::Output | Shown::Journal => script_from(alloc, source, nodes),
+        Shown::Output => script_from(alloc, source, nodes),
+        Shown::Journal => script_from(alloc, source, nodes),
     }
-}
-
-/// Runs a script on one node over the first disk, which is then in its place again.
-fn run_first<D: Disk>(
-    alloc: Global,
-    disks: &mut Vec<D>,
-    script: &Script,
-    seed: u64,
-    shown: Shown,
-) -> RunMade
-    requires disks { 8 ≤ length disks.old.items }
-    ensures over { OfFirst (λ disk after. IsOver D.told D.state D.fault_count D.byte_count seed script.now shown result disk after) disks.old.items disks.new.items }
-{
-    over_place(alloc, &mut disks[0], script, seed, shown)
-}
-
-/// Runs a script over the disk of that place, which is then in its place again.
-fn over_place<D: Disk>(
-    alloc: Global,
-    place: &mut D,
-    script: &Script,
-    seed: u64,
-    shown: Shown,
-) -> RunMade
-    ensures over { IsOver D.told D.state D.fault_count D.byte_count seed script.now shown result place.old place.new }
-{
-    mem::replace_with(
-        place,
-        alloc,
-        |disk, alloc|
-            ensures over { IsOver D.told D.state D.fault_count D.byte_count seed script.entry.now shown result.1 disk result.0 }
-        { run_over(alloc, disk, script, seed, shown) },
-    )
 }
 
 /// The output goes to the sink, where there is any. The status stands, but where the sink fails.
@@ -188,69 +151,9 @@ fn give<K: Sink>(sink: &mut K, made: RunMade) -> Run
     }
 }
 
-/// Reads a script from the source, runs it on one node over the log of the first disk, and gives the
-/// output to the sink.
-fn run_source<S: Source, K: Sink, D: Disk>(
-    alloc: Global,
-    seed: u64,
-    shown: Shown,
-    source: &mut S,
-    sink: &mut K,
-    disks: &mut Vec<D>,
-) -> Run
-    requires disks { 8 ≤ length disks.old.items }
-    ensures lawful { HasLawfulOf D.told D.state 1 result.journal disks.old.items disks.new.items }
-    ensures ran { result.status ≢ Status.Usage }
-    ensures read_fault { result.status ≡ Status.ReadFault → Rose (S.faults source.old) (S.faults source.new) }
-    ensures write_fault { result.status ≡ Status.WriteFault → Rose (K.faults sink.old) (K.faults sink.new) }
-    ensures disk_fault { (node : NodeNo) → result.status ≡ Status.DiskFault node
-        → AtNode 1 node (λ disk after. Rose (D.fault_count disk) (D.fault_count after)) disks.old.items disks.new.items }
-    ensures damaged { (node : NodeNo) (at : ℕ) → result.status ≡ Status.Damaged node at
-        → AtNode 1 node (λ disk after. D.told → IsDamaged (2 ^ 61) (D.state disk).content at) disks.old.items disks.new.items }
-    ensures script { (line : ℕ) (fault : ScriptFault) → result.status ≡ Status.Script line fault
-        → ReadWhole 1048576 (S.left source.old) (S.left source.new) (λ text. script_of node_count text ≡ Err (Fault line fault)) }
-    ensures past_script { IsPastScript result.status
-        → ReadWhole 1048576 (S.left source.old) (S.left source.new) (OfScript (λ script. ⊤)) }
-    ensures ended { IsEnd result.status
-        → ReadWhole 1048576 (S.left source.old) (S.left source.new) (OfScript (λ script. OfFirst
-        (IsWhole D.told D.state D.fault_count D.byte_count seed script shown (λ status. result.status ≡ status) (Appends (K.given sink.old) (K.given sink.new)) result.journal result.trace)
-        disks.old.items disks.new.items)) }
-    ensures cut_off { result.status ≡ Status.WriteFault
-        → ReadWhole 1048576 (S.left source.old) (S.left source.new) (OfScript (λ script. OfFirst
-        (IsWhole D.told D.state D.fault_count D.byte_count seed script shown IsEnd (GivesPart (K.given sink.old) (K.given sink.new)) result.journal result.trace)
-        disks.old.items disks.new.items)) }
-    ensures cut_short { (node : NodeNo) → result.status ≡ Status.DiskFault node
-        → OfFirst (IsNotBegun D.told D.state result.journal result.trace) disks.old.items disks.new.items
-        ⊎ ReadWhole 1048576 (S.left source.old) (S.left source.new) (OfScript (λ script. OfFirst
-        (IsShort D.told D.state D.fault_count D.byte_count seed script result.journal result.trace) disks.old.items disks.new.items)) }
-    ensures refused { (line clause : ℕ) → result.status ≡ Status.Unlawful line clause
-        → ReadWhole 1048576 (S.left source.old) (S.left source.new) (OfScript (λ script. OfFirst
-        (IsRefused D.told D.state D.fault_count D.byte_count seed script line clause) disks.old.items disks.new.items)) }
-    ensures out_of_memory { result.status ≡ Status.NoMemory
-        → OfFirst (IsOnlyTouched D.told D.state) disks.old.items disks.new.items
-        ⊎ ReadWhole 1048576 (S.left source.old) (S.left source.new) (OfScript (λ script. OfFirst
-        (RanOutOfMemory D.told D.state D.fault_count D.byte_count seed script) disks.old.items disks.new.items)) }
-    ensures silent { IfNot (Gives result.status) (K.given sink.new ≡ K.given sink.old) }
-    ensures empty { IfNot (Tells result.status) (IsNothing result.journal result.trace) }
-    ensures bound { TakesAtMost 1048577 (S.left source.old) (S.left source.new) }
-    ensures built { IsOfRun result.status }
-    ensures others { AreOthers 1 disks.old.items disks.new.items }
-    ensures left { OfFirst (Leaves D.told D.state result.status) disks.old.items disks.new.items }
-    ensures coherent { OfFirst (StaysCoherent D.told D.state) disks.old.items disks.new.items }
-    ensures roomy { OfFirst (StaysRoomy D.told D.state D.byte_count) disks.old.items disks.new.items }
-{
-    scripts_fit();
-    let script = match script_from(alloc, source, NODE_COUNT) {
-        Ok(script) => script,
-        Err(status) => return ended(alloc, status),
-    };
-    let made = run_first(alloc, disks, &script, seed, shown);
-    give(sink, made)
-}
-
 /// Runs a script, that of a load or one that is read from the source, on so many nodes over the logs of the first disks, and gives what is to
 /// be shown of it to the sink.
-fn run_nodes<S: Source, K: Sink, D: Disk>(
+fn run_script<S: Source, K: Sink, D: Disk>(
     alloc: Global,
     nodes: u8,
     seed: u64,
@@ -262,7 +165,7 @@ fn run_nodes<S: Source, K: Sink, D: Disk>(
     requires some { 1 ≤ nodes }
     requires few { nodes ≤ 8 }
     requires disks { 8 ≤ length disks.old.items }
-    ensures lawful { HasLawfulOf D.told D.state nodes result.journal disks.old.items disks.new.items }
+    ensures lawful { HasLawful D.told D.state nodes result.journal disks.old.items disks.new.items }
     ensures ran { result.status ≢ Status.Usage }
     ensures read_fault { result.status ≡ Status.ReadFault → Rose (S.faults source.old) (S.faults source.new) }
     ensures write_fault { result.status ≡ Status.WriteFault → Rose (K.faults sink.old) (K.faults sink.new) }
@@ -273,27 +176,27 @@ fn run_nodes<S: Source, K: Sink, D: Disk>(
     ensures script { (line : ℕ) (fault : ScriptFault) → result.status ≡ Status.Script line fault
         → HasText shown (S.left source.old) (S.left source.new) (λ text. script_of nodes text ≡ Err (Fault line fault)) }
     ensures past_script { IsPastScript result.status
-        → HasText shown (S.left source.old) (S.left source.new) (OfScriptOf nodes (λ script. ⊤)) }
+        → HasText shown (S.left source.old) (S.left source.new) (OfScript nodes (λ script. ⊤)) }
     ensures ended { IsEnd result.status
-        → HasText shown (S.left source.old) (S.left source.new) (OfScriptOf nodes (λ script. OfThese nodes
-        (IsWholeOf D.told D.state D.fault_count D.byte_count seed nodes script shown (λ status. result.status ≡ status) (Appends (K.given sink.old) (K.given sink.new)) result.journal result.trace)
+        → HasText shown (S.left source.old) (S.left source.new) (OfScript nodes (λ script. OfThese nodes
+        (IsWhole D.told D.state D.fault_count D.byte_count seed nodes script shown (λ status. result.status ≡ status) (Appends (K.given sink.old) (K.given sink.new)) result.journal result.trace)
         disks.old.items disks.new.items)) }
     ensures cut_off { result.status ≡ Status.WriteFault
-        → HasText shown (S.left source.old) (S.left source.new) (OfScriptOf nodes (λ script. OfThese nodes
-        (IsWholeOf D.told D.state D.fault_count D.byte_count seed nodes script shown IsEnd (GivesPart (K.given sink.old) (K.given sink.new)) result.journal result.trace)
+        → HasText shown (S.left source.old) (S.left source.new) (OfScript nodes (λ script. OfThese nodes
+        (IsWhole D.told D.state D.fault_count D.byte_count seed nodes script shown IsEnd (GivesPart (K.given sink.old) (K.given sink.new)) result.journal result.trace)
         disks.old.items disks.new.items)) }
     ensures cut_short { (node : NodeNo) → result.status ≡ Status.DiskFault node
-        → HasText shown (S.left source.old) (S.left source.new) (OfScriptOf nodes (λ script. OfThese nodes
-        (λ firsts afters. IsNotBegunOf D.told D.state D.fault_count D.byte_count node result.journal result.trace firsts afters
-        ⊎ IsShortOf D.told D.state D.fault_count D.byte_count seed nodes script node result.journal result.trace firsts afters)
+        → HasText shown (S.left source.old) (S.left source.new) (OfScript nodes (λ script. OfThese nodes
+        (λ firsts afters. IsNotBegun D.told D.state D.fault_count D.byte_count node result.journal result.trace firsts afters
+        ⊎ IsShort D.told D.state D.fault_count D.byte_count seed nodes script node result.journal result.trace firsts afters)
         disks.old.items disks.new.items)) }
     ensures refused { (line clause : ℕ) → result.status ≡ Status.Unlawful line clause
-        → HasText shown (S.left source.old) (S.left source.new) (OfScriptOf nodes (λ script. OfThese nodes
-        (IsRefusedOf D.told D.state D.fault_count D.byte_count seed nodes script line clause) disks.old.items disks.new.items)) }
+        → HasText shown (S.left source.old) (S.left source.new) (OfScript nodes (λ script. OfThese nodes
+        (IsRefused D.told D.state D.fault_count D.byte_count seed nodes script line clause) disks.old.items disks.new.items)) }
     ensures out_of_memory { result.status ≡ Status.NoMemory
         → OfThese nodes (AreOnlyTouched D.told D.state) disks.old.items disks.new.items
-        ⊎ HasText shown (S.left source.old) (S.left source.new) (OfScriptOf nodes (λ script. OfThese nodes
-        (RanOutOfMemoryOf D.told D.state D.fault_count D.byte_count seed script) disks.old.items disks.new.items)) }
+        ⊎ HasText shown (S.left source.old) (S.left source.new) (OfScript nodes (λ script. OfThese nodes
+        (RanOutOfMemory D.told D.state D.fault_count D.byte_count seed script) disks.old.items disks.new.items)) }
     ensures silent { IfNot (Gives result.status) (K.given sink.new ≡ K.given sink.old) }
     ensures empty { IfNot (Tells result.status) (IsNothing result.journal result.trace) }
     ensures bound { TakesAtMost 1048577 (S.left source.old) (S.left source.new) }
@@ -301,8 +204,8 @@ fn run_nodes<S: Source, K: Sink, D: Disk>(
     ensures built { IsOfRun result.status }
     ensures others { AreOthers nodes disks.old.items disks.new.items }
     ensures left { OfThese nodes (LeaveAll D.told D.state nodes result.status) disks.old.items disks.new.items }
-    ensures coherent { OfThese nodes (StayCoherentOf D.told D.state) disks.old.items disks.new.items }
-    ensures roomy { OfThese nodes (StayRoomyOf D.told D.state D.byte_count) disks.old.items disks.new.items }
+    ensures coherent { OfThese nodes (StayCoherent D.told D.state) disks.old.items disks.new.items }
+    ensures roomy { OfThese nodes (StayRoomy D.told D.state D.byte_count) disks.old.items disks.new.items }
 {
     let script = match script_for(alloc, source, nodes, shown) {
         Ok(script) => script,
@@ -356,7 +259,7 @@ pub fn run<R: Threads + Sync, S: Source, K: Sink, D: Disk>(
 
     // The journal is a lawful run of the machine with one outcome cell for each transaction, from what the logs of the first
     // disks held, one for each node, whatever the status.
-    ensures lawful { HasLawfulOf D.told D.state (nodes_of (asked_by (form_of words.now))) result.journal disks.old.items disks.new.items }
+    ensures lawful { HasLawful D.told D.state (nodes_of (asked_by (form_of words.now))) result.journal disks.old.items disks.new.items }
 
     // Each status has its cause.
     ensures usage { (result.status ≡ Status.Usage) ↔ (asked_by (form_of words.now) ≡ None) }
@@ -367,46 +270,47 @@ pub fn run<R: Threads + Sync, S: Source, K: Sink, D: Disk>(
     ensures damaged { (node : NodeNo) (at : ℕ) → result.status ≡ Status.Damaged node at
         → AtNode (nodes_of (asked_by (form_of words.now))) node (λ disk after. D.told → IsDamaged (2 ^ 61) (D.state disk).content at) disks.old.items disks.new.items }
 
-    // Of a run of one node. A script fault is the first of the text, and a disk is opened for a script alone.
-    ensures script { (seed : ℕ) (shown : Shown) → asked_by (form_of words.now) ≡ Some (Asked.Serial seed shown)
+    // Of a run. A script fault is the first of the text, and a disk is opened for a script alone; that of a load is made from its seed, and
+    // nothing is taken of the source.
+    ensures script { (nodes seed : ℕ) (shown : Shown) → asked_by (form_of words.now) ≡ Some (Asked.Serial nodes seed shown)
         → (line : ℕ) (fault : ScriptFault) → result.status ≡ Status.Script line fault
-        → ReadWhole 1048576 (S.left source.old) (S.left source.new) (λ text. script_of node_count text ≡ Err (Fault line fault)) }
-    ensures past_script { (seed : ℕ) (shown : Shown) → asked_by (form_of words.now) ≡ Some (Asked.Serial seed shown) → IsPastScript result.status
-        → ReadWhole 1048576 (S.left source.old) (S.left source.new) (OfScript (λ script. ⊤)) }
+        → HasText shown (S.left source.old) (S.left source.new) (λ text. script_of nodes text ≡ Err (Fault line fault)) }
+    ensures past_script { (nodes seed : ℕ) (shown : Shown) → asked_by (form_of words.now) ≡ Some (Asked.Serial nodes seed shown) → IsPastScript result.status
+        → HasText shown (S.left source.old) (S.left source.new) (OfScript nodes (λ script. ⊤)) }
 
-    // A run that ended made its rounds, the journal is its node's and conforms to the script, the first disk is the one that
-    // the node leaves, the status is that of the journal and of how the rounds ended, and the output was given whole; at a write
-    // fault a part of it was. Where the log was coherent, whatever a power cut leaves of the disk stands for the machine: a restart
-    // over it is lawful, and takes up what the machine has, committed and pending.
-    ensures ended { (seed : ℕ) (shown : Shown) → asked_by (form_of words.now) ≡ Some (Asked.Serial seed shown) → IsEnd result.status
-        → ReadWhole 1048576 (S.left source.old) (S.left source.new) (OfScript (λ script. OfFirst
-        (IsWhole D.told D.state D.fault_count D.byte_count seed script shown (λ status. result.status ≡ status) (Appends (K.given sink.old) (K.given sink.new)) result.journal result.trace)
+    // A run that ended made its rounds over the links between its nodes, its journal is that of all of them, merged by stamp and node, and
+    // conforms to the script, the status is that of the journal and of how the rounds ended, and what is to be shown was given whole; at a
+    // write fault a part of it was. The trace is of a run of the world over packets; and where the logs were coherent, whatever a power cut leaves of
+    // the disks stands for the machine: a restart over it is lawful, and takes up what the machine has, committed and pending.
+    ensures ended { (nodes seed : ℕ) (shown : Shown) → asked_by (form_of words.now) ≡ Some (Asked.Serial nodes seed shown) → IsEnd result.status
+        → HasText shown (S.left source.old) (S.left source.new) (OfScript nodes (λ script. OfThese nodes
+        (IsWhole D.told D.state D.fault_count D.byte_count seed nodes script shown (λ status. result.status ≡ status) (Appends (K.given sink.old) (K.given sink.new)) result.journal result.trace)
         disks.old.items disks.new.items)) }
-    ensures cut_off { (seed : ℕ) (shown : Shown) → asked_by (form_of words.now) ≡ Some (Asked.Serial seed shown) → result.status ≡ Status.WriteFault
-        → ReadWhole 1048576 (S.left source.old) (S.left source.new) (OfScript (λ script. OfFirst
-        (IsWhole D.told D.state D.fault_count D.byte_count seed script shown IsEnd (GivesPart (K.given sink.old) (K.given sink.new)) result.journal result.trace)
+    ensures cut_off { (nodes seed : ℕ) (shown : Shown) → asked_by (form_of words.now) ≡ Some (Asked.Serial nodes seed shown) → result.status ≡ Status.WriteFault
+        → HasText shown (S.left source.old) (S.left source.new) (OfScript nodes (λ script. OfThese nodes
+        (IsWhole D.told D.state D.fault_count D.byte_count seed nodes script shown IsEnd (GivesPart (K.given sink.old) (K.given sink.new)) result.journal result.trace)
         disks.old.items disks.new.items)) }
 
-    // Where its disk failed as the node was started again, the journal is what the node had made, and conforms, and the disk is
-    // the one that the node leaves; where it failed as the log was opened nothing is told, and a power cut may still leave the
-    // log with its incarnation not raised, which it is in each image once a node began. Where the judge refuses what a node made, the line and the clause are told; where the log was
-    // coherent each entry is lawful, it is for a rule of the script, and what is left on the disk stands for the machine too.
-    ensures cut_short { (seed : ℕ) (shown : Shown) → asked_by (form_of words.now) ≡ Some (Asked.Serial seed shown)
+    // Where a disk failed as its node was started again, the journal is what the nodes had made, and conforms; where it failed as the log was
+    // opened nothing is told, and a power cut may still leave the log with its incarnation not raised. Where the judge refuses what the
+    // nodes made, the line and the clause are told; where the logs were coherent each entry is lawful, and it is for a rule of the script.
+    ensures cut_short { (nodes seed : ℕ) (shown : Shown) → asked_by (form_of words.now) ≡ Some (Asked.Serial nodes seed shown)
         → (node : NodeNo) → result.status ≡ Status.DiskFault node
-        → OfFirst (IsNotBegun D.told D.state result.journal result.trace) disks.old.items disks.new.items
-        ⊎ ReadWhole 1048576 (S.left source.old) (S.left source.new) (OfScript (λ script. OfFirst
-        (IsShort D.told D.state D.fault_count D.byte_count seed script result.journal result.trace) disks.old.items disks.new.items)) }
-    ensures refused { (seed : ℕ) (shown : Shown) → asked_by (form_of words.now) ≡ Some (Asked.Serial seed shown)
+        → HasText shown (S.left source.old) (S.left source.new) (OfScript nodes (λ script. OfThese nodes
+        (λ firsts afters. IsNotBegun D.told D.state D.fault_count D.byte_count node result.journal result.trace firsts afters
+        ⊎ IsShort D.told D.state D.fault_count D.byte_count seed nodes script node result.journal result.trace firsts afters)
+        disks.old.items disks.new.items)) }
+    ensures refused { (nodes seed : ℕ) (shown : Shown) → asked_by (form_of words.now) ≡ Some (Asked.Serial nodes seed shown)
         → (line clause : ℕ) → result.status ≡ Status.Unlawful line clause
-        → ReadWhole 1048576 (S.left source.old) (S.left source.new) (OfScript (λ script. OfFirst
-        (IsRefused D.told D.state D.fault_count D.byte_count seed script line clause) disks.old.items disks.new.items)) }
+        → HasText shown (S.left source.old) (S.left source.new) (OfScript nodes (λ script. OfThese nodes
+        (IsRefused D.told D.state D.fault_count D.byte_count seed nodes script line clause) disks.old.items disks.new.items)) }
 
-    // Where memory was refused the node did not begin, and the disk was changed at most by the raise; or it began, and memory was
-    // refused in its rounds, or behind them as what it made was judged or told. A restart within a run never finds its log
-    // damaged, over a disk that tells: each was answered, but for the last one where its disk failed or memory was refused in it.
-    ensures out_of_memory { (seed : ℕ) (shown : Shown) → asked_by (form_of words.now) ≡ Some (Asked.Serial seed shown) → result.status ≡ Status.NoMemory
-        → OfFirst (IsOnlyTouched D.told D.state) disks.old.items disks.new.items
-        ⊎ ReadWhole 1048576 (S.left source.old) (S.left source.new) (OfScript (λ script. OfFirst
+    // Where memory was refused the nodes did not all begin, and each disk was changed at most by the raise; or they began, and memory was
+    // refused in their rounds, or behind them as what they made was gathered, judged or told. A restart within a run never finds its log damaged,
+    // over a disk that tells.
+    ensures out_of_memory { (nodes seed : ℕ) (shown : Shown) → asked_by (form_of words.now) ≡ Some (Asked.Serial nodes seed shown) → result.status ≡ Status.NoMemory
+        → OfThese nodes (AreOnlyTouched D.told D.state) disks.old.items disks.new.items
+        ⊎ HasText shown (S.left source.old) (S.left source.new) (OfScript nodes (λ script. OfThese nodes
         (RanOutOfMemory D.told D.state D.fault_count D.byte_count seed script) disks.old.items disks.new.items)) }
 
     // Else nothing is given, and nothing told.
@@ -415,60 +319,22 @@ pub fn run<R: Threads + Sync, S: Source, K: Sink, D: Disk>(
 
     // What was taken of the source: nothing on Usage and by a load, and never more than the limit and one byte.
     ensures unread { result.status ≡ Status.Usage → S.left source.new ≡ S.left source.old }
-    ensures unread_load { (nodes seed at : ℕ) → asked_by (form_of words.now) ≡ Some (Asked.SerialNodes nodes seed (Shown.Load at)) → S.left source.new ≡ S.left source.old }
+    ensures unread_load { (nodes seed at : ℕ) → asked_by (form_of words.now) ≡ Some (Asked.Serial nodes seed (Shown.Load at)) → S.left source.new ≡ S.left source.old }
     ensures bound { asked_by (form_of words.now) ≢ Some Asked.Check → TakesAtMost 1048577 (S.left source.old) (S.left source.new) }
     ensures built { asked_by (form_of words.now) ≢ Some Asked.Check → IsOfRun result.status }
 
-    // The disks, whatever the status: the first is as it was where it was not opened; where its log was not opened it is
-    // changed at most by the raise of the incarnation, at each moment; and else each image of it has a log that goes on from what
-    // its log held. After DiskFault and NoMemory it is one of these. Disks of no node of the run are as they were.
+    // The disks, whatever the status: each is as it was where none was opened; changed at most by the raise of its log, at each moment, where a
+    // log was not opened; and else each image of it has a log that goes on from what its log held. Disks of no node of the run are as they were.
     ensures others { AreOthers (nodes_of (asked_by (form_of words.now))) disks.old.items disks.new.items }
-    ensures left { asked_by (form_of words.now) ≢ Some Asked.Check → IfNot (IsOfMany (asked_by (form_of words.now))) (OfFirst (Leaves D.told D.state result.status) disks.old.items disks.new.items) }
-
-    // Runs follow one another over a disk, whatever the status: where its log was coherent, it is so again; and where it
-    // had room for all that is kept there, it has room again.
-    ensures coherent { IfNot (IsOfMany (asked_by (form_of words.now))) (OfFirst (StaysCoherent D.told D.state) disks.old.items disks.new.items) }
-    ensures roomy { IfNot (IsOfMany (asked_by (form_of words.now))) (OfFirst (StaysRoomy D.told D.state D.byte_count) disks.old.items disks.new.items) }
-
-    // Of a run of many nodes, and of a load, the like: of their scripts, of the rounds that they made over the links between them, of
-    // what they tell, merged by stamp and node, and of what each leaves on its disk. The script of a load
-    // is made from its seed, and nothing is taken of the source; what is given of it is its line.
-    ensures nodes_script { (nodes seed : ℕ) (shown : Shown) → asked_by (form_of words.now) ≡ Some (Asked.SerialNodes nodes seed shown)
-        → (line : ℕ) (fault : ScriptFault) → result.status ≡ Status.Script line fault
-        → HasText shown (S.left source.old) (S.left source.new) (λ text. script_of nodes text ≡ Err (Fault line fault)) }
-    ensures nodes_past_script { (nodes seed : ℕ) (shown : Shown) → asked_by (form_of words.now) ≡ Some (Asked.SerialNodes nodes seed shown) → IsPastScript result.status
-        → HasText shown (S.left source.old) (S.left source.new) (OfScriptOf nodes (λ script. ⊤)) }
-    ensures nodes_ended { (nodes seed : ℕ) (shown : Shown) → asked_by (form_of words.now) ≡ Some (Asked.SerialNodes nodes seed shown) → IsEnd result.status
-        → HasText shown (S.left source.old) (S.left source.new) (OfScriptOf nodes (λ script. OfThese nodes
-        (IsWholeOf D.told D.state D.fault_count D.byte_count seed nodes script shown (λ status. result.status ≡ status) (Appends (K.given sink.old) (K.given sink.new)) result.journal result.trace)
-        disks.old.items disks.new.items)) }
-    ensures nodes_cut_off { (nodes seed : ℕ) (shown : Shown) → asked_by (form_of words.now) ≡ Some (Asked.SerialNodes nodes seed shown) → result.status ≡ Status.WriteFault
-        → HasText shown (S.left source.old) (S.left source.new) (OfScriptOf nodes (λ script. OfThese nodes
-        (IsWholeOf D.told D.state D.fault_count D.byte_count seed nodes script shown IsEnd (GivesPart (K.given sink.old) (K.given sink.new)) result.journal result.trace)
-        disks.old.items disks.new.items)) }
-    ensures nodes_cut_short { (nodes seed : ℕ) (shown : Shown) → asked_by (form_of words.now) ≡ Some (Asked.SerialNodes nodes seed shown)
-        → (node : NodeNo) → result.status ≡ Status.DiskFault node
-        → HasText shown (S.left source.old) (S.left source.new) (OfScriptOf nodes (λ script. OfThese nodes
-        (λ firsts afters. IsNotBegunOf D.told D.state D.fault_count D.byte_count node result.journal result.trace firsts afters
-        ⊎ IsShortOf D.told D.state D.fault_count D.byte_count seed nodes script node result.journal result.trace firsts afters)
-        disks.old.items disks.new.items)) }
-    ensures nodes_refused { (nodes seed : ℕ) (shown : Shown) → asked_by (form_of words.now) ≡ Some (Asked.SerialNodes nodes seed shown)
-        → (line clause : ℕ) → result.status ≡ Status.Unlawful line clause
-        → HasText shown (S.left source.old) (S.left source.new) (OfScriptOf nodes (λ script. OfThese nodes
-        (IsRefusedOf D.told D.state D.fault_count D.byte_count seed nodes script line clause) disks.old.items disks.new.items)) }
-    ensures nodes_out_of_memory { (nodes seed : ℕ) (shown : Shown) → asked_by (form_of words.now) ≡ Some (Asked.SerialNodes nodes seed shown) → result.status ≡ Status.NoMemory
-        → OfThese nodes (AreOnlyTouched D.told D.state) disks.old.items disks.new.items
-        ⊎ HasText shown (S.left source.old) (S.left source.new) (OfScriptOf nodes (λ script. OfThese nodes
-        (RanOutOfMemoryOf D.told D.state D.fault_count D.byte_count seed script) disks.old.items disks.new.items)) }
-    ensures nodes_left { (nodes seed : ℕ) (shown : Shown) → asked_by (form_of words.now) ≡ Some (Asked.SerialNodes nodes seed shown)
+    ensures left { (nodes seed : ℕ) (shown : Shown) → asked_by (form_of words.now) ≡ Some (Asked.Serial nodes seed shown)
         → OfThese nodes (LeaveAll D.told D.state nodes result.status) disks.old.items disks.new.items }
 
-    // And runs follow one another, whatever the status: where the logs were coherent they are so again, and where each had room for all that is
+    // Runs follow one another, whatever the status: where the logs were coherent they are so again, and where each had room for all that is
     // kept there, each has room again.
-    ensures nodes_coherent { (nodes seed : ℕ) (shown : Shown) → asked_by (form_of words.now) ≡ Some (Asked.SerialNodes nodes seed shown)
-        → OfThese nodes (StayCoherentOf D.told D.state) disks.old.items disks.new.items }
-    ensures nodes_roomy { (nodes seed : ℕ) (shown : Shown) → asked_by (form_of words.now) ≡ Some (Asked.SerialNodes nodes seed shown)
-        → OfThese nodes (StayRoomyOf D.told D.state D.byte_count) disks.old.items disks.new.items }
+    ensures coherent { (nodes seed : ℕ) (shown : Shown) → asked_by (form_of words.now) ≡ Some (Asked.Serial nodes seed shown)
+        → OfThese nodes (StayCoherent D.told D.state) disks.old.items disks.new.items }
+    ensures roomy { (nodes seed : ℕ) (shown : Shown) → asked_by (form_of words.now) ≡ Some (Asked.Serial nodes seed shown)
+        → OfThese nodes (StayRoomy D.told D.state D.byte_count) disks.old.items disks.new.items }
 
     // Of a check: the text that was read is a history, and the verdict on it is what was given; no disk is opened.
     ensures unlawful { asked_by (form_of words.now) ≡ Some Asked.Check → (line clause : ℕ) → result.status ≡ Status.Unlawful line clause
@@ -487,14 +353,9 @@ pub fn run<R: Threads + Sync, S: Source, K: Sink, D: Disk>(
     ensures check_disks { asked_by (form_of words.now) ≡ Some Asked.Check → disks.new.items ≡ disks.old.items }
 {
     match asked_by(words) {
-        Some(Asked::Serial { seed, shown }) => run_source(alloc, seed, shown, source, sink, disks),
-        Some(
-            Asked::SerialNodes {
-                nodes,
-                seed,
-                shown,
-            },
-        ) => run_nodes(alloc, nodes, seed, shown, source, sink, disks),
+        Some(Asked::Serial { nodes, seed, shown }) => run_script(
+            alloc, nodes, seed, shown, source, sink, disks,
+        ),
         Some(Asked::Check) => ended(alloc, check_source(alloc, source, sink)),
         None => ended(alloc, Status::Usage),
     }

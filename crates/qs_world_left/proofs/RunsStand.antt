@@ -17,7 +17,10 @@ use Rattle.qs_world.specs.World.{Opening, World}
 use Rattle.qs_world_lawful.specs.Logged.{HoldsLogged}
 use Rattle.qs_world_lawful.specs.Said.{HoldsSaid, IsMadeBy, SameContents}
 use Rattle.qs_world_lawful.specs.Worlds.{HoldsNodeAt}
-use Rattle.qs_world_left.specs.Standing.{EachRunStands, KeepsContents, Restarts, StandsFor, restart_entry, stop_entries}
+use Rattle.qs_world_left.proofs.RunsLeave.{same_size}
+use Rattle.qs_world_left.specs.Standing.{EachRunStands, EachRunStandsAlone, KeepsContents, Restarts, StandsFor, restart_entry, stop_entries}
+use Rattle.qs_world_one.proofs.StandsOver as one
+use Rattle.qs_world_one.specs.StandsFor as alone
 use Rattle.qs_world_opening.proofs.Tests.{itself, parts}
 use Rattle.qs_world_packets.proofs.OpensWithin.{opens_alike}
 use Rattle.qs_world_packets.proofs.RunsGo.{each_run_shown}
@@ -148,5 +151,23 @@ module _ (o : Opening) (moves : List packets.Move) (world : PacketWorld) (opens 
   stands_over order later = subst (λ (b : BookValue). StandsFor (book_after b world.journal) n (world.network.up n) inc (world.hosts n).log) alike.book
       (stands (within o) (over world r.channels) n stamp inc joined_over order (subst (λ (k : ℕ). k < inc) (sym (ap (λ (f : ℕ → ℕ). f n) r.shown.shows.inc)) later) (world.network.up n) (ap (λ (f : ℕ → Bool). f n) r.shown.shows.up))
 
+  -- of a run of one node
+  alone_over : o.size ≡ 1 → is_in_order (over world r.channels) 0 stamp ≡ true → world.network.inc 0 < inc → alone.StandsFor (book_after (book_of o) world.journal) (world.network.up 0) inc (world.hosts 0).log
+  alone_over single order later = subst (λ (b : BookValue). alone.StandsFor (book_after b world.journal) (world.network.up 0) inc (world.hosts 0).log) alike.book
+      (by (world.network.up 0) (ap (λ (f : ℕ → Bool). f 0) r.shown.shows.up))
+    where
+      size_is : world.size ≡ 1
+      size_is = same_size o moves world opens run ∙ single
+
+      later_over : (over world r.channels).channels.inc 0 < inc
+      later_over = subst (λ (k : ℕ). k < inc) (sym (ap (λ (f : ℕ → ℕ). f 0) r.shown.shows.inc)) later
+
+      by : (b : Bool) → (over world r.channels).channels.up 0 ≡ b → alone.StandsFor (book_in (within o) (over world r.channels)) b inc (world.hosts 0).log
+      by true up = one.stands_up (within o) alike.opens (run_moves (start o) moves) (over world r.channels) r.run size_is stamp inc order later_over up
+      by false down = one.stands_down (within o) alike.opens (run_moves (start o) moves) (over world r.channels) r.run size_is stamp inc order later_over down
+
 pub each_run_stands : EachRunStands
 each_run_stands o moves world n stamp inc opens run order later = stands_over o moves world opens run n stamp inc order later
+
+pub each_run_stands_alone : EachRunStandsAlone
+each_run_stands_alone o moves world stamp inc opens run single order later = alone_over o moves world opens run 0 stamp inc single order later

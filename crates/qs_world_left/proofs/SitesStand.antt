@@ -1,6 +1,6 @@
 -- Each image of the disk of each site stands for the machine after all that the cells tell: there is one run of the world over packets with that history, in which
 -- the node has the log of the image.
-use Rattle.std.proofs.Common.{◌≡◌, ◌∙◌, ap, subst, sym, refl, ℕ, ◌+◌, ◌<◌, ◌≤◌, ◌==◌, ◌&&◌, ◌||◌, Bool, true, false, List, length, option_map, arith, slice_get, nat_le, nat_lt, Some}
+use Rattle.std.proofs.Common.{[], ◌≢◌, ◌∷◌, ◌≡◌, ◌∙◌, ap, subst, sym, refl, ℕ, ◌+◌, ◌<◌, ◌≤◌, ◌==◌, ◌&&◌, ◌||◌, Bool, true, false, List, length, option_map, arith, slice_get, nat_le, nat_lt, Some}
 use Rattle.std.proofs.lemmas.Bool.{and_from, eqb-true, le-leb, lt-ltb}
 use Rattle.std.proofs.lemmas.Bool.Decides.{nat_tests}
 use Rattle.std.proofs.lemmas.List.{length-map}
@@ -25,7 +25,7 @@ use Rattle.qs_world_left.proofs.Chosen.{ComesTo, HasLog, RunsTo, comes, runs, st
 use Rattle.qs_world_left.proofs.LastStamps.{IsLast, run_last}
 use Rattle.qs_world_left.proofs.Reached.{AreLeftThere, AreReached, cut_reaches, ending_reaches, refused_leaves, rounds_reach}
 use Rattle.qs_world_left.proofs.RunsLeave.{same_size}
-use Rattle.qs_world_left.proofs.RunsStand.{each_run_stands}
+use Rattle.qs_world_left.proofs.RunsStand.{each_run_stands, each_run_stands_alone}
 use Rattle.qs_world_left.specs.Disks.{disk_state, disks_of}
 use Rattle.qs_world_left.specs.Standing.{CellsLeaveStanding, CutShortLeavesStanding, EndingsLeaveStanding, HaveOthersStampsLeft, IsTold, RefusedLeavesStanding, RoundsLeaveStanding, SitesLeaveStanding, StandFor, StandsFor, up_at, up_by}
 use Rattle.qs_world_merge.proofs.OfOneRun.{each_is_of_one_run}
@@ -38,6 +38,7 @@ use Rattle.qs_world_nodes.proofs.Places.{found, same_some}
 use Rattle.qs_world_nodes.proofs.Keeping.{each_cells}
 use Rattle.qs_world_nodes.specs.Nodes.{AreCellsIn, journal_at, journal_by, plans_of, trace_at, trace_by}
 use Rattle.qs_world_nodes.specs.Openings.{opening_over}
+use Rattle.qs_world_one.specs.StandsFor as alone
 use Rattle.qs_world_opening.proofs.Tests.{parts}
 use Rattle.qs_world_opening.specs.Scripts.{MayBegin}
 use Rattle.qs_world_packets.specs.PacketMoves.{is_in_order}
@@ -148,12 +149,42 @@ module _ {D : Type 0} (told : Type 0) (state : D → DiskState) (o : Opening) (p
       (subst (λ (l : List Entry). StandsFor (book_after (book_of o) l) k (one.world.network.up k) (present.value.inc + 1) (one.world.hosts k).log) (one.journal journal entries)
       (each_run_stands o (untimed one.moves) one.world k last_stamp (present.value.inc + 1) opens one.run order (subst (λ (i : ℕ). i < present.value.inc + 1) (sym same.network.inc) its.later))))
 
+  -- of the only node
+  chosen_stands_alone : o.size ≡ 1 → k ≡ 0 → (journal : List Entry) → IsMerged (journals_of o.size observed) journal → alone.StandsFor (book_after (book_of o) journal) (up_at sites k) (present.value.inc + 1) records
+  chosen_stands_alone single first journal entries = subst (λ (l : List Record). alone.StandsFor (book_after (book_of o) journal) (up_at sites k) (present.value.inc + 1) l) (ap (λ (h : Host). h.log) same.host ∙ sym its.log_is)
+      (subst (λ (b : Bool). alone.StandsFor (book_after (book_of o) journal) b (present.value.inc + 1) (one.world.hosts k).log) (same.network.up ∙ its.up_is)
+      (subst (λ (l : List Entry). alone.StandsFor (book_after (book_of o) l) (one.world.network.up k) (present.value.inc + 1) (one.world.hosts k).log) (one.journal journal entries)
+      (at_first k (sym first) order (subst (λ (i : ℕ). i < present.value.inc + 1) (sym same.network.inc) its.later))))
+    where
+      at_first : (j : ℕ) → 0 ≡ j → is_in_order one.world j last_stamp ≡ true → one.world.network.inc j < present.value.inc + 1 → alone.StandsFor (book_after (book_of o) one.world.journal) (one.world.network.up j) (present.value.inc + 1) (one.world.hosts j).log
+      at_first j zero_is ordered below = subst (λ (i : ℕ). is_in_order one.world i last_stamp ≡ true → one.world.network.inc i < present.value.inc + 1
+          → alone.StandsFor (book_after (book_of o) one.world.journal) (one.world.network.up i) (present.value.inc + 1) (one.world.hosts i).log) zero_is
+          (λ in_order under. each_run_stands_alone o (untimed one.moves) one.world last_stamp (present.value.inc + 1) opens one.run single in_order under) ordered below
+
 pub each_cells_stand : {D : Type 0} (told : Type 0) (state : D → DiskState) (o : Opening) (plans : ℕ → ℕ → List LinkFault) (sites : List (Cast D)) (journal : List Entry) → CellsLeaveStanding told state o plans sites journal
-each_cells_stand told state o plans sites journal t opens are entries k disk of_k early image at present records used log =
-    chosen_stands told state o plans sites t opens are k early (low (slice_get_within (disks_of state sites) k disk of_k)) disk of_k image at present records used log journal entries
+each_cells_stand {D} told state o plans sites journal t opens are entries = record {
+  each = λ k disk of_k early image at present records used log. chosen_stands told state o plans sites t opens are k early (low k (slice_get_within (disks_of state sites) k disk of_k)) disk of_k image at present records used log journal entries;
+  alone = λ disk only image at present records used log. chosen_stands_alone told state o plans sites t opens are 0 (no_others disk only) (low 0 (some disk only)) disk (ap (λ (l : List DiskState). slice_get l 0) only)
+      image at present records used log (single disk only) refl journal entries;
+}
   where
-    low : k < length (disks_of state sites) → k < o.size
-    low is = omega (arith, is, length-map sites (disk_state state), are.count)
+    low : (k : ℕ) → k < length (disks_of state sites) → k < o.size
+    low k is = omega (arith, is, length-map sites (disk_state state), are.count)
+
+    count : (disk : DiskState) → disks_of state sites ≡ disk ∷ [] → length sites ≡ 1
+    count disk only = sym (length-map sites (disk_state state)) ∙ ap length only
+
+    single : (disk : DiskState) → disks_of state sites ≡ disk ∷ [] → o.size ≡ 1
+    single disk only = sym are.count ∙ count disk only
+
+    some : (disk : DiskState) → disks_of state sites ≡ disk ∷ [] → 0 < length (disks_of state sites)
+    some disk only = omega (arith, length-map sites (disk_state state), count disk only)
+
+    no_others : (disk : DiskState) → disks_of state sites ≡ disk ∷ [] → HaveOthersStampsLeft sites 0
+    no_others disk only m site is apart = absurd (apart (first (slice_get_within sites m site is) (count disk only)))
+      where
+        first : m < length sites → length sites ≡ 1 → m ≡ 0
+        first under one_is = omega (arith, under, one_is)
 
 pub each_sites_stand : {D : Type 0} (told : Type 0) (state : D → DiskState) (o : Opening) (plans : ℕ → ℕ → List LinkFault) (sites : List (Cast D)) (journal : List Entry) → SitesLeaveStanding told state o plans sites journal
 each_sites_stand told state o plans sites journal t opens are entries = each_cells_stand told state o plans sites journal t opens (each_cells told state o plans sites are) entries

@@ -31,6 +31,7 @@ use Rattle.qs_world_merge.specs.Observed.{journals_of}
 use Rattle.qs_world_nodes.specs.Lawful.{HaveCoherentLogs}
 use Rattle.qs_world_nodes.specs.Nodes.{AreCellsIn, AreSitesIn, journal_at, trace_at}
 use Rattle.qs_world_nodes.specs.Openings.{SitOnce, opening_over}
+use Rattle.qs_world_one.specs.StandsFor as alone
 use Rattle.qs_world_opening.specs.Scripts.{Fits}
 use Rattle.qs_world_packets.specs.PacketMoves.{Move, is_in_order}
 use Rattle.qs_world_packets.specs.PacketRuns.{Run}
@@ -89,6 +90,16 @@ IsStanding book n up image = (present : Present) (records : List Record) (used :
 abbrev pub DisksStandFor : BookValue → (ℕ → Bool) → (ℕ → Type 0) → List DiskState → Type 0
 DisksStandFor book ups Holds disks = (n : ℕ) (disk : DiskState) → slice_get disks n ≡ Some disk → Holds n → EachImage (IsStanding book n (ups n)) disk.now
 
+-- ---- of a run of one node: nothing is crossed in it, so the machine has all of files and audit as the log says, with pending changes and locks
+
+abbrev pub EachRunStandsAlone : Type 0
+EachRunStandsAlone = (o : Opening) (moves : List Move) (world : PacketWorld) (stamp inc : ℕ) → IsOpening o → Run (start o) moves world → o.size ≡ 1 → is_in_order world 0 stamp ≡ true → world.network.inc 0 < inc
+    → alone.StandsFor (book_after (book_of o) world.journal) (world.network.up 0) inc (world.hosts 0).log
+
+-- the only disk, by whether its node is up
+abbrev pub StandsAlone : BookValue → Bool → List DiskState → Type 0
+StandsAlone book up disks = (disk : DiskState) → disks ≡ disk ∷ [] → alone.DiskStandsFor book up disk
+
 -- ---- of sites
 
 abbrev pub up_by : {D : Type 0} → Option (Cast D) → Bool
@@ -106,8 +117,9 @@ HaveOthersStampsLeft sites n = (m : ℕ) (site : Cast _) → slice_get sites m �
 abbrev pub IsTold : {D : Type 0} → ℕ → List Entry → List (Cast D) → Type 0
 IsTold size journal sites = IsMerged (journals_of size (λ k. observed_by (journal_at sites k) (trace_at sites k))) journal
 
-abbrev pub StandFor : {D : Type 0} → (D → DiskState) → Opening → List Entry → List (Cast D) → Type 0
-StandFor state o journal sites = DisksStandFor (book_after (book_of o) journal) (up_at sites) (HaveOthersStampsLeft sites) (disks_of state sites)
+pub record StandFor {D : Type 0} (state : D → DiskState) (o : Opening) (journal : List Entry) (sites : List (Cast D)) : Type 0 where
+  pub each : DisksStandFor (book_after (book_of o) journal) (up_at sites) (HaveOthersStampsLeft sites) (disks_of state sites)
+  pub alone : StandsAlone (book_after (book_of o) journal) (up_at sites 0) (disks_of state sites)
 
 -- the disks of sites in the world stand for the machine after that
 abbrev pub SitesLeaveStanding : {D : Type 0} → Type 0 → (D → DiskState) → Opening → (ℕ → ℕ → List LinkFault) → List (Cast D) → List Entry → Type 0

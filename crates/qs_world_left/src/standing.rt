@@ -6,7 +6,7 @@ ghost use Rattle.qs_book_journal.specs.declared.entry.Entry.{Entry};
 ghost use Rattle.qs_book_script.specs.declared.script.Script.{Script};
 ghost use Rattle.qs_link.specs.declared.outgoing.LinkFault.{LinkFault};
 ghost use Rattle.qs_world.specs.World.{Opening};
-ghost use Rattle.qs_world_left.specs.Standing.{CellsLeaveStanding, CutShortLeavesStanding, EachRunStands, EndingsLeaveStanding, RefusedLeavesStanding, RoundsLeaveStanding, SitesLeaveStanding};
+ghost use Rattle.qs_world_left.specs.Standing.{CellsLeaveStanding, CutShortLeavesStanding, EachRunStands, EachRunStandsAlone, EndingsLeaveStanding, RefusedLeavesStanding, RoundsLeaveStanding, SitesLeaveStanding};
 ghost use Rattle.qs_world_rounds.specs.Rounds.{Cast};
 ghost use Rattle.qs_world_rounds.specs.declared.rounds.Ending.{Ending};
 ghost use Rattle.qs_world_sites.specs.Sites.{SitesValue};
@@ -16,13 +16,14 @@ use qs_disk::Disk;
 use qs_world_opening::what_fits_may_begin;
 
 /// The log of each node of a run of packets stands for the machine after its journal: the node may stop where it is up, and restart over it in a later
-/// incarnation, and the machine has of it then what the log says.
+/// incarnation, and the machine has of it then what the log says; in a run of one node all of files and audit, with pending changes and locks.
 pub fn packet_runs_leave_standing_logs()
-    ensures { EachRunStands }
+    ensures each { EachRunStands }
+    ensures alone { EachRunStandsAlone }
 {}
 
 /// Whichever image a power cut leaves of the disk of a node of a run, its log stands for the machine after all that the cells tell, merged, whether the node is
-/// up or down. No other node has come to the last stamp.
+/// up or down, if no other node has come to the last stamp. That of the only node of a run does with pending changes and locks.
 pub fn runs_leave_standing_disks<D: Disk>()
     ensures sites { (o : Opening) (plans : ℕ → ℕ → List LinkFault) (sites : List (Cast D)) (journal : List Entry) → SitesLeaveStanding D.told D.state o plans sites journal }
     ensures rounds { (alloc : Global) (script : Script) (disks : List D) (rng later : Lcg) (n : ℕ) (all new : SitesValue D) (journal : List Entry)

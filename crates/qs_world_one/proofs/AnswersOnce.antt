@@ -1,12 +1,10 @@
 -- A step answers each client once at most, and only the command that waits, under the number of its line.
-use Rattle.std.proofs.Common.{◌≡◌, ◌∙◌, ℕ, ◌==◌, Bool, true, false, List, [], ◌∷◌, ◌++◌, Option, Some, None, refl, ap, sym, subst, fold, arith, cond, append-nil}
+use Rattle.std.proofs.Common.{◌≡◌, ◌∙◌, ℕ, ◌==◌, Bool, true, false, List, [], ◌∷◌, ◌++◌, Option, Some, None, refl, ap, sym, subst, arith, cond, append-nil}
 use Rattle.std.proofs.lemmas.Bool.Decides.{nat_tests}
 use Rattle.std.proofs.lemmas.List.Elements.{filter-append}
 use Rattle.std.specs.BTreeMap.{is_at}
 use Rattle.std.specs.Map.{lookup, remove_entry, set_value}
-use Rattle.std.specs.Prelude.{if◌then◌else◌}
 use Rattle.qs_base.specs.declared.identifiers.ClientNo.{ClientNo}
-use Rattle.qs_base.specs.declared.identifiers.Tid.{Tid}
 use Rattle.qs_book_journal.specs.declared.entry.Act.TheVariants as acts
 use Rattle.qs_node_step.specs.Commands.{with_issued}
 use Rattle.qs_node_step.specs.declared.state.Issued.{Issued}
@@ -15,13 +13,10 @@ use Rattle.qs_book_laws.proofs.Rising.{IsBelow, IsRising, remove_rises, removed}
 use Rattle.qs_world_lawful.proofs.Answers.{client_exact}
 use Rattle.qs_world_lawful.proofs.OtherShares.{removed_apart}
 use Rattle.qs_ops.specs.declared.answer.Answer.{Answer}
-use Rattle.qs_node_step.specs.Asking.{where_undecided}
 use Rattle.qs_node_step.specs.Bringing.{answer}
-use Rattle.qs_node_step.specs.State.{Work, client_cmp, part_of}
+use Rattle.qs_node_step.specs.State.{Work, client_cmp}
 use Rattle.qs_node_step.specs.declared.event.ClientAnswer.{ClientAnswer}
 use Rattle.qs_node_step.specs.declared.state.OpenCommand.{OpenCommand}
-use Rattle.qs_tm.specs.Participant.{is_undecided}
-use Rattle.qs_tm.specs.declared.participant.Participant.{Participant}
 use Rattle.qs_world_one.specs.Showing.{Waiting, answers_to, is_to, its_line, line_of}
 
 -- what becomes of a client: its line waits on, or is answered
@@ -80,32 +75,10 @@ still = record { rising = λ r. r; fate = λ r. Waits refl refl }
 pub after : {k : ClientNo} {es ds cs : Waiting} {s t u : List ClientAnswer} → Went k ds cs t u → Went k es ds s t → Went k es cs s u
 after b a = record { rising = λ r. b.rising (a.rising r); fate = λ r. joined (a.fate r) (b.fate (a.rising r)) }
 
--- what answers nobody and leaves the commands that wait
-pub quietly : {k : ClientNo} {cs ds : Waiting} {s t : List ClientAnswer} → ◌≡◌ {A = Waiting × List ClientAnswer} (ds, t) (cs, s) → Went k cs ds s t
-quietly {k} {cs} {ds} {s} {t} q = record {
-  rising = λ r. subst (IsRising client_cmp) (sym (ap (λ (p : Waiting × List ClientAnswer). p.0) q)) r;
-  fate = λ r. Waits (ap (λ (p : Waiting × List ClientAnswer). its_line k p.0) q) (ap (λ (p : Waiting × List ClientAnswer). answers_to k p.1) q);
-}
-
 abbrev pub Goes : ClientNo → Work → Work → Type 0
 Goes k work new = Went k work.node.commands new.node.commands work.out.answers new.out.answers
 
 module _ (k : ClientNo) where
-  pub if_goes : (b : Bool) (x y work : Work) → Goes k work x → Goes k work y → Goes k work (if b then x else y)
-  if_goes true x y work p q = p
-  if_goes false x y work p q = q
-
-  pub elim_goes : {A : Type 0} (o : Option A) (n : Work) (f : A → Work) (work : Work) → Goes k work n → ((x : A) → Goes k work (f x)) → Goes k work (elim o [ None ↦ n | Some x ↦ f x ])
-  elim_goes None n f work p q = p
-  elim_goes (Some x) n f work p q = q x
-
-  pub fold_goes : {A : Type 0} (f : Work → A → Work) → ((w : Work) (x : A) → Goes k w (f w x)) → (xs : List A) (work : Work) → Goes k work (fold f work xs)
-  fold_goes f each [] work = still
-  fold_goes f each (x ∷ xs) work = after (fold_goes f each xs (f work x)) (each work x)
-
-  pub undecided_goes : (tid : Tid) (rule : Participant → Work → Work) (work : Work) → ((part : Participant) → Goes k work (rule part work)) → Goes k work (where_undecided tid rule work)
-  undecided_goes tid rule work each = elim_goes (part_of tid work) work (λ part. if is_undecided part then rule part work else work) work still (λ part. if_goes (is_undecided part) (rule part work) work work (each part) still)
-
   -- a value that waits for a client is set, or goes
   set_goes : (client : ClientNo) (waits : Waiting) (said : List ClientAnswer) (command new : OpenCommand) → lookup (is_at (client_cmp client)) waits ≡ Some command → new.line.line ≡ command.line.line
       → Went k waits (set_value (is_at (client_cmp client)) waits new) said said

@@ -1,9 +1,10 @@
 -- What carrying and visits leave joined.
 use Rattle.std.proofs.Common.{◌≡◌, ◌∙◌, ◌<◌, ap, subst, sym, refl, ℕ, zero, suc, Bool, false, ◌≤◌, List, [], ◌∷◌, length, get_or, arith}
-use Rattle.std.specs.Prelude.{◌↔◌, Option, Some, None, Result, Ok, Err, IfOk, slice_get, slice_set}
+use Rattle.std.specs.Prelude.{◌↔◌, Option, Some, None, Result, Ok, Err, IfOk, OnOk, slice_get, slice_set}
 use Rattle.qs_base.specs.declared.identifiers.ClientNo.{ClientNo}
 use Rattle.qs_base.specs.declared.memory.NoMemory.{NoMemory}
 use Rattle.qs_cell.specs.Joined.{StayJoined}
+use Rattle.qs_cell_peers.specs.Links.{IsSameNode, LinksValue}
 use Rattle.qs_client.specs.Progress.{to_send}
 use Rattle.qs_client.specs.Turns.{HearsThenSends}
 use Rattle.qs_client.specs.declared.cell.ClientCell.{ClientCell}
@@ -85,9 +86,6 @@ stays_on a b c first second = record {
   answers = λ client draw sends. second.answers client draw (first.answers client draw sends);
 }
 
-pub stays_as : (a b : List NodeEnds) → b ≡ a → StayJoined a b
-stays_as a b is = subst (StayJoined a) (sym is) (record { commands = λ client feed sends. sends; answers = λ client draw sends. sends })
-
 pub one_stays : (old new : List NodeEnds) (client : ClientCell) → StayJoined old new → IsJoined old client → IsJoined new client
 one_stays old new client stays joined = record {
   commands = stays.commands client.client client.commands joined.commands;
@@ -148,3 +146,14 @@ visited_at clients at d here new (Err e) less is turn idle number commands answe
 pub visited_none : (clients : List ClientCell) (at : ℕ) → length clients ≤ at → ClientVisitAt at (slice_get clients at) clients clients false
 visited_none clients at less =
     subst (λ (c : Option ClientCell). ClientVisitAt at c clients clients false) (sym (slice_get_none clients at less)) (refl, refl)
+
+-- ---- the links stay whose they are
+
+pub same_by : (old new : LinksValue) → new ≡ old → IsSameNode old new
+same_by old new is = record { size = ap (λ (v : LinksValue). v.size) is; me = ap (λ (v : LinksValue). v.me) is }
+
+-- ---- what follows of a result that is Ok
+
+pub on_ok_map : {T E A B : Type 0} (result : Result T E) → OnOk result A → (A → B) → OnOk result B
+on_ok_map (Ok t) a f = f a
+on_ok_map (Err e) a f = a

@@ -27,20 +27,11 @@ seated_more script (c ∷ clients) (e ∷ ends) client end all one = (all.0, sea
 seated_more script [] (e ∷ ends) client end all one = absurd all
 seated_more script (c ∷ clients) [] client end all one = absurd all
 
-numbers_more : (clients : List ClientCell) (client : ClientCell) → map number_of (clients ++ client ∷ []) ≡ map number_of clients ++ client.client ∷ []
-numbers_more [] client = refl
-numbers_more (c ∷ clients) client = ap (λ (l : List ClientNo). c.client ∷ l) (numbers_more clients client)
-
 pub seats_after : (script : Script) (number : ClientNo) (clients new_clients : List ClientCell) (ends new_ends : List NodeEnds)
     → IsOneMore script number clients ends new_clients new_ends → AreSeated script clients ends → AreSeated script new_clients new_ends
 seats_after script number clients new_clients ends new_ends more all =
     subst (λ (l : List ClientCell). AreSeated script l new_ends) (sym more.clients_are)
     (subst (AreSeated script (clients ++ more.client ∷ [])) (sym more.ends_are) (seated_more script clients ends more.client more.end all more.seat))
-
-pub numbers_after : (script : Script) (number : ClientNo) (clients new_clients : List ClientCell) (ends new_ends : List NodeEnds)
-    → IsOneMore script number clients ends new_clients new_ends → map number_of new_clients ≡ map number_of clients ++ number ∷ []
-numbers_after script number clients new_clients ends new_ends more =
-    ap (map number_of) more.clients_are ∙ numbers_more clients more.client ∙ ap (λ (n : ClientNo). map number_of clients ++ n ∷ []) more.number_is
 
 -- the one that is made
 pub one_more : (script : Script) (number : ClientNo) (lines given : List ScriptLine) (cell : ClientCell) (commands : FeedValue ScriptLine) (answers : DrawValue LineAnswer)

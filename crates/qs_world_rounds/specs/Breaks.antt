@@ -1,13 +1,12 @@
 -- A round that is cut short: the disk of the node failed as the node was started again, or memory was refused.
-use Rattle.std.specs.Prelude.{◌≡◌, ◌⊎◌, ℕ, zero, suc, Bool, true, false, List, Err}
+use Rattle.std.specs.Prelude.{◌≡◌, ◌⊎◌, ℕ, zero, suc, Bool, true, false, Err}
 use Rattle.qs_base.specs.Causes.{Rose}
 use Rattle.qs_cell.specs.Starts.{CellValue, post_of}
 use Rattle.qs_cell.specs.State.{StartsAgain, cause_of, disk_of}
 use Rattle.qs_cell.specs.WholeVisits.{Breaks, Visits}
 use Rattle.qs_cell.specs.declared.state.RestartFault.TheVariants as restart_faults
 use Rattle.qs_disk.specs.Disk.{DiskState}
-use Rattle.qs_world_rounds.specs.Repeats.{VisitsUpTo}
-use Rattle.qs_world_rounds.specs.Rounds.{Cast, CarriesAll, IsSameStart, VisitAt, is_refused, is_up}
+use Rattle.qs_world_rounds.specs.Rounds.{Cast, IsSameStart, is_refused, is_up}
 
 -- what the disk itself has counted
 abbrev pub own_faults : {D : Type 0} → (D → ℕ) → CellValue D → ℕ
@@ -27,19 +26,6 @@ abbrev pub FailsAt : {D : Type 0} → Type 0 → (D → DiskState) → (D → �
 FailsAt told state own size zero old new = NodeFails told state own size old.node new.node × (new.clients ≡ old.clients)
 FailsAt told state own size (suc at) old new = ⊥
 
--- those before a place were visited, and this came of the visit there
-abbrev pub VisitsUntil : {D : Type 0} → Type 0 → (D → DiskState) → (D → ℕ) → (D → ℕ) → (ℕ → Cast D → Cast D → Type 0) → List ℕ → Cast D → Cast D → Type 0
-VisitsUntil told state own size Comes places old new = VisitsUpTo (VisitAt told state own size) Comes places old new
-
-abbrev pub VisitSome : {D : Type 0} → Type 0 → (D → DiskState) → (D → ℕ) → (D → ℕ) → List ℕ → Cast D → Cast D → Type 0
-VisitSome told state own size places old new = VisitsUntil told state own size (FailsAt told state own size) places old new
-
-pub record BreaksRound {D : Type 0} (told : Type 0) (state : D → DiskState) (own size : D → ℕ) (order : List ℕ) (old new : Cast D) : Type 0 where
-  pub carried : Cast D
-  pub carries : CarriesAll old.node carried.node old.clients carried.clients
-  pub visits : VisitSome told state own size order carried new
-  pub rose : Rose old.node.faults (own_faults own new.node)
-
 -- ---- memory was refused
 
 -- within the visit of a node that is up, be it within a step, which is then cut off or not made; or as one that is down was started again
@@ -53,9 +39,3 @@ NodeRefusedIf false told state own size old new =
 abbrev pub RefusedAt : {D : Type 0} → Type 0 → (D → DiskState) → (D → ℕ) → (D → ℕ) → ℕ → Cast D → Cast D → Type 0
 RefusedAt told state own size zero old new = NodeRefusedIf (is_up old.node) told state own size old.node new.node
 RefusedAt told state own size (suc at) old new = new.node ≡ old.node
-
--- as the round began, so that the node is as it was, or in a visit
-abbrev pub RefusesRound : {D : Type 0} → Type 0 → (D → DiskState) → (D → ℕ) → (D → ℕ) → List ℕ → Cast D → Cast D → Type 0
-RefusesRound told state own size order old new =
-    (new.node.seat.node ≡ old.node.seat.node)
-    ⊎ ((carried : Cast _) × (CarriesAll old.node carried.node old.clients carried.clients × VisitsUntil told state own size (RefusedAt told state own size) order carried new))

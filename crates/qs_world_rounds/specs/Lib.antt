@@ -4,8 +4,6 @@ pub mod Repeats
 pub mod Rounds
 -- A round that is cut short.
 pub mod Breaks
--- How the rounds of a run end.
-pub mod Endings
 -- The lanes between the node and its clients.
 pub mod Lanes
 -- The actors as a run begins.

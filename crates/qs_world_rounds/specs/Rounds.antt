@@ -1,6 +1,6 @@
--- The actors of a run of one node, and its rounds: what is carried, who is visited, and when a round is quiet.
-use Rattle.std.specs.Prelude.{◌≡◌, ◌↔◌, ℕ, zero, suc, ◌+◌, ◌==◌, Bool, true, false, not, ◌&&◌, ◌||◌, List, [], ◌∷◌, length, is_none, Option, Some, None, Ok, slice_get, slice_set}
-use Rattle.std.specs.List.{count_by, list_all}
+-- The actors of a node: what is carried between them, who is visited, and where they stand.
+use Rattle.std.specs.Prelude.{◌≡◌, ◌↔◌, ℕ, zero, suc, Bool, true, false, ◌&&◌, ◌||◌, List, [], ◌∷◌, is_none, Option, Some, None, Ok, slice_get, slice_set}
+use Rattle.std.specs.List.{list_all}
 use Rattle.qs_cell.specs.Starts.{CellValue, journal_of, post_of, trace_of}
 use Rattle.qs_cell.specs.State.{StartsAgain, cause_of, is_settled_node, rounds_of}
 use Rattle.qs_cell.specs.Visits.{has_noted}
@@ -13,17 +13,12 @@ use Rattle.qs_disk.specs.Disk.{DiskState}
 use Rattle.qs_book_journal.specs.declared.entry.CrashCause.{CrashCause}
 use Rattle.qs_book_journal.specs.declared.entry.CrashCause.TheVariants as causes
 use Rattle.qs_link.specs.Lanes.{ends_of, CarriesIn, CarriesOut}
-use Rattle.qs_world_rounds.specs.Repeats.{AllVisits, RoundsBy}
-use Rattle.rand_pcg.specs.Lcg.{Lcg}
+use Rattle.qs_world_rounds.specs.Repeats.{AllVisits}
 
 -- the node, and its clients by number
 pub record Cast (D : Type 0) : Type 0 where
   pub node : CellValue D
   pub clients : List ClientCell
-
--- how many actors there are
-abbrev pub count_of : {D : Type 0} → Cast D → ℕ
-count_of cast = length cast.clients + 1
 
 abbrev pub is_up : {D : Type 0} → CellValue D → Bool
 is_up cell = is_none (cause_of cell.seat.node)
@@ -106,29 +101,11 @@ VisitAt told state own size (suc at) old new did =
 abbrev pub VisitAll : {D : Type 0} → Type 0 → (D → DiskState) → (D → ℕ) → (D → ℕ) → List ℕ → Cast D → Cast D → Bool → Type 0
 VisitAll told state own size places old new did = AllVisits (VisitAt told state own size) places old new did
 
--- ---- a round
-
--- it is quiet where the node was up as it began and nothing was done in it
-pub record IsRound {D : Type 0} (told : Type 0) (state : D → DiskState) (own size : D → ℕ) (order : List ℕ) (old new : Cast D) (quiet : Bool) : Type 0 where
-  pub carried : Cast D
-  pub carries : CarriesAll old.node carried.node old.clients carried.clients
-  pub did : Bool
-  pub visits : VisitAll told state own size order carried new did
-  pub quiet_is : quiet ≡ (is_up old.node && not did)
-
--- so many rounds, in orders that are drawn one after the other
-abbrev pub Rounds : {D : Type 0} → Type 0 → (D → DiskState) → (D → ℕ) → (D → ℕ) → Lcg → ℕ → Cast D → Cast D → Lcg → Type 0
-Rounds told state own size rng n old new later = RoundsBy count_of (IsRound told state own size) rng n old new later
-
 -- ---- how often the node is visited
 
 -- the visits and restarts of the node so far
 abbrev pub visits_of : {D : Type 0} → Cast D → ℕ
 visits_of cast = rounds_of cast.node.seat.node
-
--- how often the node stands in an order
-abbrev pub node_turns : List ℕ → ℕ
-node_turns order = count_by (λ place. place == 0) order
 
 -- ---- where the actors stand
 

@@ -24,21 +24,10 @@ use Rattle.qs_book_script.specs.declared.script.Seat.{Seat}
 
 -- ---- the node
 
--- how many nodes a run has, and the one
-abbrev pub node_count : ℕ
-node_count = 1
-
-abbrev pub first_node : NodeNo
-first_node = record { 0 = 0 }
-
 -- links of a node, in a run of so many
 pub record AreLinksOf (size : ℕ) (node : NodeNo) (links : LinksValue) : Type 0 where
   pub size_is : links.size ≡ size
   pub me : links.me ≡ node
-
--- the only node has none
-abbrev pub IsAlone : LinksValue → Type 0
-IsAlone links = AreLinksOf node_count first_node links
 
 -- what a script has planned for a node
 abbrev pub plan_of : NodeNo → List FaultLine → NodePlan
@@ -96,10 +85,6 @@ pub record BeginsAt {D : Type 0} (told : Type 0) (state : D → DiskState) (own 
   pub faults : cast.node.faults ≡ own disk
   pub clients : map number_of cast.clients ≡ seated node script.seats
   pub seats : AreSeated script cast.clients cast.node.seat.ends
-
--- the only node did
-abbrev pub HasBegun : {D : Type 0} → Type 0 → (D → DiskState) → (D → ℕ) → Global → Script → D → Cast D → Type 0
-HasBegun told state own alloc script disk cast = BeginsAt told state own alloc script node_count first_node disk cast
 
 -- the disk, whether they began or not
 abbrev pub begun_disk : {D : Type 0} → Result (Cast D) (CellOpen D) → FusedValue D

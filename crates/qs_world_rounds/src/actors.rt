@@ -1,15 +1,15 @@
-//! The actors of a run of one node: the node and its clients. In a round each is visited once.
-ghost use Rattle.std.specs.Prelude.{◌≡◌, true, ◌<◌, ◌+◌, ◌&&◌, ◌||◌, not, IfOk, OnOk, Err};
+//! The actors of a node, itself and its clients, in a round of which each is visited once.
+ghost use Rattle.std.specs.Prelude.{◌≡◌, true, ◌<◌, IfOk, OnOk, Err};
 ghost use Rattle.qs_base.specs.declared.identifiers.NodeNo.{NodeNo};
 ghost use Rattle.qs_cell.specs.Logged.{most_rounds};
 ghost use Rattle.qs_cell.specs.Starts.{journal_of};
 ghost use Rattle.qs_cell.specs.Visits.{Grows};
 ghost use Rattle.qs_cell_peers.specs.Links.{CarriesLink, StayLinked, into_of, is_peer_of, out_of};
 ghost use Rattle.qs_link.specs.Lane.{IsLane};
-ghost use Rattle.qs_world_rounds.specs.Breaks.{BreaksRound, FailsAt, RefusedAt, RefusesRound, VisitSome, VisitsUntil};
+ghost use Rattle.qs_world_rounds.specs.Breaks.{FailsAt, RefusedAt};
 ghost use Rattle.qs_world_rounds.specs.Lanes.{AreJoined};
 ghost use Rattle.std.specs.List.{list_all};
-ghost use Rattle.qs_world_rounds.specs.Rounds.{IsRound, has_ended, IsSameStart, VisitAt, VisitAll, CarriesAll, all_ended, are_settled, count_of, node_turns, visits_of};
+ghost use Rattle.qs_world_rounds.specs.Rounds.{has_ended, IsSameStart, VisitAt, CarriesAll, all_ended, are_settled, visits_of};
 ghost use Rattle.qs_world_rounds.specs.declared.faults.RoundFault.TheVariants as faults;
 
 use crate::faults::RoundFault;
@@ -27,13 +27,6 @@ use std::marker::Model;
 pub struct Actors<D: Disk> {
     node: NodeCell<D>,
     clients: Vec<ClientCell>,
-}
-
-/// How a round ended.
-#[derive(Clone, Copy)]
-pub struct RoundEnd {
-    /// The node was up as it began and made no entry but those of ticks, it sent no packet, and no client made a step.
-    pub quiet: bool,
 }
 
 impl<D: Disk> Model for Actors<D> {
@@ -70,35 +63,6 @@ impl<D: Disk> Actors<D> {
         self.node
     }
 
-    /// How many they are.
-    pub fn count(&self) -> usize
-        ensures { result ≡ count_of self.now }
-    {
-        self.clients.len() + 1
-    }
-
-    /// What stands in the lanes is carried to their ends, and each actor is visited once, in the order of these places. A
-    /// fault of the disk is told where the node was down and could not be started again for it; it comes only where the
-    /// disk's own count of faults rose since it was handed in. `NoMemory` comes where memory was refused, be it within a step
-    /// of the node; each visit before that was made. `Damaged` comes where the log opened as damaged as the node was started
-    /// again, which over a disk that tells it never does within 2^61 - 2 visits and restarts.
-    pub fn round(&mut self, order: &[usize]) -> Result<RoundEnd, RoundFault>
-        ensures round { IfOk result (λ end. IsRound D.told D.state D.fault_count D.byte_count order.now self.old self.new end.quiet) }
-        ensures broken { (node : NodeNo) → result ≡ Err (faults.DiskFault node) → BreaksRound D.told D.state D.fault_count D.byte_count order.now self.old self.new }
-        ensures refused { result ≡ Err faults.NoMemory → RefusesRound D.told D.state D.fault_count D.byte_count order.now self.old self.new }
-        ensures damaged { D.told → result ≡ Err faults.Damaged → most_rounds < visits_of self.old + node_turns order.now }
-        ensures named { (node : NodeNo) → result ≡ Err (faults.DiskFault node) → node ≡ self.old.node.links.me }
-        ensures start { IsSameStart self.old.node self.new.node }
-        ensures grows { Grows (journal_of self.old.node) (journal_of self.new.node) }
-    {
-        let up = self.node.is_up();
-        self.carry()?;
-        let did = self.visit_all(order)?;
-        Ok(RoundEnd {
-            quiet: is_quiet(up, did),
-        })
-    }
-
     /// Moves what stands on the link from the node of other actors into the inbox of its link here, and says how many packets that
     /// then holds. After `NoMemory`, which comes where memory was refused, a front was moved and nothing is lost.
     pub fn carry_packets(&mut self, from: &mut Actors<D>) -> Result<usize, NoMemory>
@@ -120,24 +84,6 @@ impl<D: Disk> Actors<D> {
         ensures start { IsSameStart self.old.node self.new.node }
     {
         carry_all(&mut self.node, &mut self.clients)
-    }
-
-    /// The visits of the actors at these places of the order, and whether anything was done in one.
-    fn visit_all(&mut self, order: &[usize]) -> Result<bool, RoundFault>
-        ensures visits { IfOk result (VisitAll D.told D.state D.fault_count D.byte_count order.now self.old self.new) }
-        ensures broken { (node : NodeNo) → result ≡ Err (faults.DiskFault node) → VisitSome D.told D.state D.fault_count D.byte_count order.now self.old self.new }
-        ensures refused { result ≡ Err faults.NoMemory → VisitsUntil D.told D.state D.fault_count D.byte_count (RefusedAt D.told D.state D.fault_count D.byte_count) order.now self.old self.new }
-        ensures damaged { D.told → result ≡ Err faults.Damaged → most_rounds < visits_of self.old + node_turns order.now }
-        ensures named { (node : NodeNo) → result ≡ Err (faults.DiskFault node) → node ≡ self.old.node.links.me }
-        ensures start { IsSameStart self.old.node self.new.node }
-        ensures grows { Grows (journal_of self.old.node) (journal_of self.new.node) }
-    {
-        let mut did = false;
-        for place in order {
-            let more = self.visit(*place)?;
-            did = either(did, more);
-        }
-        Ok(did)
     }
 
     /// The visit of the actor at that place of the order, and whether anything was done in it.
@@ -171,19 +117,6 @@ impl<D: Disk> Actors<D> {
     {
         self.all_ended() && self.node.settled()
     }
-}
-
-/// A round is quiet where the node was up as it began and nothing was done in it.
-fn is_quiet(up: bool, did: bool) -> bool
-    ensures { result ≡ (up && not did) }
-{
-    up && !did
-}
-
-fn either(first: bool, second: bool) -> bool
-    ensures { result ≡ (first || second) }
-{
-    first || second
 }
 
 fn all_ended(clients: &[ClientCell]) -> bool

@@ -1,4 +1,4 @@
-//! The actors of a run of one node, and its rounds.
+//! The actors of one node of a run, its cell and its clients: as they begin, and as they are visited.
 #![tactic(auto)]
 
 mod actors;
@@ -8,8 +8,7 @@ mod rounds;
 mod seating;
 mod visits;
 
-pub use actors::{Actors, RoundEnd};
+pub use actors::Actors;
 pub use faults::RoundFault;
-pub use qs_world_plans::{NODE, NODE_COUNT};
-pub use rounds::{Ending, rounds_of};
-pub use seating::{sits_at, start, start_at};
+pub use rounds::{Ending, RoundEnd};
+pub use seating::{sits_at, start_at};

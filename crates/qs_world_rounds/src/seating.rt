@@ -1,16 +1,15 @@
 //! The actors of a script as a run begins: the node over its disk, and its clients at their seats.
-ghost use Rattle.std.specs.Prelude.{◌≡◌, ◌++◌, ◌≤◌, ◌<◌, ◌+◌, ℕ, length, map, IfOk, IfErr, OnOk};
+ghost use Rattle.std.specs.Prelude.{◌≡◌, ◌++◌, ◌≤◌, ◌<◌, ◌+◌, ℕ, map, IfOk, IfErr, OnOk};
 ghost use Rattle.qs_base.specs.Causes.{Rose};
 ghost use Rattle.qs_disk.specs.Moments.{Keeps};
 ghost use Rattle.qs_log_start.specs.Incarnation.{open_limit, IsTouched, MayLeaveUnraised};
-ghost use Rattle.qs_link.specs.Lane.{IsLane, on_way};
 ghost use Rattle.qs_log.specs.Image.{IsDamaged};
 ghost use Rattle.qs_log.specs.declared.fault.OpenFault.TheVariants as open_faults;
 ghost use Rattle.qs_world_rounds.specs.Lanes.{AreJoined};
-ghost use Rattle.qs_world_rounds.specs.Seats.{AreLinksOf, AreSeated, BeginsAt, HasBegun, IsAlone, IsOneMore, IsSeated, begun_disk, number_of, plan_of, seated, seated_as, sits_at};
+ghost use Rattle.qs_world_rounds.specs.Seats.{AreLinksOf, AreSeated, BeginsAt, IsOneMore, begun_disk, number_of, plan_of, seated, seated_as, sits_at};
 
 use crate::actors::Actors;
-use qs_base::{ClientNo, List, NoMemory, NodeNo};
+use qs_base::{ClientNo, NoMemory, NodeNo};
 use qs_book_script::{Script, Seat};
 use qs_cell::{CellOpen, NodeCell, NodeEnds, NodePlan};
 use qs_cell_peers::Links;
@@ -18,7 +17,7 @@ use qs_client::{ClientCell, ClientEnds};
 use qs_disk::{Disk, Fused};
 use qs_link::lane;
 use qs_log::OpenFault;
-use qs_world_plans::{NODE, NODE_COUNT, commands_of, crashes_of, points_of, setting_of, stops_of};
+use qs_world_plans::{commands_of, crashes_of, points_of, setting_of, stops_of};
 use std::alloc::Global;
 
 /// No client of a script has a number as great as this.
@@ -32,27 +31,6 @@ const NOT_RAISED: u64 = 0;
 struct Seated {
     clients: Vec<ClientCell>,
     ends: Vec<NodeEnds>,
-}
-
-/// The only node of a run opens the log of its disk, whose slots stand below 2^61, and raises its incarnation, and the clients of
-/// the script stand at the first of their lines. Where the log is not opened the disk is handed back, as of `start_at`.
-pub fn start<D: Disk>(
-    alloc: Global,
-    script: &Script,
-    disk: Fused<D>,
-) -> Result<Actors<D>, CellOpen<D>>
-    ensures begun { IfOk result (HasBegun D.told D.state D.fault_count alloc script.now disk.disk) }
-
-    // Why they do not begin.
-    ensures damaged { D.told → IfErr result (λ back. (at : ℕ) → back.why ≡ open_faults.Damaged at → IsDamaged open_limit (D.state disk.disk).content at) }
-    ensures failed { IfErr result (λ back. back.why ≡ open_faults.DiskFailed → Rose (D.fault_count disk.disk) (D.fault_count back.disk.disk)) }
-
-    // The disk is changed at most by the raise, and where it failed a power cut may still leave it unraised.
-    ensures moments { D.told → Keeps (IsTouched (D.state disk.disk)) (D.state disk.disk) (D.state (begun_disk result).disk) }
-    ensures kept { D.told → IfErr result (λ back. back.why ≡ open_faults.DiskFailed → MayLeaveUnraised (D.state disk.disk) (D.state back.disk.disk)) }
-    ensures size { D.byte_count (begun_disk result).disk ≡ D.byte_count disk.disk }
-{
-    start_at(alloc, script, NODE_COUNT, NODE, no_links(alloc), disk)
 }
 
 /// A node of a run of so many opens the log of its disk, whose slots stand below 2^61, and raises its incarnation, and the clients
@@ -95,13 +73,6 @@ pub fn start_at<D: Disk>(
         Ok(node) => Ok(Actors::new(node, clients)),
         Err(back) => Err(back),
     }
-}
-
-/// The only node of a run has no links.
-fn no_links(alloc: Global) -> Links
-    ensures { IsAlone result }
-{
-    Links::new(NODE, List::new(alloc), List::new(alloc))
 }
 
 fn made_ready(alloc: Global, script: &Script, node: NodeNo) -> Result<(Seated, NodePlan), NoMemory>

@@ -7,8 +7,7 @@ use Rattle.qs_link.specs.declared.ends.NodeEnds.{NodeEnds}
 use Rattle.qs_session_channels.specs.Network.{Among}
 use Rattle.qs_world_merge.proofs.Members.{among_map, map_among}
 use Rattle.qs_world_one.proofs.Numbers as one
-use Rattle.qs_world_one.specs.Acting as one_acting
-use Rattle.qs_world_one.specs.Carrying.{AreApart}
+use Rattle.qs_world_one.specs.Seats.{AreApart}
 use Rattle.qs_world_one.specs.Seats as one_seats
 use Rattle.qs_world_rounds.specs.Seats.{number_of}
 use Rattle.qs_world_seats.specs.Seats.{HasCell}
@@ -48,5 +47,5 @@ lanes_as olds news befores afters lanes clients all end there =
     let it : one_seats.HasCell end.client afters = one.of_clients_on olds news befores afters lanes clients as_one end there in
     record { cell = it.cell; there = it.there; is = it.is }
   where
-    as_one : one_acting.AreOfClients olds befores
+    as_one : one_seats.AreOfClients olds befores
     as_one e at = let it : HasCell e.client befores = all e at in record { cell = it.cell; there = it.there; is = it.is }

@@ -19,7 +19,7 @@ use Rattle.qs_world.specs.World.{Client, Opening}
 use Rattle.qs_world_one.proofs.Clients.{each_answers_carried, each_commands_carried}
 use Rattle.qs_world_one.proofs.Handing.{found_changed, found_other}
 use Rattle.qs_world_one.proofs.Numbers.{clients_numbers}
-use Rattle.qs_world_one.specs.Carrying.{AreApart}
+use Rattle.qs_world_one.specs.Seats.{AreApart}
 use Rattle.qs_world_one.specs.Clients.{ShowsClient}
 use Rattle.qs_world_one.specs.Showing.{ShowsIn, held_for}
 use Rattle.qs_world_rounds.specs.Rounds.{CarriesAll, CarriesBoth}

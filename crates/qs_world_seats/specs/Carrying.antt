@@ -5,7 +5,7 @@ use Rattle.qs_cell.specs.Starts.{CellValue}
 use Rattle.qs_client.specs.declared.cell.ClientCell.{ClientCell}
 use Rattle.qs_disk.specs.Disk.{DiskState}
 use Rattle.qs_world.specs.World.{Opening}
-use Rattle.qs_world_one.specs.Carrying.{AreApart}
+use Rattle.qs_world_one.specs.Seats.{AreApart}
 use Rattle.qs_world_rounds.specs.Rounds.{CarriesAll, ClientVisitAt}
 use Rattle.qs_world_seats.specs.Visiting.{PostInWorld}
 

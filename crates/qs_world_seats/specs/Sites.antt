@@ -14,7 +14,7 @@ use Rattle.qs_log.specs.Log.{LogValue}
 use Rattle.qs_node_step.specs.declared.setting.Setting.{Setting}
 use Rattle.qs_session_channels.specs.Network.{Among}
 use Rattle.qs_world.specs.World.{Opening}
-use Rattle.qs_world_one.specs.Carrying.{AreApart}
+use Rattle.qs_world_one.specs.Seats.{AreApart}
 use Rattle.qs_world_plans.specs.Plan.{commands_of}
 use Rattle.qs_world_plans.specs.Waiting.{client_count}
 use Rattle.qs_world_rounds.specs.Breaks.{FailsAt}

@@ -1,13 +1,11 @@
 -- How what a run made is judged, before its output is given.
 use Rattle.std.specs.Prelude.{◌≡◌, ◌⊎◌, ℕ, List, Some, None, Result, Ok, Err}
 use Rattle.qs_base.specs.declared.identifiers.NodeNo.{NodeNo}
-use Rattle.qs_base.specs.declared.memory.NoMemory.{NoMemory}
 use Rattle.qs_book_conformance.specs.Conforming.{Conforms}
 use Rattle.qs_book_journal.specs.declared.entry.Entry.{Entry}
 use Rattle.qs_log.specs.declared.fault.OpenFault.{OpenFault}
 use Rattle.qs_log.specs.declared.fault.OpenFault.TheVariants as faults
 use Rattle.qs_book_machine.specs.Book.{BookValue}
-use Rattle.qs_book_machine.specs.declared.opened.Opened.{Opened}
 use Rattle.qs_world_plans.specs.Waiting.{waiting_of}
 use Rattle.qs_world_rounds.specs.declared.faults.RoundFault.{RoundFault}
 use Rattle.qs_world_rounds.specs.declared.faults.RoundFault.TheVariants as round_faults
@@ -18,7 +16,7 @@ use Rattle.qs_book_script.specs.declared.status.Status.TheVariants as statuses
 use Rattle.qs_node_step.specs.declared.trace.Step.{Step}
 use Rattle.qs_top.specs.Ends.{status_of}
 use Rattle.qs_top.specs.Verdicts.{IsRefusal, IsRefusedAt}
-use Rattle.qs_top.specs.Run.{IsNothing, machine_over, output_from}
+use Rattle.qs_top.specs.Run.{IsNothing, output_from}
 use Rattle.qs_top.specs.declared.whole.RunMade.{RunMade}
 use Rattle.qs_text.specs.declared.given.Shown.{Shown}
 
@@ -75,8 +73,3 @@ IsMadeFrom script shown (Ok ending) book journal trace made = IsJudgedEnd script
 IsMadeFrom script shown (Err (round_faults.DiskFault node)) book journal trace made = IsJudgedShort script node book journal trace made
 IsMadeFrom script shown (Err round_faults.Damaged) book journal trace made = IsOutOfMemory made
 IsMadeFrom script shown (Err round_faults.NoMemory) book journal trace made = IsOutOfMemory made
-
--- of the only node, where memory was had for what its log held
-abbrev pub IsMadeOf : Script → Shown → Result Ending RoundFault → Result Opened NoMemory → List Entry → List Step → RunMade → Type 0
-IsMadeOf script shown ending (Ok opened) journal trace made = IsMadeFrom script shown ending (machine_over opened) journal trace made
-IsMadeOf script shown ending (Err fault) journal trace made = IsOutOfMemory made

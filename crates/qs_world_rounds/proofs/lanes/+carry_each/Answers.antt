@@ -1,8 +1,7 @@
 use Rattle.std.proofs.Common.{◌≡◌, subst, sym, rules, ◌∷◌}
 use Rattle.qs_world_rounds.specs.Lanes.{AllJoined}
 use Rattle.qs_world_rounds.specs.Rounds.{CarriesAll}
-use Rattle.qs_world_rounds.proofs.Joining.{all_stay, one_stays, stays_on}
-use Rattle.qs_world_rounds.proofs.Turning.{on_ok_map}
+use Rattle.qs_world_rounds.proofs.Joining.{all_stay, on_ok_map, one_stays, stays_on}
 use Rattle.qs_world_rounds.proofs.lanes.+carry_each.Goals as goal
 
 pub returns-in_err-carry_both-in-Some-clause-each : goal.returns-in_err-carry_both-in-Some-clause-each

@@ -1,6 +1,5 @@
 use Rattle.std.proofs.Common.{◌∙◌, refl}
-use Rattle.qs_world_rounds.proofs.Repeating.{same_by}
-use Rattle.qs_world_rounds.proofs.Joining.{carries_in_as, carries_out_as, joined_in, joined_out, stays_on}
+use Rattle.qs_world_rounds.proofs.Joining.{carries_in_as, carries_out_as, joined_in, joined_out, same_by, stays_on}
 use Rattle.qs_world_rounds.proofs.lanes.carry_both.Goals as goal
 
 pub returns-in_err-carry_commands-clause-here : goal.returns-in_err-carry_commands-clause-here
