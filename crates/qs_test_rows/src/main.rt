@@ -5,12 +5,13 @@
 //! - `histories`: histories that are judged, and neighbours of them that break a clause.
 //! - `loads`: seeds, with the load scripts that they make.
 //! - `misfits`: scripts with histories that are judged by them, and neighbours that do not conform.
-//! - `scripts`: words and scripts, with their forms, meanings and faults.
+//! - `scripts`: words and scripts, with their forms, meanings and faults; words of a run are compared with a command of `clap`.
 //! - `texts`: words, scripts and histories, printed as the values that were read.
 //!
 //! What is to be printed stands beside this program, and was derived by hand too.
 #![tactic(auto)]
 
+mod command;
 mod histories;
 mod loads;
 mod misfits;

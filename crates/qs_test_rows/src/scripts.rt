@@ -4,6 +4,7 @@
 //! and its text follows: `|TEXT` is a line, `!TEXT` a part of a line without a line feed, `*COUNT TEXT`
 //! so many equal lines, and `+COUNT TEXT` so many equal parts. Printed is what is read of each.
 
+use crate::command::compare;
 use crate::printing::print_script;
 use crate::shared::{add_line, tell_fault, words_of};
 use anyhow::{Context, Error, bail};
@@ -103,7 +104,7 @@ impl Scripts {
     }
 }
 
-/// Prints the form that words are of.
+/// Prints the form that words are of, and fails where a command of `clap` takes those of a run otherwise.
 fn print_form<R: AllocGlobal + Print>(rt: &R, line: &str) -> Result<(), Error> {
     let words = words_of(rt.alloc(), line)?;
     match read_words(words.as_slice()) {
@@ -113,7 +114,12 @@ fn print_form<R: AllocGlobal + Print>(rt: &R, line: &str) -> Result<(), Error> {
                 serial,
                 journal,
             },
-        ) => println!(rt; "  run nodes {nodes} serial {serial:?} journal {journal}")?,
+        ) => {
+            compare(rt.alloc(), words.as_slice(), nodes, serial, journal)?;
+            println!(rt;
+                "  run nodes {nodes} serial {serial:?} journal {journal}, and so by clap"
+            )?;
+        },
         Ok(Form::Check) => println!(rt; "  check")?,
         Ok(Form::Load { seed }) => println!(rt; "  load seed {seed}")?,
         Err(_) => println!(rt; "  usage")?,
