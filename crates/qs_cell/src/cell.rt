@@ -126,11 +126,21 @@ impl<D: Disk> NodeCell<D> {
         let faults = disk.own_faults();
         let log = match begin_run(alloc, disk, stops) {
             Ok(log) => log,
-            Err(LogOpen { disk, why }) => return Err(CellOpen { disk, why }),
+            Err(LogOpen { disk, why }) => {
+                drop(crashes);
+                drop(points);
+                drop(links);
+                drop(ends);
+                return Err(CellOpen { disk, why });
+            },
         };
         let Started { running, found } = match begin(alloc, log, setting, crashes, points) {
             Ok(started) => started,
-            Err(back) => return Err(back),
+            Err(back) => {
+                drop(links);
+                drop(ends);
+                return Err(back);
+            },
         };
         let first = running.carried.setting;
         Ok(NodeCell {

@@ -233,17 +233,23 @@ fn worked_out<D: Disk, F: Server, X: Server>(
         carried.points.as_slice(),
     ) {
         spend(&mut carried.points, host.kept(), out.entries.as_slice());
+        drop(out);
         return replaced(carried, occasion, CrashCause::Plan);
     }
     let put = match send(sessions, carried.chronicle.stamp(), &occasion, &out) {
         Ok(put) => put,
-        Err(fault) => return replaced(carried, occasion, cause_of(fault)),
+        Err(fault) => {
+            drop(out);
+            return replaced(carried, occasion, cause_of(fault));
+        },
     };
     if carried
         .chronicle
         .make_room(out.entries.len() + 1, 2)
         .is_err()
     {
+        drop(out);
+        drop(put);
         return replaced(carried, occasion, CrashCause::Memory);
     }
     carried_out(host, carried, occasion, out, put)
@@ -332,6 +338,8 @@ fn carried_out<D: Disk, F: Server, X: Server>(
     match host.carry_out(&out) {
         Ok(()) => whole(host, carried, occasion, out, put),
         Err(why) => {
+            drop(out);
+            drop(put);
             let cause = cut_cause(why, host.disk(), trips, own);
             cut_off(carried, occasion, cause, is_full(why))
         }
@@ -401,10 +409,14 @@ fn whole<D: Disk, F: Server, X: Server>(
         → IsOutcome D.fault_count size occasion old (outcome_of result (running_with host.now sessions carried.new)) }
 {
     let Effects {
+        records,
+        messages,
         answers,
         entries,
         ..
     } = out;
+    drop(records);
+    drop(messages);
     let kept = host.kept();
     let stops = any_stops_after(kept, entries.as_slice(), carried.points.as_slice());
     note(carried, kept, occasion, answers.as_slice(), put, entries);

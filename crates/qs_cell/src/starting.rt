@@ -18,7 +18,7 @@ use qs_log::{Log, OpenFault};
 use qs_node_host::{Host, HostOpen};
 use qs_node_kept::Kept;
 use qs_node_step::Setting;
-use qs_ops::NoServer;
+use qs_ops::{NoServer, Server};
 use qs_restart::{Recovered, recover};
 use std::alloc::Global;
 
@@ -72,10 +72,17 @@ pub fn begin<D: Disk>(
     };
     let again = match recover(alloc, log.records()) {
         Ok(again) => again,
-        Err(NoMemory) => return Err(without_memory(log)),
+        Err(NoMemory) => {
+            drop(found);
+            drop(carried);
+            return Err(without_memory(log));
+        },
     };
     let setting = carried.setting;
     let Ok(sessions) = Sessions::new(alloc, setting.node, setting.nodes, setting.inc) else {
+        drop(found);
+        drop(carried);
+        drop(again);
         return Err(without_memory(log));
     };
     let files = Files::new(alloc, setting.quota);
@@ -97,8 +104,23 @@ pub fn begin<D: Disk>(
             },
             found,
         }),
-        Err(HostOpen { log, .. }) => Err(without_memory(log)),
+        Err(back) => {
+            drop(found);
+            drop(carried);
+            drop(sessions);
+            Err(without_memory(log_of(back)))
+        },
     }
+}
+
+/// The log of a node that did not begin.
+fn log_of<D: Disk, X: Server>(back: HostOpen<Fused<D>, X>) -> Log<Fused<D>>
+    ensures { result ≡ back.log }
+{
+    let HostOpen { log, kept, extra } = back;
+    drop(kept);
+    drop(extra);
+    log
 }
 
 fn without_memory<D: Disk>(log: Log<Fused<D>>) -> CellOpen<D>
@@ -123,16 +145,28 @@ fn read<D: Disk>(
     ensures setting { IfOk result (λ read. read.1.setting ≡ setting_in log.now setting) }
     ensures seen { IfOk result (λ read. seen read.1 ≡ seen_first setting.node crashes points) }
 {
-    let found = recover(alloc, log.records())?;
+    let Ok(points) = watch(alloc, points) else {
+        drop(crashes);
+        return Err(NoMemory);
+    };
+    let Ok(chronicle) = Chronicle::new(alloc, setting.node) else {
+        drop(crashes);
+        drop(points);
+        return Err(NoMemory);
+    };
     let carried = Carried {
         setting: Setting {
             inc: log.inc(),
             ..setting
         },
-        chronicle: Chronicle::new(alloc, setting.node)?,
+        chronicle,
         commands: Map::new(alloc),
         crashes,
-        points: watch(alloc, points)?,
+        points,
+    };
+    let Ok(found) = recover(alloc, log.records()) else {
+        drop(carried);
+        return Err(NoMemory);
     };
     Ok((found, carried))
 }

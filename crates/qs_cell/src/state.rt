@@ -135,7 +135,10 @@ impl<D: Disk> CellState<D> {
     {
         let fate = match self {
             CellState::Up { running } => running.event(occasion),
-            CellState::Down { .. } => return List::new(alloc),
+            CellState::Down { .. } => {
+                drop(occasion);
+                return List::new(alloc);
+            }
         };
         match fate {
             Fate::Whole { answers } => answers,
@@ -257,7 +260,14 @@ impl<D: Disk> CellState<D> {
     {
         match self {
             CellState::Up { running } => {
-                let (disk, _, _) = running.host.into_parts();
+                let Running {
+                    host,
+                    sessions,
+                    carried,
+                } = running;
+                drop(sessions);
+                drop(carried);
+                let (disk, _, _) = host.into_parts();
                 disk
             }
             CellState::Down { stopped } => stopped.disk,

@@ -176,11 +176,18 @@ fn begin_incarnation<D: Disk, F: Server, X: Server>(
     let inc = log.inc();
     let mut rest = rest;
     let Ok(sessions) = new_sessions(alloc, &rest.carried.setting, inc) else {
+        drop(files);
+        drop(extra);
         return without_memory(rest, before, log);
     };
     let (found, act) = match read(alloc, &mut rest.carried, &log) {
         Ok(read) => read,
-        Err(NoMemory) => return without_memory(rest, before, log),
+        Err(NoMemory) => {
+            drop(files);
+            drop(extra);
+            drop(sessions);
+            return without_memory(rest, before, log);
+        },
     };
     let Rest {
         kept,
@@ -201,6 +208,8 @@ fn begin_incarnation<D: Disk, F: Server, X: Server>(
             },
         },
         Err(back) => {
+            drop(act);
+            drop(sessions);
             let rest = Rest {
                 kept: back.kept,
                 cause,
@@ -260,9 +269,12 @@ fn read<D: Disk>(
     ensures points { carried.new.points ≡ carried.old.points }
     ensures setting { carried.new.setting ≡ carried.old.setting }
 {
-    let found = recover(alloc, log.records())?;
-    let act = restart_of(alloc, log.inc(), &found)?;
     carried.chronicle.make_room(1, 1)?;
+    let found = recover(alloc, log.records())?;
+    let Ok(act) = restart_of(alloc, log.inc(), &found) else {
+        drop(found);
+        return Err(NoMemory);
+    };
     Ok((found, act))
 }
 
