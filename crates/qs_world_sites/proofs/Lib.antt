@@ -8,6 +8,8 @@ pub mod Halves
 pub mod Further
 -- The visit of one actor.
 pub mod Visiting
+-- A slice that is written back.
+pub mod Written
 -- What is planned for a link.
 pub mod Planning
 -- The ends of nodes, as one node more comes in, and the links over them.

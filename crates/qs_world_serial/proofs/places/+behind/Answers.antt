@@ -9,7 +9,7 @@ use Rattle.qs_world_serial.proofs.places.+behind.Goals as goal
 pub over_disk-returns-in-Err-clause-came : goal.over_disk-returns-in-Err-clause-came
 over_disk-returns-in-Err-clause-came g t c =
     let here : c.len.result ≡ length c.args.rest.now.seating.sites.items = first_of (search rules, omega arith) in
-    let after_is : c.in-Err.field-0.disk.disk ≡ c.into_inner.result = search rules in
+    let after_is : c.in-Err.field-0.disk.disk ≡ c.into_inner.result = sym c.into_inner.ensures in
     subst (λ (run : SerialRun). CameOf g.D.Disk.told g.D.Disk.state g.D.Disk.fault_count g.D.Disk.byte_count c.args.rest.now.course c.args.rest.now.script.now run c.args.rest.now.seating.sites.items c.join.new.seating.sites.items (c.args.disk ∷ c.args.rest.now.places.now)
     (c.into_inner.result ∷ c.args.rest.now.places.now)) (sym c.not_begun.ensures)
     (came_not g.D.Disk.told g.D.Disk.state g.D.Disk.fault_count g.D.Disk.byte_count c.args.rest.now.course c.args.rest.now.script.now (record { 0 = c.len.result }) c.in-Err.field-0.why c.args.rest.now.seating.sites.items c.join.new.seating.sites.items c.args.disk c.into_inner.result
