@@ -1,11 +1,10 @@
 //! Runs a row, and tells where it comes to none of its ends.
 
-use crate::memory::made;
-use crate::row::Row;
 use anyhow::{Context, Error, bail};
 use qs_base::{Bytes, NoMemory};
 use qs_disk::{MemDisk, is_size};
 use qs_io::{MemSink, MemSource};
+use qs_test_cases::{Row, made};
 use qs_text::status_line;
 use qs_top::run;
 use std::alloc::Global;

@@ -23,14 +23,11 @@
 //! A row is right where the run comes to one of its ends under each of its seeds, with each of its numbers.
 #![tactic(auto)]
 
-mod ends;
 mod judging;
-mod memory;
-mod row;
 
 use anyhow::{Error, bail};
 use judging::{Disks, judge};
-use row::Row;
+use qs_test_cases::Row;
 use std::io::{BufRead, BufReader};
 use std::thread::Threads;
 
