@@ -1,10 +1,11 @@
--- How many nodes a run has that the words ask for.
-use Rattle.std.proofs.Common.{◌≡◌, ◌≤◌, refl, ℕ, ◌&&◌, Bool, true, false, Option, Some, None, arith, nat_le, if◌then◌else◌}
+-- How many nodes a run has that the words ask for, and that they ask for one run alone.
+use Rattle.std.proofs.Common.{◌≡◌, ◌≤◌, ◌∙◌, refl, subst, sym, ℕ, ◌&&◌, Bool, true, false, Option, Some, None, arith, nat_le, if◌then◌else◌}
 use Rattle.std.proofs.lemmas.Bool.Decides.{nat_tests}
 use Rattle.qs_base_lemmas.proofs.Tests.{and_first, and_last}
 use Rattle.qs_text_script.specs.declared.form.Form.{Form}
 use Rattle.qs_text_script.specs.declared.form.Form.TheVariants as forms
 use Rattle.qs_top.specs.Asking.{asked_by, asked_in, serial_run, shown_with}
+use Rattle.qs_top.specs.declared.asking.Asked.{Asked}
 use Rattle.qs_top.specs.declared.asking.Asked.TheVariants as asked
 use Rattle.qs_text.specs.declared.given.Shown.{Shown}
 
@@ -47,3 +48,21 @@ some_nodes form nodes seed shown is = (few_by form nodes seed shown is).some
 
 pub few_nodes : (form : Option Form) (nodes seed : ℕ) (shown : Shown) → asked_by form ≡ Some (asked.Serial nodes seed shown) → nodes ≤ 8
 few_nodes form nodes seed shown is = (few_by form nodes seed shown is).few
+
+-- ---- one run
+
+record IsOneRun (n seed m at : ℕ) (shown other : Shown) : Type 0 where
+  nodes : n ≡ m
+  seeds : seed ≡ at
+  output : shown ≡ other
+
+one_run : (n seed m at : ℕ) (shown other : Shown) (by : Option Asked) → by ≡ Some (asked.Serial n seed shown) → by ≡ Some (asked.Serial m at other) → IsOneRun n seed m at shown other
+one_run n seed m at shown other by one also = record { nodes = cc (one, also); seeds = cc (one, also); output = cc (one, also) }
+
+-- what holds of the run that is asked for, by its nodes, its seed and what is to be shown of it, holds of any that is
+pub by_asked : (P : ℕ → ℕ → Shown → Type 0) (by : Option Asked) (n seed m at : ℕ) (shown other : Shown) → by ≡ Some (asked.Serial n seed shown) → by ≡ Some (asked.Serial m at other) → P n seed shown → P m at other
+by_asked P by n seed m at shown other one also holds = let same : IsOneRun n seed m at shown other = one_run n seed m at shown other by one also in
+    subst (λ (k : ℕ). P k at other) same.nodes (subst (λ (s : ℕ). P n s other) same.seeds (subst (P n seed) same.output holds))
+
+pub as_asked : (P : ℕ → Shown → Type 0) (by : Option Asked) (n seed m at : ℕ) (shown other : Shown) → by ≡ Some (asked.Serial n seed shown) → by ≡ Some (asked.Serial m at other) → P n shown → P m other
+as_asked P by n seed m at shown other one also holds = by_asked (λ k s given. P k given) by n seed m at shown other one also holds

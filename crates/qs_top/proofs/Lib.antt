@@ -33,3 +33,5 @@ mod TextLemmas
 mod NodesThese
 -- How many nodes are asked for.
 mod Forms
+-- What is promised of it without its rounds.
+mod Promised

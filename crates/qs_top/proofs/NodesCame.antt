@@ -9,7 +9,8 @@ use Rattle.qs_log.specs.declared.fault.OpenFault.TheVariants as open_faults
 use Rattle.qs_top.specs.Inner.CameTo.{CameTo}
 use Rattle.qs_top.specs.Inner.Making.{IsMadeFrom, IsOutOfMemory, not_opened}
 use Rattle.qs_top.specs.Inner.OverNodes.{IsMadeOfRun, IsMadeOfTold, IsOverNodes}
-use Rattle.qs_top.specs.Run.{IsNothing, machine_of}
+use Rattle.qs_top.specs.Ran.{machine_of}
+use Rattle.qs_top.specs.Run.{IsNothing}
 use Rattle.qs_top.specs.Statuses.{IfNot, IsEnd, IsOfRounds, Tells}
 use Rattle.qs_top.specs.declared.whole.RunMade.{RunMade}
 use Rattle.qs_top.proofs.StatusLemmas.{end_built, refusal_built, status_ends, status_tells}

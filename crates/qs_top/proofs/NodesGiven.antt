@@ -18,7 +18,8 @@ use Rattle.qs_top.specs.Inner.CameTo.{CameShort, CameTo, CameToEnd, CameToNoLog,
 use Rattle.qs_top.specs.Inner.Giving.{IsGiven}
 use Rattle.qs_top.specs.Inner.Making.{not_opened}
 use Rattle.qs_top.specs.Inner.OverNodes.{IsOverNodes}
-use Rattle.qs_top.specs.Run.{AreHeldBy, AreLasting, AreMerged, AreTold, IsNotBegun, IsRefused, IsShort, IsWhole, machine_of, opened_in, output_from}
+use Rattle.qs_top.specs.Ran.{AreMerged, AreToldOf, AreTraced, RanNotBegun, RanRefused, RanShort, RanWhole, machine_of, opened_in}
+use Rattle.qs_top.specs.Run.{AreHeldBy, AreLasting, output_from}
 use Rattle.qs_top.specs.Statuses.{IfNot, IsEnd, IsOfRounds}
 use Rattle.qs_top.specs.Verdicts.{IsRefusal}
 use Rattle.qs_top.specs.declared.outcome.Run.{Run}
@@ -32,7 +33,7 @@ use Rattle.qs_top.proofs.StatusLemmas.{IsFaultStatus, end_refuses, same_node, st
 use Rattle.qs_world.specs.Histories.{book_of}
 use Rattle.qs_world_left.specs.Disks.{AreCoherentDisks, AreCoherentImages, LeaveCoherent, content_at, disks_of}
 use Rattle.qs_world_left.specs.Left.{AreReadAsLeft, BeginsCoherent, CoherentAreRead, CutShortFollows, EndingsFollow, HaveCoherentContents, RaisedStayCoherent}
-use Rattle.qs_world_left.specs.Standing.{CutShortLeavesStanding, DisksStandFor, EndingsLeaveStanding, HaveOthersStampsLeft, StandFor, StandsAlone, up_at}
+use Rattle.qs_world_left.specs.Standing.{CutShortLeavesStanding, DisksStandFor, EndingsLeaveStanding, HaveOthersStampsLeft, IsTold, StandFor, StandsAlone, up_at}
 use Rattle.qs_world_merge.specs.MergedByKey.{IsMergedBy}
 use Rattle.qs_world_merge.specs.Observed.{journals_of}
 use Rattle.qs_world_merge.specs.StepMoves.{step_key}
@@ -65,8 +66,8 @@ pub record NodesLaws {D : Type 0} (told : Type 0) (state : D → DiskState) (own
   pub read : (disks : List DiskState) → CoherentAreRead disks
   pub ends_follow : (alloc : Global) (script : Script) (disks : List D) (seed : ℕ) (all new : SitesValue D) (ending : Ending) → EndingsFollow told state own size alloc script disks seed all new ending
   pub cut_follows : (alloc : Global) (script : Script) (disks : List D) (seed : ℕ) (node : NodeNo) (all new : SitesValue D) → CutShortFollows told state own size alloc script disks seed node all new
-  pub ends_stand : (alloc : Global) (script : Script) (disks : List D) (seed : ℕ) (all new : SitesValue D) (ending : Ending) (journal : List Entry) → EndingsLeaveStanding told state own size alloc script disks seed all new ending journal
-  pub cut_stands : (alloc : Global) (script : Script) (disks : List D) (seed : ℕ) (node : NodeNo) (all new : SitesValue D) (journal : List Entry) → CutShortLeavesStanding told state own size alloc script disks seed node all new journal
+  pub ends_stand : (alloc : Global) (script : Script) (disks : List D) (seed : ℕ) (all new : SitesValue D) (ending : Ending) (journal : List Entry) (trace : List Step) → EndingsLeaveStanding told state own size alloc script disks seed all new ending journal trace
+  pub cut_stands : (alloc : Global) (script : Script) (disks : List D) (seed : ℕ) (node : NodeNo) (all new : SitesValue D) (journal : List Entry) (trace : List Step) → CutShortLeavesStanding told state own size alloc script disks seed node all new journal trace
   pub ends_lawful : (alloc : Global) (script : Script) (disks : List D) (seed : ℕ) (all new : SitesValue D) (ending : Ending) (journal : List Entry) (trace : List Step) → EndingsAreLawful told state own size alloc script disks seed all new ending journal trace
   pub cut_lawful : (alloc : Global) (script : Script) (disks : List D) (seed : ℕ) (node : NodeNo) (all new : SitesValue D) (journal : List Entry) (trace : List Step) → CutShortIsLawful told state own size alloc script disks seed node all new journal trace
 
@@ -105,6 +106,9 @@ module _ {D : Type 0} (told : Type 0) (state : D → DiskState) (own size : D �
     steps : IsMergedBy step_key (length disks) (trace_at ran.last.sites) trace
     steps = merged_traces ran.last.sites tells ran.tells_is (length disks) (sites_count told state own size script seed ending tells disks afters ran) trace merged.steps
 
+    tells_all : IsTold (length disks) journal trace ran.last.sites
+    tells_all = record { entries = entries; steps = steps }
+
     begins : told → AreCoherentDisks (map state disks) → BeginsCoherent told state own ran.alloc script disks ran.first
     begins t coherent = begins_coherent told state own size script disks once fits_all read laws ran.alloc ran.first ran.begins t coherent
 
@@ -112,11 +116,14 @@ module _ {D : Type 0} (told : Type 0) (state : D → DiskState) (own size : D �
     logs t coherent = logs_coherent told state own size script disks read laws ran.alloc ran.first ran.begins t coherent
 
     -- what is left of the sites is left on the disks
-    lasting : told → LeaveCoherent state ran.last.sites → StandFor state (opening_over ran.alloc script disks ran.first.sites) journal ran.last.sites → AreLasting state tells journal ran.last.sites afters
+    abbrev Lasting : Type 0
+    Lasting = AreLasting state (book_after (machine_of tells) journal) (up_at ran.last.sites) trace afters
+
+    lasting : told → LeaveCoherent state ran.last.sites → StandFor state (opening_over ran.alloc script disks ran.first.sites) journal trace ran.last.sites → Lasting
     lasting t coherent stands = record {
       coherent = subst AreCoherentDisks (sym is) coherent;
-      stands = subst (DisksStandFor (book_after (machine_of tells) journal) (up_at ran.last.sites) (HaveOthersStampsLeft ran.last.sites)) (sym is)
-          (subst (λ (b : BookValue). DisksStandFor (book_after b journal) (up_at ran.last.sites) (HaveOthersStampsLeft ran.last.sites) (disks_of state ran.last.sites)) (machine_is told state own size script seed ending tells disks afters ran t once opens) stands.each);
+      stands = subst (DisksStandFor (book_after (machine_of tells) journal) (up_at ran.last.sites) (HaveOthersStampsLeft trace)) (sym is)
+          (subst (λ (b : BookValue). DisksStandFor (book_after b journal) (up_at ran.last.sites) (HaveOthersStampsLeft trace) (disks_of state ran.last.sites)) (machine_is told state own size script seed ending tells disks afters ran t once opens) stands.each);
       alone = subst (StandsAlone (book_after (machine_of tells) journal) (up_at ran.last.sites 0)) (sym is)
           (subst (λ (b : BookValue). StandsAlone (book_after b journal) (up_at ran.last.sites 0) (disks_of state ran.last.sites)) (machine_is told state own size script seed ending tells disks afters ran t once opens) stands.alone);
     }
@@ -124,37 +131,46 @@ module _ {D : Type 0} (told : Type 0) (state : D → DiskState) (own size : D �
         is : map state afters ≡ disks_of state ran.last.sites
         is = left_states told state own size script seed ending (Ok tells) disks afters ran
 
-    pub told_as : Conforms script (machine_of tells) journal → (told → IsTraced (opening_over ran.alloc script disks ran.first.sites) (plans_of script) journal trace)
-        → (told → AreCoherentDisks (map state disks) → AreLasting state tells journal ran.last.sites afters)
-        → AreTold told state own size script seed nodes ending tells disks afters ran journal trace
-    told_as conforms traced lasts = record {
+    pub told_as : Conforms script (machine_of tells) journal → (told → AreCoherentDisks (map state disks) → Lasting) → AreToldOf told state script nodes tells ran.last.sites disks afters journal trace
+    told_as conforms lasts = record {
       held = λ t. subst (λ (k : ℕ). AreHeldBy state script k disks (map opened_in tells)) count (held_all told state own size script seed ending tells disks afters ran t);
-      merged = merged;
       conforms = conforms;
-      traced = traced;
       lasts = lasts;
     }
+
+    abbrev Traced : Type 0
+    Traced = AreTraced told state own size script seed ending tells disks afters ran journal trace
+
+    traced_as : (told → IsTraced (opening_over ran.alloc script disks ran.first.sites) (plans_of script) journal trace) → Traced
+    traced_as traced = record { merged = merged; traced = traced }
 
     lawful_by : told → IsLawful (book_of (opening_over ran.alloc script disks ran.first.sites)) journal → IsLawful (machine_of tells) journal
     lawful_by t lawful = subst (λ (b : BookValue). IsLawful b journal) (machine_is told state own size script seed ending tells disks afters ran t once opens) lawful
 
   pub told_end : (ending : Ending) (tells : List SiteTold) (ran : Ran (Ok ending) tells) (journal : List Entry) (trace : List Step) → AreMerged tells journal trace → Conforms script (machine_of tells) journal
-      → AreTold told state own size script seed nodes (Ok ending) tells disks afters ran journal trace
+      → AreToldOf told state script nodes tells ran.last.sites disks afters journal trace
   told_end ending tells ran journal trace merged conforms = told_as (Ok ending) tells ran journal trace merged conforms
-      (λ t. laws.ends ran.alloc script disks (opening_over ran.alloc script disks ran.first.sites) seed ran.first ran.last ending t ran.begins (laws.opens ran.alloc script disks ran.first ran.begins once) ran.ends journal trace
-      (entries (Ok ending) tells ran journal trace merged) (steps (Ok ending) tells ran journal trace merged))
       (λ t coherent. lasting (Ok ending) tells ran journal trace merged t
       (laws.ends_follow ran.alloc script disks seed ran.first ran.last ending t (begins (Ok ending) tells ran journal trace merged t coherent) ran.ends)
-      (laws.ends_stand ran.alloc script disks seed ran.first ran.last ending journal t ran.begins once fits_all (logs (Ok ending) tells ran journal trace merged t coherent) ran.ends (entries (Ok ending) tells ran journal trace merged)))
+      (laws.ends_stand ran.alloc script disks seed ran.first ran.last ending journal trace t ran.begins once fits_all (logs (Ok ending) tells ran journal trace merged t coherent) ran.ends (tells_all (Ok ending) tells ran journal trace merged)))
+
+  pub traced_end : (ending : Ending) (tells : List SiteTold) (ran : Ran (Ok ending) tells) (journal : List Entry) (trace : List Step) → AreMerged tells journal trace → AreTraced told state own size script seed (Ok ending) tells disks afters ran journal trace
+  traced_end ending tells ran journal trace merged = traced_as (Ok ending) tells ran journal trace merged
+      (λ t. laws.ends ran.alloc script disks (opening_over ran.alloc script disks ran.first.sites) seed ran.first ran.last ending t ran.begins (laws.opens ran.alloc script disks ran.first ran.begins once) ran.ends journal trace
+      (entries (Ok ending) tells ran journal trace merged) (steps (Ok ending) tells ran journal trace merged))
 
   pub told_short : (node : NodeNo) (tells : List SiteTold) (ran : Ran (Err (faults.DiskFault node)) tells) (journal : List Entry) (trace : List Step) → AreMerged tells journal trace → Conforms script (machine_of tells) journal
-      → AreTold told state own size script seed nodes (Err (faults.DiskFault node)) tells disks afters ran journal trace
+      → AreToldOf told state script nodes tells ran.last.sites disks afters journal trace
   told_short node tells ran journal trace merged conforms = told_as (Err (faults.DiskFault node)) tells ran journal trace merged conforms
-      (λ t. laws.cut ran.alloc script disks (opening_over ran.alloc script disks ran.first.sites) seed node ran.first ran.last t ran.begins (laws.opens ran.alloc script disks ran.first ran.begins once) (ran.cut node refl) journal trace
-      (entries (Err (faults.DiskFault node)) tells ran journal trace merged) (steps (Err (faults.DiskFault node)) tells ran journal trace merged))
       (λ t coherent. lasting (Err (faults.DiskFault node)) tells ran journal trace merged t
       (laws.cut_follows ran.alloc script disks seed node ran.first ran.last t (begins (Err (faults.DiskFault node)) tells ran journal trace merged t coherent) (ran.cut node refl))
-      (laws.cut_stands ran.alloc script disks seed node ran.first ran.last journal t ran.begins once fits_all (logs (Err (faults.DiskFault node)) tells ran journal trace merged t coherent) (ran.cut node refl) (entries (Err (faults.DiskFault node)) tells ran journal trace merged)))
+      (laws.cut_stands ran.alloc script disks seed node ran.first ran.last journal trace t ran.begins once fits_all (logs (Err (faults.DiskFault node)) tells ran journal trace merged t coherent) (ran.cut node refl) (tells_all (Err (faults.DiskFault node)) tells ran journal trace merged)))
+
+  pub traced_short : (node : NodeNo) (tells : List SiteTold) (ran : Ran (Err (faults.DiskFault node)) tells) (journal : List Entry) (trace : List Step) → AreMerged tells journal trace
+      → AreTraced told state own size script seed (Err (faults.DiskFault node)) tells disks afters ran journal trace
+  traced_short node tells ran journal trace merged = traced_as (Err (faults.DiskFault node)) tells ran journal trace merged
+      (λ t. laws.cut ran.alloc script disks (opening_over ran.alloc script disks ran.first.sites) seed node ran.first ran.last t ran.begins (laws.opens ran.alloc script disks ran.first ran.begins once) (ran.cut node refl) journal trace
+      (entries (Err (faults.DiskFault node)) tells ran journal trace merged) (steps (Err (faults.DiskFault node)) tells ran journal trace merged))
 
   -- where the logs were coherent the journal is lawful, whether it conforms or not
   pub lawful_judged : (ending : Result Ending RoundFault) → IsJudged ending → (tells : List SiteTold) (ran : Ran ending tells) (journal : List Entry) (trace : List Step) → AreMerged tells journal trace → told → AreCoherentDisks (map state disks)
@@ -209,29 +225,30 @@ module _ {D K : Type 0} (told : Type 0) (state : D → DiskState) (own size : D 
       by (inr (inr (inr (inr c)))) = absurd (subst IsEnd c.nothing.status e)
 
   whole_as : (Has : Status → Type 0) (Gave : List ℕ → Type 0) (c : CameToEnd told state own size seed script shown made disks afters) → Has made.status → ((bytes : List ℕ) → made.output ≡ Some bytes → Gave bytes)
-      → IsWhole told state own size seed nodes script shown Has Gave run.journal run.trace disks afters
-  whole_as Has Gave c has out = subst (λ (entries : List Entry). IsWhole told state own size seed nodes script shown Has Gave entries run.trace disks afters) (sym (gave.entries ∙ c.passed.passed.entries))
-      (subst (λ (steps : List Step). IsWhole told state own size seed nodes script shown Has Gave c.journal steps disks afters) (sym (gave.steps ∙ c.passed.passed.steps)) (record {
+      → RanWhole told state own size seed nodes script shown Has Gave run.journal run.trace disks afters
+  whole_as Has Gave c has out = subst (λ (entries : List Entry). RanWhole told state own size seed nodes script shown Has Gave entries run.trace disks afters) (sym (gave.entries ∙ c.passed.passed.entries))
+      (subst (λ (steps : List Step). RanWhole told state own size seed nodes script shown Has Gave c.journal steps disks afters) (sym (gave.steps ∙ c.passed.passed.steps)) (record {
         ending = c.ending;
         tells = c.tells;
         ran = c.ran;
+        traced = traced_end told state own size script seed nodes disks afters count once fits over.read laws c.ending c.tells c.ran c.journal c.trace c.merged;
         is_told = told_end told state own size script seed nodes disks afters count once fits over.read laws c.ending c.tells c.ran c.journal c.trace c.merged c.passed.passed.conforms;
         status = subst Has c.passed.status has;
         gave = out (output_from script c.journal shown (machine_of c.tells)) c.passed.output;
       }))
 
-  pub nodes_ended : IsEnd run.status → IsWhole told state own size seed nodes script shown (λ status. run.status ≡ status) (Appends (given before) (given after)) run.journal run.trace disks afters
+  pub nodes_ended : IsEnd run.status → RanWhole told state own size seed nodes script shown (λ status. run.status ≡ status) (Appends (given before) (given after)) run.journal run.trace disks afters
   nodes_ended e = by status_or
     where
-      by : StatusOr → IsWhole told state own size seed nodes script shown (λ status. run.status ≡ status) (Appends (given before) (given after)) run.journal run.trace disks afters
+      by : StatusOr → RanWhole told state own size seed nodes script shown (λ status. run.status ≡ status) (Appends (given before) (given after)) run.journal run.trace disks afters
       by (inl same) = whole_as (λ status. run.status ≡ status) (Appends (given before) (given after)) (end_of (subst IsEnd same e)) same
           (λ bytes is. (given_whole faults_of given before after made.output made.status run.status bytes gave.output is e).1)
       by (inr cut) = absurd (subst IsEnd cut.0 e)
 
-  pub nodes_cut_off : run.status ≡ statuses.WriteFault → IsWhole told state own size seed nodes script shown IsEnd (GivesPart (given before) (given after)) run.journal run.trace disks afters
+  pub nodes_cut_off : run.status ≡ statuses.WriteFault → RanWhole told state own size seed nodes script shown IsEnd (GivesPart (given before) (given after)) run.journal run.trace disks afters
   nodes_cut_off fault = by status_or
     where
-      by : StatusOr → IsWhole told state own size seed nodes script shown IsEnd (GivesPart (given before) (given after)) run.journal run.trace disks afters
+      by : StatusOr → RanWhole told state own size seed nodes script shown IsEnd (GivesPart (given before) (given after)) run.journal run.trace disks afters
       by (inl same) = absurd (subst IsOfRounds (sym same ∙ fault) built)
       by (inr cut) = whole_as IsEnd (GivesPart (given before) (given after)) (end_of e) e (λ bytes is. given_part faults_of given before after made.output made.status run.status bytes gave.output is e fault)
         where
@@ -239,22 +256,23 @@ module _ {D K : Type 0} (told : Type 0) (state : D → DiskState) (own size : D 
           e = ended cut.1.0 cut.1.1
 
   pub nodes_short : (node : NodeNo) → run.status ≡ statuses.DiskFault node
-      → IsNotBegun told state own size node run.journal run.trace disks afters ⊎ IsShort told state own size seed nodes script node run.journal run.trace disks afters
+      → RanNotBegun told state own size node run.journal run.trace disks afters ⊎ RanShort told state own size seed nodes script node run.journal run.trace disks afters
   nodes_short node is = by came
     where
       made_is : made.status ≡ statuses.DiskFault node
       made_is = as_made (statuses.DiskFault node) is (λ same. absurd (cc same))
 
-      short_as : (m : NodeNo) → m ≡ node → (c : CameShort told state own size seed script made disks afters) → c.node ≡ m → IsShort told state own size seed nodes script m run.journal run.trace disks afters
-      short_as m same c here = subst (λ (k : NodeNo). IsShort told state own size seed nodes script k run.journal run.trace disks afters) here
-          (subst (λ (entries : List Entry). IsShort told state own size seed nodes script c.node entries run.trace disks afters) (sym (gave.entries ∙ c.passed.passed.entries))
-          (subst (λ (steps : List Step). IsShort told state own size seed nodes script c.node c.journal steps disks afters) (sym (gave.steps ∙ c.passed.passed.steps)) (record {
+      short_as : (m : NodeNo) → m ≡ node → (c : CameShort told state own size seed script made disks afters) → c.node ≡ m → RanShort told state own size seed nodes script m run.journal run.trace disks afters
+      short_as m same c here = subst (λ (k : NodeNo). RanShort told state own size seed nodes script k run.journal run.trace disks afters) here
+          (subst (λ (entries : List Entry). RanShort told state own size seed nodes script c.node entries run.trace disks afters) (sym (gave.entries ∙ c.passed.passed.entries))
+          (subst (λ (steps : List Step). RanShort told state own size seed nodes script c.node c.journal steps disks afters) (sym (gave.steps ∙ c.passed.passed.steps)) (record {
             tells = c.tells;
             ran = c.ran;
+            traced = traced_short told state own size script seed nodes disks afters count once fits over.read laws c.node c.tells c.ran c.journal c.trace c.merged;
             is_told = told_short told state own size script seed nodes disks afters count once fits over.read laws c.node c.tells c.ran c.journal c.trace c.merged c.passed.passed.conforms;
           })))
 
-      no_log : (c : CameToNoLog told state own size made disks afters) (why : OpenFault) → c.why ≡ why → made.status ≡ not_opened c.node why → IsNotBegun told state own size node run.journal run.trace disks afters
+      no_log : (c : CameToNoLog told state own size made disks afters) (why : OpenFault) → c.why ≡ why → made.status ≡ not_opened c.node why → RanNotBegun told state own size node run.journal run.trace disks afters
       no_log c open_faults.DiskFailed why status = record {
         nothing = record { entries = gave.entries ∙ c.unopened.nothing.nothing.entries; steps = gave.steps ∙ c.unopened.nothing.nothing.steps };
         not = subst (λ (m : NodeNo). IsNotOpened told state own size m.0 open_faults.DiskFailed disks afters) (same_node (sym status ∙ made_is))
@@ -263,14 +281,14 @@ module _ {D K : Type 0} (told : Type 0) (state : D → DiskState) (own size : D 
       no_log c (open_faults.Damaged at) why status = absurd (subst IsFaultStatus (sym made_is ∙ status) tt)
       no_log c open_faults.NoMemory why status = absurd (subst IsFaultStatus (sym made_is ∙ status) tt)
 
-      by : CameTo told state own size seed script shown made disks afters → IsNotBegun told state own size node run.journal run.trace disks afters ⊎ IsShort told state own size seed nodes script node run.journal run.trace disks afters
+      by : CameTo told state own size seed script shown made disks afters → RanNotBegun told state own size node run.journal run.trace disks afters ⊎ RanShort told state own size seed nodes script node run.journal run.trace disks afters
       by (inl c) = absurd (subst IsEnd made_is (subst IsEnd (sym c.passed.status) (status_ends c.ending.rounds c.ending.settled (waiting_of script c.journal))))
       by (inr (inl c)) = inr (short_as node refl c (same_node (sym c.passed.status ∙ made_is)))
       by (inr (inr (inl c))) = absurd (subst IsRefusal made_is c.failed.refusal)
       by (inr (inr (inr (inl c)))) = inl (no_log c c.why refl c.unopened.status)
       by (inr (inr (inr (inr c)))) = absurd (subst IsFaultStatus (sym made_is ∙ c.nothing.status) tt)
 
-  pub nodes_refused : (line clause : ℕ) → run.status ≡ statuses.Unlawful line clause → IsRefused told state own size seed nodes script line clause disks afters
+  pub nodes_refused : (line clause : ℕ) → run.status ≡ statuses.Unlawful line clause → RanRefused told state own size seed nodes script line clause disks afters
   nodes_refused line clause is = by came
     where
       made_is : made.status ≡ statuses.Unlawful line clause
@@ -281,7 +299,7 @@ module _ {D K : Type 0} (told : Type 0) (state : D → DiskState) (own size : D 
       no_log node (open_faults.Damaged at) same = cc same
       no_log node open_faults.NoMemory same = cc same
 
-      by : CameTo told state own size seed script shown made disks afters → IsRefused told state own size seed nodes script line clause disks afters
+      by : CameTo told state own size seed script shown made disks afters → RanRefused told state own size seed nodes script line clause disks afters
       by (inl c) = absurd (subst IsEnd made_is (subst IsEnd (sym c.passed.status) (status_ends c.ending.rounds c.ending.settled (waiting_of script c.journal))))
       by (inr (inl c)) = absurd (cc (sym made_is ∙ c.passed.status))
       by (inr (inr (inl c))) = record {

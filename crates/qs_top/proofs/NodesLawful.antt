@@ -17,7 +17,8 @@ use Rattle.qs_top.specs.Inner.CameTo.{CameShort, CameTo, CameToNoLog}
 use Rattle.qs_top.specs.Inner.Giving.{IsGiven}
 use Rattle.qs_top.specs.Inner.Making.{not_opened}
 use Rattle.qs_top.specs.Inner.OverNodes.{IsOverNodes}
-use Rattle.qs_top.specs.Run.{AreHeldBy, HasLawful, machine_of, opened_in}
+use Rattle.qs_top.specs.Ran.{machine_of, opened_in}
+use Rattle.qs_top.specs.Run.{AreHeldBy, HasLawful}
 use Rattle.qs_top.specs.Statuses.{IsEnd}
 use Rattle.qs_top.specs.Verdicts.{IsRefusal}
 use Rattle.qs_top.specs.declared.outcome.Run.{Run}

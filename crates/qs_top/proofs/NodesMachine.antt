@@ -12,7 +12,7 @@ use Rattle.qs_log.specs.Log.{LogValue}
 use Rattle.qs_node_step.specs.Opening.{recovered_of}
 use Rattle.qs_node_step.specs.declared.setting.Setting.{Setting}
 use Rattle.qs_record.specs.declared.record.Record.{Record}
-use Rattle.qs_top.specs.Run.{machine_of, opened_in}
+use Rattle.qs_top.specs.Ran.{machine_of, opened_in}
 use Rattle.qs_top.proofs.NodesTold.{map_has, map_length, sites_count}
 use Rattle.qs_world.specs.Histories.{book_of, opened_from, opened_with}
 use Rattle.qs_world.specs.World.{Opening}

@@ -9,7 +9,7 @@ use Rattle.qs_disk.specs.Disk.{DiskState}
 use Rattle.qs_text.specs.declared.given.Shown.{Shown}
 use Rattle.qs_top.specs.Inner.CameTo.{CameTo, HasRunSo}
 use Rattle.qs_top.specs.Inner.OverNodes.{IsOverNodes}
-use Rattle.qs_top.specs.Untold.{StayRoomy}
+use Rattle.qs_top.specs.Disks.{StayRoomy}
 use Rattle.qs_top.specs.declared.whole.RunMade.{RunMade}
 use Rattle.qs_top.proofs.Coherent.{touched_roomy}
 use Rattle.qs_top.proofs.NodesCame.{came_to}

@@ -13,14 +13,14 @@ use Rattle.qs_disk.specs.Disk.{DiskState}
 use Rattle.qs_io.specs.Streams.{GivesPart}
 use Rattle.qs_log.specs.Image.{IsDamaged}
 use Rattle.qs_text_script.specs.Script.{script_of}
-use Rattle.qs_top.specs.Disks.{AtNode, IsOnlyTouched, OfThese}
+use Rattle.qs_top.specs.Disks.{AreOnlyTouched, AtNode, IsOnlyTouched, OfThese, StayCoherent, StayRoomy}
 use Rattle.qs_top.specs.Inner.CameTo.{CameTo}
 use Rattle.qs_top.specs.Inner.Giving.{IsGiven, IsNoScript}
 use Rattle.qs_top.specs.Inner.OverNodes.{IsOverNodes}
-use Rattle.qs_top.specs.Run.{HasLawful, IsNotBegun, IsNothing, IsRefused, IsShort, IsWhole, LeaveAll, Leaves}
+use Rattle.qs_top.specs.Ran.{RanNotBegun, RanOutOfMemory, RanRefused, RanShort, RanWhole}
+use Rattle.qs_top.specs.Run.{HasLawful, IsNothing, LeaveAll, Leaves}
 use Rattle.qs_top.specs.Statuses.{Gives, IfNot, IsEnd, IsOfRounds, IsOfRun, Tells}
 use Rattle.qs_top.specs.Texts.{HasText, OfScript}
-use Rattle.qs_top.specs.Untold.{AreOnlyTouched, RanOutOfMemory, StayCoherent, StayRoomy}
 use Rattle.qs_top.specs.declared.outcome.Run.{Run}
 use Rattle.qs_top.specs.declared.whole.RunMade.{RunMade}
 use Rattle.qs_top.proofs.Given.{built_given, empty_given, fault_given, silent_given, status_made, touched_alone}
@@ -83,22 +83,22 @@ module _ {D K : Type 0} (told : Type 0) (state : D → DiskState) (own size : D 
   these_leave = with_holds (nodes_leave told state own size seed nodes script shown faults_of given before after made run over.disks over.afters over.holds gave over.count)
 
   module _ (l m : Option (List ℕ)) (read : HasText shown l m (λ text. script_of nodes text ≡ Ok script)) (once : SitOnce script.seats) (fits : Fits nodes script) (laws : NodesLaws told state own size) where
-    pub these_ended : IsEnd run.status → HasText shown l m (OfScript nodes (λ script. OfThese nodes (IsWhole told state own size seed nodes script shown (λ status. run.status ≡ status) (Appends (given before) (given after)) run.journal run.trace) old new))
-    these_ended e = text_of_script l m shown nodes script (λ script. OfThese nodes (IsWhole told state own size seed nodes script shown (λ status. run.status ≡ status) (Appends (given before) (given after)) run.journal run.trace) old new) read
+    pub these_ended : IsEnd run.status → HasText shown l m (OfScript nodes (λ script. OfThese nodes (RanWhole told state own size seed nodes script shown (λ status. run.status ≡ status) (Appends (given before) (given after)) run.journal run.trace) old new))
+    these_ended e = text_of_script l m shown nodes script (λ script. OfThese nodes (RanWhole told state own size seed nodes script shown (λ status. run.status ≡ status) (Appends (given before) (given after)) run.journal run.trace) old new) read
         (with_holds (nodes_ended told state own size seed nodes script shown faults_of given before after made run over.disks over.afters over.holds gave over.count once fits laws e))
 
-    pub these_cut_off : run.status ≡ statuses.WriteFault → HasText shown l m (OfScript nodes (λ script. OfThese nodes (IsWhole told state own size seed nodes script shown IsEnd (GivesPart (given before) (given after)) run.journal run.trace) old new))
-    these_cut_off fault = text_of_script l m shown nodes script (λ script. OfThese nodes (IsWhole told state own size seed nodes script shown IsEnd (GivesPart (given before) (given after)) run.journal run.trace) old new) read
+    pub these_cut_off : run.status ≡ statuses.WriteFault → HasText shown l m (OfScript nodes (λ script. OfThese nodes (RanWhole told state own size seed nodes script shown IsEnd (GivesPart (given before) (given after)) run.journal run.trace) old new))
+    these_cut_off fault = text_of_script l m shown nodes script (λ script. OfThese nodes (RanWhole told state own size seed nodes script shown IsEnd (GivesPart (given before) (given after)) run.journal run.trace) old new) read
         (with_holds (nodes_cut_off told state own size seed nodes script shown faults_of given before after made run over.disks over.afters over.holds gave over.count once fits laws fault))
 
     pub these_short : (node : NodeNo) → run.status ≡ statuses.DiskFault node
-        → HasText shown l m (OfScript nodes (λ script. OfThese nodes (λ disks afters. IsNotBegun told state own size node run.journal run.trace disks afters ⊎ IsShort told state own size seed nodes script node run.journal run.trace disks afters) old new))
-    these_short node is = text_of_script l m shown nodes script (λ script. OfThese nodes (λ disks afters. IsNotBegun told state own size node run.journal run.trace disks afters ⊎ IsShort told state own size seed nodes script node run.journal run.trace disks afters) old new) read
+        → HasText shown l m (OfScript nodes (λ script. OfThese nodes (λ disks afters. RanNotBegun told state own size node run.journal run.trace disks afters ⊎ RanShort told state own size seed nodes script node run.journal run.trace disks afters) old new))
+    these_short node is = text_of_script l m shown nodes script (λ script. OfThese nodes (λ disks afters. RanNotBegun told state own size node run.journal run.trace disks afters ⊎ RanShort told state own size seed nodes script node run.journal run.trace disks afters) old new) read
         (with_holds (nodes_short told state own size seed nodes script shown faults_of given before after made run over.disks over.afters over.holds gave over.count once fits laws node is))
 
     pub these_refused : (line clause : ℕ) → run.status ≡ statuses.Unlawful line clause
-        → HasText shown l m (OfScript nodes (λ script. OfThese nodes (IsRefused told state own size seed nodes script line clause) old new))
-    these_refused line clause is = text_of_script l m shown nodes script (λ script. OfThese nodes (IsRefused told state own size seed nodes script line clause) old new) read
+        → HasText shown l m (OfScript nodes (λ script. OfThese nodes (RanRefused told state own size seed nodes script line clause) old new))
+    these_refused line clause is = text_of_script l m shown nodes script (λ script. OfThese nodes (RanRefused told state own size seed nodes script line clause) old new) read
         (with_holds (nodes_refused told state own size seed nodes script shown faults_of given before after made run over.disks over.afters over.holds gave over.count once fits laws line clause is))
 
     module _ (u : UntoldLaws told state own size) where

@@ -10,7 +10,8 @@ use Rattle.qs_book_script.specs.declared.script.Script.{Script}
 use Rattle.qs_disk.specs.Disk.{DiskState}
 use Rattle.qs_node_step.specs.declared.trace.Step.{Step}
 use Rattle.qs_top.specs.Disks.{IsHeldBy}
-use Rattle.qs_top.specs.Run.{AreHeldBy, journal_in, opened_in, trace_in}
+use Rattle.qs_top.specs.Ran.{journal_in, opened_in, trace_in}
+use Rattle.qs_top.specs.Run.{AreHeldBy}
 use Rattle.qs_top.proofs.Held.{held_at}
 use Rattle.qs_world.specs.Moves.{node_no}
 use Rattle.qs_world_merge.specs.MergedByKey.{IsMergedBy, flat_of, key_lt}

@@ -9,12 +9,12 @@ use Rattle.qs_book_script.specs.declared.status.Status.TheVariants as statuses
 use Rattle.qs_disk.specs.Disk.{DiskState, EachImage}
 use Rattle.qs_log_start.specs.Incarnation.{IsTouched}
 use Rattle.qs_node_step.specs.declared.trace.Step.{Step}
-use Rattle.qs_top.specs.Disks.{IsOnlyTouched}
+use Rattle.qs_top.specs.Disks.{AreOnlyTouched, IsOnlyTouched, StayCoherent}
 use Rattle.qs_top.specs.Inner.CameTo.{CameTo, HasRunSo}
 use Rattle.qs_top.specs.Inner.Giving.{IsGiven}
 use Rattle.qs_top.specs.Inner.OverNodes.{IsOverNodes}
 use Rattle.qs_top.specs.Statuses.{IsEnd}
-use Rattle.qs_top.specs.Untold.{AreLastingUntold, AreOnlyTouched, RanOutOfMemory, StayCoherent}
+use Rattle.qs_top.specs.Ran.{AreLastingUntold, RanOutOfMemory}
 use Rattle.qs_top.specs.declared.outcome.Run.{Run}
 use Rattle.qs_top.specs.declared.whole.RunMade.{RunMade}
 use Rattle.qs_top.proofs.Given.{status_made}
@@ -29,10 +29,7 @@ use Rattle.qs_world_left.specs.Disks.{AreCoherentDisks, LeaveCoherent, disks_of}
 use Rattle.qs_world_left.specs.Left.{AreReadAsLeft, RefusedFollows}
 use Rattle.qs_world_left.specs.Standing.{DisksStandFor, HaveOthersStampsLeft, IsTold, RefusedLeavesStanding, StandFor, StandsAlone, up_at}
 use Rattle.qs_world_left.specs.Touched.{TouchedStayCoherent, WasTouched}
-use Rattle.qs_world_merge.specs.MergedByKey.{IsMergedBy}
-use Rattle.qs_world_merge.specs.StepMoves.{step_key}
 use Rattle.qs_world_nodes.specs.Lawful.{RefusedIsLawful}
-use Rattle.qs_world_nodes.specs.Nodes.{trace_at}
 use Rattle.qs_world_nodes.specs.Openings.{SitOnce, opening_over}
 use Rattle.qs_world_opening.specs.Scripts.{Fits}
 use Rattle.qs_world_plans.specs.Waiting.{waiting_of}
@@ -48,7 +45,7 @@ use Rattle.qs_text.specs.declared.given.Shown.{Shown}
 pub record UntoldLaws {D : Type 0} (told : Type 0) (state : D → DiskState) (own size : D → ℕ) : Type 0 where
   pub laws : NodesLaws told state own size
   pub follows : (alloc : Global) (script : Script) (disks : List D) (seed : ℕ) (all new : SitesValue D) → RefusedFollows told state own size alloc script disks seed all new
-  pub stands : (alloc : Global) (script : Script) (disks : List D) (seed : ℕ) (all new : SitesValue D) (journal : List Entry) → RefusedLeavesStanding told state own size alloc script disks seed all new journal
+  pub stands : (alloc : Global) (script : Script) (disks : List D) (seed : ℕ) (all new : SitesValue D) (journal : List Entry) (trace : List Step) → RefusedLeavesStanding told state own size alloc script disks seed all new journal trace
   pub lawful : (alloc : Global) (script : Script) (disks : List D) (seed : ℕ) (all new : SitesValue D) (journal : List Entry) (trace : List Step) → RefusedIsLawful told state own size alloc script disks seed all new journal trace
   pub touched : (old new : List DiskState) → TouchedStayCoherent old new
 
@@ -72,24 +69,24 @@ module _ {D : Type 0} (told : Type 0) (state : D → DiskState) (own size : D �
   leaves (Err faults.Damaged) tells ran t coherent = absurd (ran.undamaged t fits.few refl)
 
   is_lawful : (ending : Result Ending RoundFault) (tells : Result (List SiteTold) NoMemory) (ran : Ran ending tells) → told → AreCoherentDisks (map state disks) → (journal : List Entry) (trace : List Step)
-      → IsTold (length disks) journal ran.last.sites → IsMergedBy step_key (length disks) (trace_at ran.last.sites) trace → IsLawful (book_of (opening_over ran.alloc script disks ran.first.sites)) journal
-  is_lawful (Ok ending) tells ran t coherent journal trace entries steps = u.laws.ends_lawful ran.alloc script disks seed ran.first ran.last ending journal trace t ran.begins once fits_all
-      (logs_coherent told state own size script disks read u.laws ran.alloc ran.first ran.begins t coherent) ran.ends entries steps
-  is_lawful (Err (faults.DiskFault node)) tells ran t coherent journal trace entries steps = u.laws.cut_lawful ran.alloc script disks seed node ran.first ran.last journal trace t ran.begins once fits_all
-      (logs_coherent told state own size script disks read u.laws ran.alloc ran.first ran.begins t coherent) (ran.cut node refl) entries steps
-  is_lawful (Err faults.NoMemory) tells ran t coherent journal trace entries steps = u.lawful ran.alloc script disks seed ran.first ran.last journal trace t ran.begins once fits_all
-      (logs_coherent told state own size script disks read u.laws ran.alloc ran.first ran.begins t coherent) (ran.refused refl) entries steps
-  is_lawful (Err faults.Damaged) tells ran t coherent journal trace entries steps = absurd (ran.undamaged t fits.few refl)
+      → IsTold (length disks) journal trace ran.last.sites → IsLawful (book_of (opening_over ran.alloc script disks ran.first.sites)) journal
+  is_lawful (Ok ending) tells ran t coherent journal trace tells_all = u.laws.ends_lawful ran.alloc script disks seed ran.first ran.last ending journal trace t ran.begins once fits_all
+      (logs_coherent told state own size script disks read u.laws ran.alloc ran.first ran.begins t coherent) ran.ends tells_all.entries tells_all.steps
+  is_lawful (Err (faults.DiskFault node)) tells ran t coherent journal trace tells_all = u.laws.cut_lawful ran.alloc script disks seed node ran.first ran.last journal trace t ran.begins once fits_all
+      (logs_coherent told state own size script disks read u.laws ran.alloc ran.first ran.begins t coherent) (ran.cut node refl) tells_all.entries tells_all.steps
+  is_lawful (Err faults.NoMemory) tells ran t coherent journal trace tells_all = u.lawful ran.alloc script disks seed ran.first ran.last journal trace t ran.begins once fits_all
+      (logs_coherent told state own size script disks read u.laws ran.alloc ran.first ran.begins t coherent) (ran.refused refl) tells_all.entries tells_all.steps
+  is_lawful (Err faults.Damaged) tells ran t coherent journal trace tells_all = absurd (ran.undamaged t fits.few refl)
 
-  stands : (ending : Result Ending RoundFault) (tells : Result (List SiteTold) NoMemory) (ran : Ran ending tells) → told → AreCoherentDisks (map state disks) → (journal : List Entry)
-      → IsTold (length disks) journal ran.last.sites → StandFor state (opening_over ran.alloc script disks ran.first.sites) journal ran.last.sites
-  stands (Ok ending) tells ran t coherent journal entries = u.laws.ends_stand ran.alloc script disks seed ran.first ran.last ending journal t ran.begins once fits_all
-      (logs_coherent told state own size script disks read u.laws ran.alloc ran.first ran.begins t coherent) ran.ends entries
-  stands (Err (faults.DiskFault node)) tells ran t coherent journal entries = u.laws.cut_stands ran.alloc script disks seed node ran.first ran.last journal t ran.begins once fits_all
-      (logs_coherent told state own size script disks read u.laws ran.alloc ran.first ran.begins t coherent) (ran.cut node refl) entries
-  stands (Err faults.NoMemory) tells ran t coherent journal entries = u.stands ran.alloc script disks seed ran.first ran.last journal t ran.begins once fits_all
-      (logs_coherent told state own size script disks read u.laws ran.alloc ran.first ran.begins t coherent) (ran.refused refl) entries
-  stands (Err faults.Damaged) tells ran t coherent journal entries = absurd (ran.undamaged t fits.few refl)
+  stands : (ending : Result Ending RoundFault) (tells : Result (List SiteTold) NoMemory) (ran : Ran ending tells) → told → AreCoherentDisks (map state disks) → (journal : List Entry) (trace : List Step)
+      → IsTold (length disks) journal trace ran.last.sites → StandFor state (opening_over ran.alloc script disks ran.first.sites) journal trace ran.last.sites
+  stands (Ok ending) tells ran t coherent journal trace tells_all = u.laws.ends_stand ran.alloc script disks seed ran.first ran.last ending journal trace t ran.begins once fits_all
+      (logs_coherent told state own size script disks read u.laws ran.alloc ran.first ran.begins t coherent) ran.ends tells_all
+  stands (Err (faults.DiskFault node)) tells ran t coherent journal trace tells_all = u.laws.cut_stands ran.alloc script disks seed node ran.first ran.last journal trace t ran.begins once fits_all
+      (logs_coherent told state own size script disks read u.laws ran.alloc ran.first ran.begins t coherent) (ran.cut node refl) tells_all
+  stands (Err faults.NoMemory) tells ran t coherent journal trace tells_all = u.stands ran.alloc script disks seed ran.first ran.last journal trace t ran.begins once fits_all
+      (logs_coherent told state own size script disks read u.laws ran.alloc ran.first ran.begins t coherent) (ran.refused refl) tells_all
+  stands (Err faults.Damaged) tells ran t coherent journal trace tells_all = absurd (ran.undamaged t fits.few refl)
 
   module _ (ending : Result Ending RoundFault) (tells : Result (List SiteTold) NoMemory) (ran : Ran ending tells) where
     left : map state afters ≡ disks_of state ran.last.sites
@@ -105,8 +102,8 @@ module _ {D : Type 0} (told : Type 0) (state : D → DiskState) (own size : D �
         lasts t coherent = record {
           coherent = again t coherent;
           lawful = is_lawful ending tells ran t coherent;
-          stands = λ journal entries. subst (DisksStandFor (book_after (book_of (opening_over ran.alloc script disks ran.first.sites)) journal) (up_at ran.last.sites) (HaveOthersStampsLeft ran.last.sites)) (sym left) (stands ending tells ran t coherent journal entries).each;
-          alone = λ journal entries. subst (StandsAlone (book_after (book_of (opening_over ran.alloc script disks ran.first.sites)) journal) (up_at ran.last.sites 0)) (sym left) (stands ending tells ran t coherent journal entries).alone;
+          stands = λ journal trace tells_all. subst (DisksStandFor (book_after (book_of (opening_over ran.alloc script disks ran.first.sites)) journal) (up_at ran.last.sites) (HaveOthersStampsLeft trace)) (sym left) (stands ending tells ran t coherent journal trace tells_all).each;
+          alone = λ journal trace tells_all. subst (StandsAlone (book_after (book_of (opening_over ran.alloc script disks ran.first.sites)) journal) (up_at ran.last.sites 0)) (sym left) (stands ending tells ran t coherent journal trace tells_all).alone;
         }
 
   -- ---- disks that were raised at most

@@ -13,7 +13,7 @@ module _ (l m : Option (List ℕ)) where
   map_read : (P Q : List ℕ → Type 0) → ((text : List ℕ) → P text → Q text) → ReadWhole 1048576 l m P → ReadWhole 1048576 l m Q
   map_read P Q more read = record { text = read.text; consumed = read.consumed; whole = read.whole; holds = more read.text read.holds }
 
-  map_text : (shown : Shown) (P Q : List ℕ → Type 0) → ((text : List ℕ) → P text → Q text) → HasText shown l m P → HasText shown l m Q
+  pub map_text : (shown : Shown) (P Q : List ℕ → Type 0) → ((text : List ℕ) → P text → Q text) → HasText shown l m P → HasText shown l m Q
   map_text shows.Output P Q more has = map_read P Q more has
   map_text shows.Journal P Q more has = map_read P Q more has
   map_text (shows.Load seed) P Q more has = (has.0, more (load_script seed) has.1)

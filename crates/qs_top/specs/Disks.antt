@@ -1,5 +1,5 @@
 -- The disks of a run: what the log of each held, and which of them it leaves alone.
-use Rattle.std.specs.Prelude.{◌≡◌, ◌≤◌, ◌<◌, ℕ, ◌+◌, List, ◌++◌, length, Some, slice_get}
+use Rattle.std.specs.Prelude.{◌≡◌, ◌≤◌, ◌<◌, ℕ, ◌+◌, List, ◌++◌, length, map, Some, slice_get}
 use Rattle.qs_base.specs.declared.identifiers.NodeNo.{NodeNo}
 use Rattle.qs_disk.specs.Disk.{DiskState}
 use Rattle.qs_disk.specs.Moments.{Keeps}
@@ -13,6 +13,9 @@ use Rattle.qs_book_script.specs.declared.script.Script.{Script}
 use Rattle.qs_book_script.specs.declared.status.Status.TheVariants as statuses
 use Rattle.qs_node_step.specs.Opening.{recovered_of}
 use Rattle.qs_world.specs.Histories.{opened_with}
+use Rattle.qs_world_left.specs.Disks.{AreCoherentDisks}
+use Rattle.qs_world_rooms.specs.Rooms.{AreRoomyDisks}
+use Rattle.qs_world_serial.specs.Serial.{EachBeside}
 
 -- this is what the log of the content held, with the incarnation that it is raised to, for that node of a run of so many
 pub record IsHeldBy (script : Script) (nodes : ℕ) (node : NodeNo) (content : List ℕ) (opened : Opened) : Type 0 where
@@ -55,3 +58,17 @@ pub record OfThese {D : Type 0} (nodes : ℕ) (P : List D → List D → Type 0)
   pub count : length disks ≡ nodes
   pub count_after : length afters ≡ nodes
   pub holds : P disks afters
+
+-- ---- what becomes of them
+
+-- each was changed at most by the raise of its log's incarnation
+abbrev pub AreOnlyTouched : {D : Type 0} → Type 0 → (D → DiskState) → List D → List D → Type 0
+AreOnlyTouched {D} told state disks afters = EachBeside (λ n (disk : D) after. IsOnlyTouched told state disk after) disks afters
+
+-- disks that were coherent are so again
+abbrev pub StayCoherent : {D : Type 0} → Type 0 → (D → DiskState) → List D → List D → Type 0
+StayCoherent told state disks afters = told → AreCoherentDisks (map state disks) → AreCoherentDisks (map state afters)
+
+-- and where each image of each had a log with room for all that is kept there, each has it again
+abbrev pub StayRoomy : {D : Type 0} → Type 0 → (D → DiskState) → (D → ℕ) → List D → List D → Type 0
+StayRoomy told state size disks afters = told → AreCoherentDisks (map state disks) → AreRoomyDisks (map size disks) (map state disks) → AreRoomyDisks (map size afters) (map state afters)

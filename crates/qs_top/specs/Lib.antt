@@ -16,5 +16,5 @@ pub mod Verdict
 pub mod Ends
 -- How a run judges its own journal.
 pub mod Verdicts
--- What stands of a run of which nothing is told.
-pub mod Untold
+-- By which rounds and visits it came to that.
+pub mod Ran

@@ -13,7 +13,7 @@ IsEnd statuses.Finished = ⊤
 IsEnd (statuses.Unfinished rounds waiting) = ⊤
 IsEnd _ = ⊥
 
--- those that come after the log was raised
+-- those that come after the logs were raised
 abbrev pub IsPastOpening : Status → Type 0
 IsPastOpening statuses.WriteFault = ⊤
 IsPastOpening (statuses.Unlawful line clause) = ⊤

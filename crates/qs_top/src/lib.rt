@@ -12,5 +12,5 @@ mod whole;
 
 pub use judging::judged;
 pub use outcome::Run;
-pub use running::run;
+pub use running::{run, run_script};
 pub use telling::told;

@@ -5,16 +5,16 @@ ghost use Rattle.qs_node_step.specs.declared.trace.Step.{Step};
 ghost use Rattle.qs_top.specs.Disks.{OfThese};
 ghost use Rattle.qs_top.specs.Inner.OverNodes.{IsGatheredOf, IsMadeOfRun, IsOverNodes};
 ghost use Rattle.qs_world_left.specs.Left.{AreReadAsLeft};
-ghost use Rattle.qs_top.specs.Run.{journal_in, opened_in, trace_in};
+ghost use Rattle.qs_top.specs.Ran.{journal_in, opened_in, trace_in};
 
 use crate::whole::{RunMade, made_from, not_opened, nothing_made};
 use qs_base::{List, NoMemory};
 use qs_book::Opened;
-use qs_book_journal::{Entry, merge};
+use qs_book_journal::Entry;
 use qs_disk::Disk;
 use qs_node_step::Step;
 use qs_text::{Script, Shown, Status};
-use qs_world_nodes::merge_steps;
+use qs_world_nodes::{merge_journals, merge_steps};
 use qs_world_serial::{SerialRun, SiteTold, run_serial};
 use std::alloc::Global;
 
@@ -109,7 +109,7 @@ fn gather(alloc: Global, tells: Result<List<SiteTold>, NoMemory>) -> Result<Gath
     } = taken_apart(alloc, tells?)?;
     Ok(Gathered {
         opened,
-        journal: merge(alloc, &journals)?,
+        journal: merge_journals(alloc, journals)?,
         trace: merge_steps(alloc, traces)?,
     })
 }

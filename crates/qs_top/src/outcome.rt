@@ -11,6 +11,6 @@ pub struct Run {
     pub status: Status,
     /// All entries, in the order in which they were made.
     pub journal: List<Entry>,
-    /// All steps of the node, in the order in which it made them.
+    /// The steps of all nodes, in the order in which they were made.
     pub trace: List<Step>,
 }

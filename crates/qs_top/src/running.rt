@@ -12,12 +12,12 @@ ghost use Rattle.qs_text_script.specs.Words.{form_of};
 ghost use Rattle.qs_text_script.specs.declared.reading.ScriptFailed.TheVariants.{Fault};
 ghost use Rattle.qs_book_script.specs.declared.status.ScriptFault.{ScriptFault};
 ghost use Rattle.qs_top.specs.Asking.{asked_by, nodes_of};
-ghost use Rattle.qs_top.specs.Disks.{AreOthers, AtNode, OfThese};
+ghost use Rattle.qs_top.specs.Disks.{AreOnlyTouched, AreOthers, AtNode, OfThese, StayCoherent, StayRoomy};
 ghost use Rattle.qs_top.specs.Inner.Giving.{IsGiven, IsGivenOf, IsNoScript, IsTextFault};
+ghost use Rattle.qs_top.specs.Ran.{RanByRounds, RanNotBegun, RanOutOfMemory, RanRefused, RanShort, RanWhole};
 ghost use Rattle.qs_top.specs.Run.{HasLawful, IsNotBegun, IsNothing, IsRefused, IsShort, IsWhole, LeaveAll};
 ghost use Rattle.qs_top.specs.Statuses.{IfNot, IsEnd, IsPastScript, IsOfRun, Gives, Tells};
 ghost use Rattle.qs_top.specs.Texts.{HasText, OfScript, ReadWhole};
-ghost use Rattle.qs_top.specs.Untold.{AreOnlyTouched, RanOutOfMemory, StayCoherent, StayRoomy};
 ghost use Rattle.qs_top.specs.Verdict.{IsUnlawfulText, IsVerdict, IsOfCheck};
 
 use crate::asking::{Asked, asked_by};
@@ -151,9 +151,13 @@ fn give<K: Sink>(sink: &mut K, made: RunMade) -> Run
     }
 }
 
-/// Runs a script, that of a load or one that is read from the source, on so many nodes over the logs of the first disks, and gives what is to
-/// be shown of it to the sink.
-fn run_script<S: Source, K: Sink, D: Disk>(
+/// Runs a script, that of a load or one that is read from the source, on so many nodes over the logs of the first disks, in rounds whose orders are
+/// drawn from the seed, and gives what is to be shown of it to the sink. `run` calls it for the forms `run` and `load`.
+///
+/// What `run` promises of these forms is promised here by the rounds and visits that the nodes made, so that who wants to know what a seed determines finds it: the nodes
+/// begin over the disks, make their rounds, and tell what they did, which is a run of the world over packets; a status is that of how the rounds ended. There is at least
+/// one node, and at most 8 are; there are at least 8 disks. The statuses and when they come are those of `run`.
+pub fn run_script<S: Source, K: Sink, D: Disk>(
     alloc: Global,
     nodes: u8,
     seed: u64,
@@ -165,6 +169,8 @@ fn run_script<S: Source, K: Sink, D: Disk>(
     requires some { 1 ≤ nodes }
     requires few { nodes ≤ 8 }
     requires disks { 8 ≤ length disks.old.items }
+
+    // The journal is lawful, and each status has its cause.
     ensures lawful { HasLawful D.told D.state nodes result.journal disks.old.items disks.new.items }
     ensures ran { result.status ≢ Status.Usage }
     ensures read_fault { result.status ≡ Status.ReadFault → Rose (S.faults source.old) (S.faults source.new) }
@@ -177,31 +183,41 @@ fn run_script<S: Source, K: Sink, D: Disk>(
         → HasText shown (S.left source.old) (S.left source.new) (λ text. script_of nodes text ≡ Err (Fault line fault)) }
     ensures past_script { IsPastScript result.status
         → HasText shown (S.left source.old) (S.left source.new) (OfScript nodes (λ script. ⊤)) }
+
+    // A run that ended made its rounds over the links between its nodes; its journal and its trace are those of all of them, merged by stamp and node, and the trace is of
+    // a run of the world over packets. Where a disk failed, or the judge refuses the journal, the nodes had made rounds up to there.
     ensures ended { IsEnd result.status
         → HasText shown (S.left source.old) (S.left source.new) (OfScript nodes (λ script. OfThese nodes
-        (IsWhole D.told D.state D.fault_count D.byte_count seed nodes script shown (λ status. result.status ≡ status) (Appends (K.given sink.old) (K.given sink.new)) result.journal result.trace)
+        (RanWhole D.told D.state D.fault_count D.byte_count seed nodes script shown (λ status. result.status ≡ status) (Appends (K.given sink.old) (K.given sink.new)) result.journal result.trace)
         disks.old.items disks.new.items)) }
     ensures cut_off { result.status ≡ Status.WriteFault
         → HasText shown (S.left source.old) (S.left source.new) (OfScript nodes (λ script. OfThese nodes
-        (IsWhole D.told D.state D.fault_count D.byte_count seed nodes script shown IsEnd (GivesPart (K.given sink.old) (K.given sink.new)) result.journal result.trace)
+        (RanWhole D.told D.state D.fault_count D.byte_count seed nodes script shown IsEnd (GivesPart (K.given sink.old) (K.given sink.new)) result.journal result.trace)
         disks.old.items disks.new.items)) }
     ensures cut_short { (node : NodeNo) → result.status ≡ Status.DiskFault node
         → HasText shown (S.left source.old) (S.left source.new) (OfScript nodes (λ script. OfThese nodes
-        (λ firsts afters. IsNotBegun D.told D.state D.fault_count D.byte_count node result.journal result.trace firsts afters
-        ⊎ IsShort D.told D.state D.fault_count D.byte_count seed nodes script node result.journal result.trace firsts afters)
+        (λ firsts afters. RanNotBegun D.told D.state D.fault_count D.byte_count node result.journal result.trace firsts afters
+        ⊎ RanShort D.told D.state D.fault_count D.byte_count seed nodes script node result.journal result.trace firsts afters)
         disks.old.items disks.new.items)) }
     ensures refused { (line clause : ℕ) → result.status ≡ Status.Unlawful line clause
         → HasText shown (S.left source.old) (S.left source.new) (OfScript nodes (λ script. OfThese nodes
-        (IsRefused D.told D.state D.fault_count D.byte_count seed nodes script line clause) disks.old.items disks.new.items)) }
+        (RanRefused D.told D.state D.fault_count D.byte_count seed nodes script line clause) disks.old.items disks.new.items)) }
+
+    // Where memory was refused the nodes did not all begin, and each disk was changed at most by the raise; or they began, and memory was refused in their rounds, or behind
+    // them as what they made was gathered, judged or told.
     ensures out_of_memory { result.status ≡ Status.NoMemory
         → OfThese nodes (AreOnlyTouched D.told D.state) disks.old.items disks.new.items
         ⊎ HasText shown (S.left source.old) (S.left source.new) (OfScript nodes (λ script. OfThese nodes
         (RanOutOfMemory D.told D.state D.fault_count D.byte_count seed script) disks.old.items disks.new.items)) }
+
+    // Else nothing is given, and nothing told; and what was taken of the source.
     ensures silent { IfNot (Gives result.status) (K.given sink.new ≡ K.given sink.old) }
     ensures empty { IfNot (Tells result.status) (IsNothing result.journal result.trace) }
     ensures bound { TakesAtMost 1048577 (S.left source.old) (S.left source.new) }
     ensures untaken { (seed : ℕ) → shown ≡ Shown.Load seed → S.left source.new ≡ S.left source.old }
     ensures built { IsOfRun result.status }
+
+    // What is left on the disks.
     ensures others { AreOthers nodes disks.old.items disks.new.items }
     ensures left { OfThese nodes (LeaveAll D.told D.state nodes result.status) disks.old.items disks.new.items }
     ensures coherent { OfThese nodes (StayCoherent D.told D.state) disks.old.items disks.new.items }
@@ -247,6 +263,9 @@ fn run_script<S: Source, K: Sink, D: Disk>(
 /// `check` reads a history from the source and judges it: where it is lawful, `lawful E` and a line feed go to the sink, E the
 /// number of its entries, and else nothing. At most 67,108,865 bytes are taken of the source. No disk is opened, and the journal
 /// is empty.
+///
+/// All clauses but `by_rounds` say what becomes of a run, whatever made it. That one passes on what `run_script` promises: by which rounds and visits of the nodes it
+/// came to that.
 pub fn run<R: Threads + Sync, S: Source, K: Sink, D: Disk>(
     _rt: &R,
     alloc: Global,
@@ -278,40 +297,36 @@ pub fn run<R: Threads + Sync, S: Source, K: Sink, D: Disk>(
     ensures past_script { (nodes seed : ℕ) (shown : Shown) → asked_by (form_of words.now) ≡ Some (Asked.Serial nodes seed shown) → IsPastScript result.status
         → HasText shown (S.left source.old) (S.left source.new) (OfScript nodes (λ script. ⊤)) }
 
-    // A run that ended made its rounds over the links between its nodes, its journal is that of all of them, merged by stamp and node, and
-    // conforms to the script, the status is that of the journal and of how the rounds ended, and what is to be shown was given whole; at a
-    // write fault a part of it was. The trace is of a run of the world over packets; and where the logs were coherent, whatever a power cut leaves of
-    // the disks stands for the machine: a restart over it is lawful, and takes up what the machine has, committed and pending.
+    // A run that ended: its journal conforms to the script, the status is that of who waits by the journal and of whether all work was done, and what is to be shown was given
+    // whole; at a write fault a part of it was. Where the logs were coherent, whatever a power cut leaves of the disks stands for the machine: a restart over it is lawful, and takes up
+    // what the machine has committed and on record.
     ensures ended { (nodes seed : ℕ) (shown : Shown) → asked_by (form_of words.now) ≡ Some (Asked.Serial nodes seed shown) → IsEnd result.status
         → HasText shown (S.left source.old) (S.left source.new) (OfScript nodes (λ script. OfThese nodes
-        (IsWhole D.told D.state D.fault_count D.byte_count seed nodes script shown (λ status. result.status ≡ status) (Appends (K.given sink.old) (K.given sink.new)) result.journal result.trace)
+        (IsWhole D.told D.state nodes script shown (λ status. result.status ≡ status) (Appends (K.given sink.old) (K.given sink.new)) result.journal result.trace)
         disks.old.items disks.new.items)) }
     ensures cut_off { (nodes seed : ℕ) (shown : Shown) → asked_by (form_of words.now) ≡ Some (Asked.Serial nodes seed shown) → result.status ≡ Status.WriteFault
         → HasText shown (S.left source.old) (S.left source.new) (OfScript nodes (λ script. OfThese nodes
-        (IsWhole D.told D.state D.fault_count D.byte_count seed nodes script shown IsEnd (GivesPart (K.given sink.old) (K.given sink.new)) result.journal result.trace)
+        (IsWhole D.told D.state nodes script shown IsEnd (GivesPart (K.given sink.old) (K.given sink.new)) result.journal result.trace)
         disks.old.items disks.new.items)) }
 
     // Where a disk failed as its node was started again, the journal is what the nodes had made, and conforms; where it failed as the log was
-    // opened nothing is told, and a power cut may still leave the log with its incarnation not raised. Where the judge refuses what the
+    // opened nothing is told, and each disk was changed at most by the raise of its log's incarnation. Where the judge refuses what the
     // nodes made, the line and the clause are told; where the logs were coherent each entry is lawful, and it is for a rule of the script.
     ensures cut_short { (nodes seed : ℕ) (shown : Shown) → asked_by (form_of words.now) ≡ Some (Asked.Serial nodes seed shown)
         → (node : NodeNo) → result.status ≡ Status.DiskFault node
         → HasText shown (S.left source.old) (S.left source.new) (OfScript nodes (λ script. OfThese nodes
-        (λ firsts afters. IsNotBegun D.told D.state D.fault_count D.byte_count node result.journal result.trace firsts afters
-        ⊎ IsShort D.told D.state D.fault_count D.byte_count seed nodes script node result.journal result.trace firsts afters)
+        (λ firsts afters. IsNotBegun D.told D.state result.journal result.trace firsts afters
+        ⊎ IsShort D.told D.state nodes script result.journal result.trace firsts afters)
         disks.old.items disks.new.items)) }
     ensures refused { (nodes seed : ℕ) (shown : Shown) → asked_by (form_of words.now) ≡ Some (Asked.Serial nodes seed shown)
         → (line clause : ℕ) → result.status ≡ Status.Unlawful line clause
         → HasText shown (S.left source.old) (S.left source.new) (OfScript nodes (λ script. OfThese nodes
-        (IsRefused D.told D.state D.fault_count D.byte_count seed nodes script line clause) disks.old.items disks.new.items)) }
+        (IsRefused D.told D.state nodes script line clause) disks.old.items disks.new.items)) }
 
-    // Where memory was refused the nodes did not all begin, and each disk was changed at most by the raise; or they began, and memory was
-    // refused in their rounds, or behind them as what they made was gathered, judged or told. A restart within a run never finds its log damaged,
-    // over a disk that tells.
+    // Where memory was refused before all nodes began, each disk was changed at most by the raise; else the script was read.
     ensures out_of_memory { (nodes seed : ℕ) (shown : Shown) → asked_by (form_of words.now) ≡ Some (Asked.Serial nodes seed shown) → result.status ≡ Status.NoMemory
         → OfThese nodes (AreOnlyTouched D.told D.state) disks.old.items disks.new.items
-        ⊎ HasText shown (S.left source.old) (S.left source.new) (OfScript nodes (λ script. OfThese nodes
-        (RanOutOfMemory D.told D.state D.fault_count D.byte_count seed script) disks.old.items disks.new.items)) }
+        ⊎ HasText shown (S.left source.old) (S.left source.new) (OfScript nodes (λ script. ⊤)) }
 
     // Else nothing is given, and nothing told.
     ensures silent { IfNot (Gives result.status) (K.given sink.new ≡ K.given sink.old) }
@@ -336,6 +351,11 @@ pub fn run<R: Threads + Sync, S: Source, K: Sink, D: Disk>(
     ensures roomy { (nodes seed : ℕ) (shown : Shown) → asked_by (form_of words.now) ≡ Some (Asked.Serial nodes seed shown)
         → OfThese nodes (StayRoomy D.told D.state D.byte_count) disks.old.items disks.new.items }
 
+    // By which rounds and visits a run came to that, so that a seed determines it: what `run_script` promises of the same. Whoever wants to know no more than what
+    // becomes of a run need not read what this rests on.
+    ensures by_rounds { (nodes seed : ℕ) (shown : Shown) → asked_by (form_of words.now) ≡ Some (Asked.Serial nodes seed shown)
+        → RanByRounds D.told D.state D.fault_count D.byte_count seed nodes shown (S.left source.old) (S.left source.new) (K.given sink.old) (K.given sink.new) result disks.old.items disks.new.items }
+
     // Of a check: the text that was read is a history, and the verdict on it is what was given; no disk is opened.
     ensures unlawful { asked_by (form_of words.now) ≡ Some Asked.Check → (line clause : ℕ) → result.status ≡ Status.Unlawful line clause
         → ReadWhole 67108864 (S.left source.old) (S.left source.new) (λ text. IsUnlawfulText text line clause) }
@@ -349,7 +369,7 @@ pub fn run<R: Threads + Sync, S: Source, K: Sink, D: Disk>(
         (λ text. IsVerdict text (GivesPart (K.given sink.old) (K.given sink.new))) }
     ensures check_built { asked_by (form_of words.now) ≡ Some Asked.Check → IsOfCheck result.status }
     ensures check_bound { asked_by (form_of words.now) ≡ Some Asked.Check → TakesAtMost 67108865 (S.left source.old) (S.left source.new) }
-    ensures check_journal { asked_by (form_of words.now) ≡ Some Asked.Check → result.journal ≡ [] }
+    ensures check_nothing { asked_by (form_of words.now) ≡ Some Asked.Check → IsNothing result.journal result.trace }
     ensures check_disks { asked_by (form_of words.now) ≡ Some Asked.Check → disks.new.items ≡ disks.old.items }
 {
     match asked_by(words) {

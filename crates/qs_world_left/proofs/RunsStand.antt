@@ -4,7 +4,7 @@ use Rattle.std.proofs.lemmas.Bool.{and_from, lt-ltb, ltb-true}
 use Rattle.std.proofs.lemmas.Bool.Decides.{nat_tests}
 use Rattle.qs_book_journal.specs.declared.entry.CrashCause.TheVariants as causes
 use Rattle.qs_book_machine.specs.Book.{BookValue}
-use Rattle.qs_book_machine.specs.Lawful.{book_after}
+use Rattle.qs_book_machine.specs.Lawful.{IsLawful, book_after, effect}
 use Rattle.qs_book_machine.specs.Nodes as machine
 use Rattle.qs_ops.specs.Table.{TableValue}
 use Rattle.qs_ops.specs.declared.operation.Op.{Op}
@@ -18,9 +18,8 @@ use Rattle.qs_world_lawful.specs.Logged.{HoldsLogged}
 use Rattle.qs_world_lawful.specs.Said.{HoldsSaid, IsMadeBy, SameContents}
 use Rattle.qs_world_lawful.specs.Worlds.{HoldsNodeAt}
 use Rattle.qs_world_left.proofs.RunsLeave.{same_size}
-use Rattle.qs_world_left.specs.Standing.{EachRunStands, EachRunStandsAlone, KeepsContents, Restarts, StandsFor, restart_entry, stop_entries}
+use Rattle.qs_world_left.specs.Standing.{EachRunStands, EachRunStandsAlone, KeepsContents, Restarts, StandsFor, StandsWhole, restart_entry, stop_entries}
 use Rattle.qs_world_one.proofs.StandsOver as one
-use Rattle.qs_world_one.specs.StandsFor as alone
 use Rattle.qs_world_opening.proofs.Tests.{itself, parts}
 use Rattle.qs_world_packets.proofs.OpensWithin.{opens_alike}
 use Rattle.qs_world_packets.proofs.RunsGo.{each_run_shown}
@@ -135,6 +134,23 @@ stands : (o : Opening) (world : World) (n stamp inc : ℕ) → Joined AlongRun o
 stands o world n stamp inc j order later true up = stands_up o world n stamp inc j up order later
 stands o world n stamp inc j order later false down = record { stamp = stamp; stops = tt; restarts = restarts o world n stamp inc j down order later; kept = λ is. absurd (cc is) }
 
+-- of the only node: the machine that has all that the log says is the one of the restart
+stands_whole : (book : BookValue) (up : Bool) (inc : ℕ) (records : List Record) (s : StandsFor book 0 up inc records) (after : BookValue) (all : one.HoldsAll after records) → s.restarts.state ≡ all.state → StandsWhole book up inc records
+stands_whole book up inc records s after all same = record {
+  stands = s;
+  files = λ setting. ap (λ (n : machine.NodeValue). n.files) same ∙ all.files setting;
+  audit = λ setting. ap (λ (n : machine.NodeValue). n.audit) same ∙ all.audit setting;
+}
+
+whole_up : (book : BookValue) (stamp inc : ℕ) (records : List Record) (stops : IsLawful book (stop_entries 0 true stamp)) (again : Restarts (book_after book (stop_entries 0 true stamp)) 0 stamp inc records)
+    → KeepsContents true (slice_get book.nodes 0) again.state → one.HoldsAll (effect (effect book (one.crash_entry stamp)) (one.restart_entry stamp inc (recovery records))) records → StandsWhole book true inc records
+whole_up book stamp inc records stops again kept all = stands_whole book true inc records (record { stamp = stamp; stops = stops; restarts = again; kept = kept })
+    (effect (effect book (one.crash_entry stamp)) (one.restart_entry stamp inc (recovery records))) all (one_state (sym again.there ∙ all.there))
+
+whole_down : (book : BookValue) (stamp inc : ℕ) (records : List Record) (again : Restarts book 0 stamp inc records) → one.HoldsAll (effect book (one.restart_entry stamp inc (recovery records))) records → StandsWhole book false inc records
+whole_down book stamp inc records again all = stands_whole book false inc records (record { stamp = stamp; stops = tt; restarts = again; kept = λ is. absurd (cc is) })
+    (effect book (one.restart_entry stamp inc (recovery records))) all (one_state (sym again.there ∙ all.there))
+
 -- ---- over packets
 
 module _ (o : Opening) (moves : List packets.Move) (world : PacketWorld) (opens : IsOpening o) (run : Run (start o) moves world) (n stamp inc : ℕ) where
@@ -152,8 +168,8 @@ module _ (o : Opening) (moves : List packets.Move) (world : PacketWorld) (opens 
       (stands (within o) (over world r.channels) n stamp inc joined_over order (subst (λ (k : ℕ). k < inc) (sym (ap (λ (f : ℕ → ℕ). f n) r.shown.shows.inc)) later) (world.network.up n) (ap (λ (f : ℕ → Bool). f n) r.shown.shows.up))
 
   -- of a run of one node
-  alone_over : o.size ≡ 1 → is_in_order (over world r.channels) 0 stamp ≡ true → world.network.inc 0 < inc → alone.StandsFor (book_after (book_of o) world.journal) (world.network.up 0) inc (world.hosts 0).log
-  alone_over single order later = subst (λ (b : BookValue). alone.StandsFor (book_after b world.journal) (world.network.up 0) inc (world.hosts 0).log) alike.book
+  alone_over : o.size ≡ 1 → is_in_order (over world r.channels) 0 stamp ≡ true → world.network.inc 0 < inc → StandsWhole (book_after (book_of o) world.journal) (world.network.up 0) inc (world.hosts 0).log
+  alone_over single order later = subst (λ (b : BookValue). StandsWhole (book_after b world.journal) (world.network.up 0) inc (world.hosts 0).log) alike.book
       (by (world.network.up 0) (ap (λ (f : ℕ → Bool). f 0) r.shown.shows.up))
     where
       size_is : world.size ≡ 1
@@ -162,9 +178,14 @@ module _ (o : Opening) (moves : List packets.Move) (world : PacketWorld) (opens 
       later_over : (over world r.channels).channels.inc 0 < inc
       later_over = subst (λ (k : ℕ). k < inc) (sym (ap (λ (f : ℕ → ℕ). f 0) r.shown.shows.inc)) later
 
-      by : (b : Bool) → (over world r.channels).channels.up 0 ≡ b → alone.StandsFor (book_in (within o) (over world r.channels)) b inc (world.hosts 0).log
-      by true up = one.stands_up (within o) alike.opens (run_moves (start o) moves) (over world r.channels) r.run size_is stamp inc order later_over up
-      by false down = one.stands_down (within o) alike.opens (run_moves (start o) moves) (over world r.channels) r.run size_is stamp inc order later_over down
+      by : (b : Bool) → (over world r.channels).channels.up 0 ≡ b → StandsWhole (book_in (within o) (over world r.channels)) b inc (world.hosts 0).log
+      by true up = whole_up (book_in (within o) (over world r.channels)) stamp inc (world.hosts 0).log
+          (lawful_more (within o) (over world r.channels) (stopped (within o) (over world r.channels) 0 stamp inc joined_over up order later_over) (stop_entries 0 true stamp) refl
+          (joined_stopped (within o) (over world r.channels) 0 stamp inc joined_over up order later_over).lawful)
+          (behind (within o) (over world r.channels) 0 stamp inc joined_over up order later_over) (keeps (within o) (over world r.channels) 0 stamp inc joined_over up order later_over)
+          (one.stands_up (within o) alike.opens (run_moves (start o) moves) (over world r.channels) r.run size_is stamp inc order later_over up)
+      by false down = whole_down (book_in (within o) (over world r.channels)) stamp inc (world.hosts 0).log (restarts (within o) (over world r.channels) 0 stamp inc joined_over down order later_over)
+          (one.stands_down (within o) alike.opens (run_moves (start o) moves) (over world r.channels) r.run size_is stamp inc order later_over down)
 
 pub each_run_stands : EachRunStands
 each_run_stands o moves world n stamp inc opens run order later = stands_over o moves world opens run n stamp inc order later

@@ -1,8 +1,10 @@
 -- What the log of an image of a node's disk stands for: the node goes on from the machine, after a crash where it is up, by a lawful restart over that log; and
 -- what the machine has of that node then is what the log says.
 use Rattle.std.specs.Prelude.{◌≡◌, ◌≢◌, ℕ, ◌+◌, ◌<◌, Bool, true, false, List, [], ◌∷◌, length, Option, None, Some, is_none, slice_get}
+use Rattle.std.specs.List.{AllByRecursion}
 use Rattle.std.specs.Global.{Global}
 use Rattle.qs_base.specs.declared.identifiers.NodeNo.{NodeNo}
+use Rattle.qs_book_conformance.specs.Crashes.{last_stamp}
 use Rattle.qs_book_journal.specs.Merge.{IsMerged}
 use Rattle.qs_book_journal.specs.declared.entry.Act.TheVariants as acts
 use Rattle.qs_book_journal.specs.declared.entry.CrashCause.TheVariants as causes
@@ -10,16 +12,19 @@ use Rattle.qs_book_journal.specs.declared.entry.Entry.{Entry}
 use Rattle.qs_book_machine.specs.Book.{BookValue}
 use Rattle.qs_book_machine.specs.Lawful.{IsLawful, book_after}
 use Rattle.qs_book_machine.specs.Nodes as machine
+use Rattle.qs_book_machine.specs.Opening.{opened_node}
 use Rattle.qs_book_script.specs.declared.script.Script.{Script}
-use Rattle.qs_cell.specs.State.{carried_of, cause_of}
-use Rattle.qs_cell_chronicle.specs.Chronicle.{last_stamp}
+use Rattle.qs_cell.specs.State.{cause_of}
 use Rattle.qs_disk.specs.Disk.{DiskState, EachImage}
 use Rattle.qs_link.specs.declared.outgoing.LinkFault.{LinkFault}
 use Rattle.qs_log.specs.Image.{IsLog}
+use Rattle.qs_node_step.specs.Opening.{recovered_of}
+use Rattle.qs_node_step.specs.declared.setting.Setting.{Setting}
+use Rattle.qs_node_step.specs.declared.trace.Step.{Step}
 use Rattle.qs_record.specs.declared.record.Record.{Record}
 use Rattle.qs_restart.specs.Recovery.{Recovery, recovery}
 use Rattle.qs_slot.specs.Slot.{Present}
-use Rattle.qs_world.specs.Histories.{book_of}
+use Rattle.qs_world.specs.Histories.{book_of, opened_with}
 use Rattle.qs_world.specs.Openings.{IsOpening}
 use Rattle.qs_world.specs.Posting.{entry_of}
 use Rattle.qs_world.specs.World.{Opening}
@@ -27,11 +32,12 @@ use Rattle.qs_world_lawful.specs.Logged.{HoldsLogged}
 use Rattle.qs_world_lawful.specs.Logs.{found_votes}
 use Rattle.qs_world_lawful.specs.Said.{HoldsSaid, SameContents}
 use Rattle.qs_world_left.specs.Disks.{disks_of}
+use Rattle.qs_world_merge.specs.MergedByKey.{IsMergedBy}
 use Rattle.qs_world_merge.specs.Observed.{journals_of}
+use Rattle.qs_world_merge.specs.StepMoves.{step_key}
 use Rattle.qs_world_nodes.specs.Lawful.{HaveCoherentLogs}
 use Rattle.qs_world_nodes.specs.Nodes.{AreCellsIn, AreSitesIn, journal_at, trace_at}
 use Rattle.qs_world_nodes.specs.Openings.{SitOnce, opening_over}
-use Rattle.qs_world_one.specs.StandsFor as alone
 use Rattle.qs_world_opening.specs.Scripts.{Fits}
 use Rattle.qs_world_packets.specs.PacketMoves.{Move, is_in_order}
 use Rattle.qs_world_packets.specs.PacketRuns.{Run}
@@ -90,15 +96,25 @@ IsStanding book n up image = (present : Present) (records : List Record) (used :
 abbrev pub DisksStandFor : BookValue → (ℕ → Bool) → (ℕ → Type 0) → List DiskState → Type 0
 DisksStandFor book ups Holds disks = (n : ℕ) (disk : DiskState) → slice_get disks n ≡ Some disk → Holds n → EachImage (IsStanding book n (ups n)) disk.now
 
+-- no other node has made a step with the last stamp, so that this one may make one more behind all of theirs
+abbrev pub HaveOthersStampsLeft : List Step → ℕ → Type 0
+HaveOthersStampsLeft trace n = AllByRecursion (λ (step : Step). step.node.0 ≢ n → step.stamp < last_stamp) trace
+
 -- ---- of a run of one node: nothing is crossed in it, so the machine has all of files and audit as the log says, with pending changes and locks
+
+-- it has what a node that opens over the log by itself has, whatever its setting
+pub record StandsWhole (book : BookValue) (up : Bool) (inc : ℕ) (records : List Record) : Type 0 where
+  pub stands : StandsFor book 0 up inc records
+  pub files : (setting : Setting) → stands.restarts.state.files ≡ (opened_node (opened_with setting (recovered_of records))).files
+  pub audit : (setting : Setting) → stands.restarts.state.audit ≡ (opened_node (opened_with setting (recovered_of records))).audit
 
 abbrev pub EachRunStandsAlone : Type 0
 EachRunStandsAlone = (o : Opening) (moves : List Move) (world : PacketWorld) (stamp inc : ℕ) → IsOpening o → Run (start o) moves world → o.size ≡ 1 → is_in_order world 0 stamp ≡ true → world.network.inc 0 < inc
-    → alone.StandsFor (book_after (book_of o) world.journal) (world.network.up 0) inc (world.hosts 0).log
+    → StandsWhole (book_after (book_of o) world.journal) (world.network.up 0) inc (world.hosts 0).log
 
--- the only disk, by whether its node is up
+-- each image of the only disk does, by whether its node is up
 abbrev pub StandsAlone : BookValue → Bool → List DiskState → Type 0
-StandsAlone book up disks = (disk : DiskState) → disks ≡ disk ∷ [] → alone.DiskStandsFor book up disk
+StandsAlone book up disks = (disk : DiskState) → disks ≡ disk ∷ [] → EachImage (λ image. (present : Present) (records : List Record) (used : ℕ) → IsLog present records used image → StandsWhole book up (present.value.inc + 1) records) disk.now
 
 -- ---- of sites
 
@@ -109,48 +125,45 @@ up_by (Some site) = is_none (cause_of site.node.seat.node)
 abbrev pub up_at : {D : Type 0} → List (Cast D) → ℕ → Bool
 up_at sites n = up_by (slice_get sites n)
 
--- no other node has come to the last stamp, so that this one may make one more step behind all others
-abbrev pub HaveOthersStampsLeft : {D : Type 0} → List (Cast D) → ℕ → Type 0
-HaveOthersStampsLeft sites n = (m : ℕ) (site : Cast _) → slice_get sites m ≡ Some site → m ≢ n → (carried_of site.node.seat.node).chronicle.told.stamp < last_stamp
+-- all that the cells tell, merged: their entries and their steps
+pub record IsTold {D : Type 0} (size : ℕ) (journal : List Entry) (trace : List Step) (sites : List (Cast D)) : Type 0 where
+  pub entries : IsMerged (journals_of size (λ k. observed_by (journal_at sites k) (trace_at sites k))) journal
+  pub steps : IsMergedBy step_key size (trace_at sites) trace
 
--- all that the cells tell, merged
-abbrev pub IsTold : {D : Type 0} → ℕ → List Entry → List (Cast D) → Type 0
-IsTold size journal sites = IsMerged (journals_of size (λ k. observed_by (journal_at sites k) (trace_at sites k))) journal
-
-pub record StandFor {D : Type 0} (state : D → DiskState) (o : Opening) (journal : List Entry) (sites : List (Cast D)) : Type 0 where
-  pub each : DisksStandFor (book_after (book_of o) journal) (up_at sites) (HaveOthersStampsLeft sites) (disks_of state sites)
+pub record StandFor {D : Type 0} (state : D → DiskState) (o : Opening) (journal : List Entry) (trace : List Step) (sites : List (Cast D)) : Type 0 where
+  pub each : DisksStandFor (book_after (book_of o) journal) (up_at sites) (HaveOthersStampsLeft trace) (disks_of state sites)
   pub alone : StandsAlone (book_after (book_of o) journal) (up_at sites 0) (disks_of state sites)
 
 -- the disks of sites in the world stand for the machine after that
-abbrev pub SitesLeaveStanding : {D : Type 0} → Type 0 → (D → DiskState) → Opening → (ℕ → ℕ → List LinkFault) → List (Cast D) → List Entry → Type 0
-SitesLeaveStanding told state o plans sites journal =
-    told → IsOpening o → AreSitesIn told state o plans sites → IsTold o.size journal sites → StandFor state o journal sites
+abbrev pub SitesLeaveStanding : {D : Type 0} → Type 0 → (D → DiskState) → Opening → (ℕ → ℕ → List LinkFault) → List (Cast D) → List Entry → List Step → Type 0
+SitesLeaveStanding told state o plans sites journal trace =
+    told → IsOpening o → AreSitesIn told state o plans sites → IsTold o.size journal trace sites → StandFor state o journal trace sites
 
 -- and so where their cells alone are known to be there, whose links keep their plans
-abbrev pub CellsLeaveStanding : {D : Type 0} → Type 0 → (D → DiskState) → Opening → (ℕ → ℕ → List LinkFault) → List (Cast D) → List Entry → Type 0
-CellsLeaveStanding told state o plans sites journal =
-    told → IsOpening o → AreCellsIn told state o plans sites → IsTold o.size journal sites → StandFor state o journal sites
+abbrev pub CellsLeaveStanding : {D : Type 0} → Type 0 → (D → DiskState) → Opening → (ℕ → ℕ → List LinkFault) → List (Cast D) → List Entry → List Step → Type 0
+CellsLeaveStanding told state o plans sites journal trace =
+    told → IsOpening o → AreCellsIn told state o plans sites → IsTold o.size journal trace sites → StandFor state o journal trace sites
 
 -- and so do those of a run that has begun with a script that fits over coherent logs: after any rounds
-abbrev pub RoundsLeaveStanding : {D : Type 0} → Type 0 → (D → DiskState) → (D → ℕ) → (D → ℕ) → Global → Script → List D → Lcg → ℕ → SitesValue D → SitesValue D → Lcg → List Entry → Type 0
-RoundsLeaveStanding told state own size alloc script disks rng n all new later journal =
+abbrev pub RoundsLeaveStanding : {D : Type 0} → Type 0 → (D → DiskState) → (D → ℕ) → (D → ℕ) → Global → Script → List D → Lcg → ℕ → SitesValue D → SitesValue D → Lcg → List Entry → List Step → Type 0
+RoundsLeaveStanding told state own size alloc script disks rng n all new later journal trace =
     told → HasBegun told state own alloc script disks all → SitOnce script.seats → Fits (length disks) script → HaveCoherentLogs alloc disks all.sites → Rounds told state own size rng n all new later
-    → IsTold (length disks) journal new.sites → StandFor state (opening_over alloc script disks all.sites) journal new.sites
+    → IsTold (length disks) journal trace new.sites → StandFor state (opening_over alloc script disks all.sites) journal trace new.sites
 
 -- as the rounds end
-abbrev pub EndingsLeaveStanding : {D : Type 0} → Type 0 → (D → DiskState) → (D → ℕ) → (D → ℕ) → Global → Script → List D → ℕ → SitesValue D → SitesValue D → Ending → List Entry → Type 0
-EndingsLeaveStanding told state own size alloc script disks seed all new ending journal =
+abbrev pub EndingsLeaveStanding : {D : Type 0} → Type 0 → (D → DiskState) → (D → ℕ) → (D → ℕ) → Global → Script → List D → ℕ → SitesValue D → SitesValue D → Ending → List Entry → List Step → Type 0
+EndingsLeaveStanding told state own size alloc script disks seed all new ending journal trace =
     told → HasBegun told state own alloc script disks all → SitOnce script.seats → Fits (length disks) script → HaveCoherentLogs alloc disks all.sites → IsEnding told state own size script seed all new ending
-    → IsTold (length disks) journal new.sites → StandFor state (opening_over alloc script disks all.sites) journal new.sites
+    → IsTold (length disks) journal trace new.sites → StandFor state (opening_over alloc script disks all.sites) journal trace new.sites
 
 -- and where one was cut short
-abbrev pub CutShortLeavesStanding : {D : Type 0} → Type 0 → (D → DiskState) → (D → ℕ) → (D → ℕ) → Global → Script → List D → ℕ → NodeNo → SitesValue D → SitesValue D → List Entry → Type 0
-CutShortLeavesStanding told state own size alloc script disks seed node all new journal =
+abbrev pub CutShortLeavesStanding : {D : Type 0} → Type 0 → (D → DiskState) → (D → ℕ) → (D → ℕ) → Global → Script → List D → ℕ → NodeNo → SitesValue D → SitesValue D → List Entry → List Step → Type 0
+CutShortLeavesStanding told state own size alloc script disks seed node all new journal trace =
     told → HasBegun told state own alloc script disks all → SitOnce script.seats → Fits (length disks) script → HaveCoherentLogs alloc disks all.sites → IsCutShort told state own size seed node all new
-    → IsTold (length disks) journal new.sites → StandFor state (opening_over alloc script disks all.sites) journal new.sites
+    → IsTold (length disks) journal trace new.sites → StandFor state (opening_over alloc script disks all.sites) journal trace new.sites
 
 -- and where memory was refused: the history is all that the cells would tell, and in it the node stopped, with or without its last step
-abbrev pub RefusedLeavesStanding : {D : Type 0} → Type 0 → (D → DiskState) → (D → ℕ) → (D → ℕ) → Global → Script → List D → ℕ → SitesValue D → SitesValue D → List Entry → Type 0
-RefusedLeavesStanding told state own size alloc script disks seed all new journal =
+abbrev pub RefusedLeavesStanding : {D : Type 0} → Type 0 → (D → DiskState) → (D → ℕ) → (D → ℕ) → Global → Script → List D → ℕ → SitesValue D → SitesValue D → List Entry → List Step → Type 0
+RefusedLeavesStanding told state own size alloc script disks seed all new journal trace =
     told → HasBegun told state own alloc script disks all → SitOnce script.seats → Fits (length disks) script → HaveCoherentLogs alloc disks all.sites → IsOutOfMemory told state own size seed all new
-    → IsTold (length disks) journal new.sites → StandFor state (opening_over alloc script disks all.sites) journal new.sites
+    → IsTold (length disks) journal trace new.sites → StandFor state (opening_over alloc script disks all.sites) journal trace new.sites

@@ -22,7 +22,7 @@ are_and_one size (e ∷ ds) d are is = (are.0, are_and_one size ds d are.1 is)
 steps_and_one : (ds : List StepMoves) (d : StepMoves) → ◌≡◌ {A = List trace.Step} (map step_of (ds ++ d ∷ [])) (map step_of ds ++ d.step ∷ [])
 steps_and_one ds d = map-append step_of ds (d ∷ [])
 
-up_to_both : (s later : ℕ) (xs ys : List TimedMove) → s ≤ later → AllUpTo s xs → AllUpTo later ys → AllUpTo later (xs ++ ys)
+pub up_to_both : (s later : ℕ) (xs ys : List TimedMove) → s ≤ later → AllUpTo s xs → AllUpTo later ys → AllUpTo later (xs ++ ys)
 up_to_both s later [] ys low a b = b
 up_to_both s later (x ∷ xs) ys low a b = (omega (arith, low, a.0), up_to_both s later xs ys low a.1 b)
 

@@ -3,7 +3,6 @@ use Rattle.std.proofs.Common.{◌≡◌, ◌∙◌, ap, inl, inr, refl, subst, s
 use Rattle.std.specs.Prelude.{slice_set}
 use Rattle.qs_base.specs.declared.identifiers.ClientNo.{ClientNo}
 use Rattle.qs_cell.specs.Starts.{CellValue}
-use Rattle.qs_cell.specs.declared.state.CellState.TheVariants as states
 use Rattle.qs_session_channels.specs.Network.{Among}
 use Rattle.qs_client.specs.declared.cell.ClientCell.{ClientCell}
 use Rattle.qs_book_journal.specs.declared.script_line.LineAnswer.{LineAnswer}

@@ -1,5 +1,5 @@
--- The log of a world that a run leads to stands for the machine: where its only node stops in its place, or is down, and restarts, both entries are lawful, and then the machine holds
--- of files and audit what a node that opens over the log by itself does.
+-- The log of a world that a run leads to stands for the machine: where its only node stops in its place, or is down, and restarts, the machine then holds of files and audit what a node
+-- that opens over the log by itself does.
 use Rattle.std.proofs.Common.{◌≡◌, ◌∙◌, ap, refl, subst, sym, ℕ, ◌<◌, ◌==◌, ◌&&◌, ◌||◌, not, Bool, true, false, List, [], ◌∷◌, ◌++◌, Option, None, Some, arith, nat_lt, nat_le, slice_get}
 use Rattle.std.proofs.lemmas.Bool.Decides.{nat_tests}
 use Rattle.std.specs.BTreeMap.{is_at}
@@ -10,42 +10,62 @@ use Rattle.qs_base.specs.Order.{member_cmp}
 use Rattle.qs_base.specs.declared.identifiers.Member.{Member}
 use Rattle.qs_base.specs.declared.identifiers.NodeNo.{NodeNo}
 use Rattle.qs_base.specs.declared.identifiers.Tid.{Tid}
+use Rattle.qs_book_journal.specs.declared.entry.Act.TheVariants as acts
 use Rattle.qs_book_journal.specs.declared.entry.CrashCause.TheVariants as causes
+use Rattle.qs_book_journal.specs.declared.entry.Entry.{Entry}
 use Rattle.qs_book_laws.proofs.Holding.{left_of}
 use Rattle.qs_book_laws.proofs.Openings.{opening_names}
 use Rattle.qs_world_lawful.specs.Holds.{HoldsStill}
-use Rattle.qs_world_lawful.specs.Said.{HoldsSaid, IsMadeBy, SameContents}
+use Rattle.qs_world_lawful.specs.Logs.{found_votes}
 use Rattle.qs_world_lawful.specs.Tables.{HoldsTable, is_seen, of_seen}
 use Rattle.qs_world_lawful.specs.Worlds.{HoldsNodeAt, HoldsUp}
 use Rattle.qs_world_lawful.proofs.CoherentOpenings.{opens_soundly}
 use Rattle.qs_book_machine.specs.Book.{BookValue, find_transaction}
-use Rattle.qs_book_machine.specs.Lawful.{IsLawful, effect}
+use Rattle.qs_book_machine.specs.Lawful.{effect}
 use Rattle.qs_book_machine.specs.Nodes as machine
+use Rattle.qs_book_machine.specs.Opening.{opened_node}
 use Rattle.qs_book_machine.specs.Transaction.{TransactionValue, is_empty}
 use Rattle.qs_ops.specs.Servers.{audit_no, files_no}
 use Rattle.qs_ops.specs.Table.{TableValue}
 use Rattle.qs_ops.specs.declared.file.File.{File}
-use Rattle.qs_ops.specs.declared.operation.Op.{Op}
 use Rattle.qs_ops.specs.declared.share.Share.{Share}
 use Rattle.qs_record.specs.declared.record.Record.{Record}
-use Rattle.qs_restart.specs.Recovery.{recovery}
+use Rattle.qs_restart.specs.Recovery.{Recovery, recovery}
+use Rattle.qs_node_step.specs.Opening.{recovered_of}
 use Rattle.qs_node_step.specs.State.{NodeValue}
 use Rattle.qs_node_step.specs.declared.setting.Setting.{Setting}
-use Rattle.qs_world.specs.Histories.{opened_from}
+use Rattle.qs_world.specs.Histories.{opened_from, opened_with}
 use Rattle.qs_world.specs.Moves.{Move, Rise, Stop, is_in_order, may_move, moved, stamp_limit}
 use Rattle.qs_world.specs.Openings.{IsOpening}
+use Rattle.qs_world.specs.Posting.{entry_of}
 use Rattle.qs_world.specs.Runs.{Run}
 use Rattle.qs_world.specs.World.{Opening, World, start}
 use Rattle.qs_world_runs.specs.AlongRun.{AlongRun}
 use Rattle.qs_world_runs.specs.Joined.{Joined, book_in}
 use Rattle.qs_world_runs.specs.Uncrossed.{IsUncrossed}
 use Rattle.qs_world_runs.proofs.JoinedOver.{each_run_joined}
-use Rattle.qs_world_runs.proofs.JoinedParts.{book_on, lawful_more}
+use Rattle.qs_world_runs.proofs.JoinedParts.{book_on}
 use Rattle.qs_world_runs.proofs.NextOpening.{each_run_coherent}
 use Rattle.qs_world_runs.proofs.RunsGoOn.{runs_go}
 use Rattle.qs_world_runs.proofs.UncrossedRuns.{uncrossed_alone}
-use Rattle.qs_world_one.specs.StandsFor.{StandsFor, crash_entry, opened_over, restart_entry}
 use Rattle.qs_world_one.proofs.NextOver.{is_next, over_log}
+
+-- ---- what the machine then holds
+
+-- the node stops, for a cause of which the machine asks nothing
+abbrev pub crash_entry : ℕ → Entry
+crash_entry stamp = entry_of 0 stamp (acts.Crash causes.Memory)
+
+-- and finds these votes and Commits
+abbrev pub restart_entry : ℕ → ℕ → Recovery → Entry
+restart_entry stamp inc said = entry_of 0 stamp (acts.Restart inc (found_votes said) said.committed)
+
+-- what a node that opens over the log by itself has, whatever its setting
+pub record HoldsAll (book : BookValue) (records : List Record) : Type 0 where
+  pub state : machine.NodeValue
+  pub there : slice_get book.nodes 0 ≡ Some state
+  pub files : (setting : Setting) → state.files ≡ (opened_node (opened_with setting (recovered_of records))).files
+  pub audit : (setting : Setting) → state.audit ≡ (opened_node (opened_with setting (recovered_of records))).audit
 
 -- ---- tables
 
@@ -69,9 +89,6 @@ all_seen book uncrossed here server tid = by (find_transaction book tid) refl
     by None none = rw none refl
     by (Some tx) found = rw found (none_at (record { node = here; server = record { 0 = server } }) tx.crossed (uncrossed tid tx found))
 
-same_made : (table other : TableValue) (changes : List Op) → IsMadeBy table changes → IsMadeBy other changes → SameContents table other
-same_made table other changes a b = record { contents = a.contents ∙ sym b.contents; notes = a.notes ∙ sym b.notes }
-
 -- ---- the only node of a world, that runs
 
 one_low : (size : ℕ) → size ≡ 1 → 0 < size
@@ -85,7 +102,6 @@ record HoldsSame (o : Opening) (world : World) : Type 0 where
   there : slice_get (book_in o world).nodes 0 ≡ Some state
   files : state.files ≡ (world.hosts 0).node.servers.files.table
   audit : state.audit ≡ (world.hosts 0).node.servers.audit.table
-  said : HoldsSaid 0 (book_in o world) state (recovery (world.hosts 0).log)
 
 holds_same : (o : Opening) (moves : List Move) (world : World) → IsOpening o → Run (start o) moves world → world.size ≡ 1 → world.channels.up 0 ≡ true → HoldsSame o world
 holds_same o moves world opens run one up = record {
@@ -93,7 +109,6 @@ holds_same o moves world opens run one up = record {
   there = at.there;
   files = subst (λ (s : machine.NodeValue). s.files ≡ node.servers.files.table) same (same_table (is_seen book node.setting.node files_no) still.state.files node.servers.files.table (all_seen book whole node.setting.node files_no) still.servers.files);
   audit = subst (λ (s : machine.NodeValue). s.audit ≡ node.servers.audit.table) same (same_table (is_seen book node.setting.node audit_no) still.state.audit node.servers.audit.table (all_seen book whole node.setting.node audit_no) still.servers.audit);
-  said = runs.on_disk;
 }
   where
     book : BookValue
@@ -144,10 +159,10 @@ module _ (o : Opening) (opens : IsOpening o) (moves : List Move) (world : World)
   by_itself : HoldsSame next (start next)
   by_itself = holds_same next [] (start next) next_opens refl refl refl
 
-  itself_is : (setting : Setting) → (by_itself.state.files ≡ (opened_over setting log).files) × (by_itself.state.audit ≡ (opened_over setting log).audit)
+  itself_is : (setting : Setting) → (by_itself.state.files ≡ (opened_node (opened_with setting (recovered_of log))).files) × (by_itself.state.audit ≡ (opened_node (opened_with setting (recovered_of log))).audit)
   itself_is setting = (ap (λ (s : machine.NodeValue). s.files) is, ap (λ (s : machine.NodeValue). s.audit) is)
     where
-      is : by_itself.state ≡ opened_over (next.settings 0) log
+      is : by_itself.state ≡ opened_node (opened_with (next.settings 0) (recovered_of log))
       is = one_state (sym by_itself.there ∙ ap (λ (ns : List machine.NodeValue). slice_get ns 0) (opening_names (opened_from next 0 1) (opens_soundly next next_opens)).nodes)
 
   module _ (off : world.channels.up 0 ≡ false) where
@@ -163,29 +178,13 @@ module _ (o : Opening) (opens : IsOpening o) (moves : List Move) (world : World)
     risen : HoldsSame o new
     risen = holds_same o (moves ++ Rise 0 stamp inc ∷ []) new opens (run_then moves (start o) world (Rise 0 stamp inc) run may_rise) one refl
 
-    joined : Joined AlongRun o new
-    joined = each_run_joined AlongRun runs_go o (moves ++ Rise 0 stamp inc ∷ []) new opens (run_then moves (start o) world (Rise 0 stamp inc) run may_rise)
-
-    pub record Rises : Type 0 where
-      pub lawful : IsLawful (book_in o world) (restart_entry stamp inc (recovery log) ∷ [])
-      pub state : machine.NodeValue
-      pub there : slice_get (effect (book_in o world) (restart_entry stamp inc (recovery log))).nodes 0 ≡ Some state
-      pub files : (setting : Setting) → state.files ≡ (opened_over setting log).files
-      pub audit : (setting : Setting) → state.audit ≡ (opened_over setting log).audit
-      pub made : IsMadeBy state.files (recovery log).files × IsMadeBy state.audit (recovery log).audit
-
-    pub rises : Rises
-    rises = record {
-      lawful = lawful_more o world new (restart_entry stamp inc (recovery log) ∷ []) refl joined.lawful;
+    pub stands_down : HoldsAll (effect (book_in o world) (restart_entry stamp inc (recovery log))) log
+    stands_down = record {
       state = risen.state;
       there = subst (λ (b : BookValue). slice_get b.nodes 0 ≡ Some risen.state) (book_on o world new (restart_entry stamp inc (recovery log) ∷ []) refl) risen.there;
       files = λ setting. risen.files ∙ (sym by_itself.files ∙ (itself_is setting).0);
       audit = λ setting. risen.audit ∙ (sym by_itself.audit ∙ (itself_is setting).1);
-      made = (risen.said.files, risen.said.audit);
     }
-
-    pub stands_down : StandsFor (book_in o world) false inc log
-    stands_down = record { stamp = stamp; lawful = rises.lawful; state = rises.state; there = rises.there; files = rises.files; audit = rises.audit; kept = λ is. absurd (cc is) }
 
 -- and where it is up, after a crash in its place
 module _ (o : Opening) (opens : IsOpening o) (moves : List Move) (world : World) (run : Run (start o) moves world) (one : world.size ≡ 1) (stamp inc : ℕ) (order : is_in_order world 0 stamp ≡ true) (later : world.channels.inc 0 < inc) (up : world.channels.up 0 ≡ true) where
@@ -207,26 +206,11 @@ module _ (o : Opening) (opens : IsOpening o) (moves : List Move) (world : World)
       at : (a : Bool) (s : ℕ) → a ≡ true → (a && ((nat_lt s s || ((s == s) && nat_le 0 0)) && nat_le s s)) ≡ true
       at a s is = grind (arith, nat_tests, is)
 
-  joined_stopped : Joined AlongRun o stopped
-  joined_stopped = each_run_joined AlongRun runs_go o (moves ++ Stop 0 stamp causes.Memory ∷ []) stopped opens run_stopped
-
-  r : Rises o opens (moves ++ Stop 0 stamp causes.Memory ∷ []) stopped run_stopped one stamp inc order_stopped later refl
-  r = rises o opens (moves ++ Stop 0 stamp causes.Memory ∷ []) stopped run_stopped one stamp inc order_stopped later refl
+  r : HoldsAll (effect (book_in o stopped) (restart_entry stamp inc (recovery (world.hosts 0).log))) (world.hosts 0).log
+  r = stands_down o opens (moves ++ Stop 0 stamp causes.Memory ∷ []) stopped run_stopped one stamp inc order_stopped later refl
 
   book_stopped : book_in o stopped ≡ effect (book_in o world) (crash_entry stamp)
   book_stopped = book_on o world stopped (crash_entry stamp ∷ []) refl
 
-  was : HoldsSame o world
-  was = holds_same o moves world opens run one up
-
-  pub stands_up : StandsFor (book_in o world) true inc (world.hosts 0).log
-  stands_up = record {
-    stamp = stamp;
-    lawful = ((lawful_more o world stopped (crash_entry stamp ∷ []) refl joined_stopped.lawful).0, subst (λ (b : BookValue). IsLawful b (restart_entry stamp inc (recovery (world.hosts 0).log) ∷ [])) book_stopped r.lawful);
-    state = r.state;
-    there = subst (λ (b : BookValue). slice_get (effect b (restart_entry stamp inc (recovery (world.hosts 0).log))).nodes 0 ≡ Some r.state) book_stopped r.there;
-    files = r.files;
-    audit = r.audit;
-    kept = λ is before there. subst (λ (s : machine.NodeValue). SameContents r.state.files s.files × SameContents r.state.audit s.audit) (one_state (sym was.there ∙ there))
-        (same_made r.state.files was.state.files (recovery (world.hosts 0).log).files r.made.0 was.said.files, same_made r.state.audit was.state.audit (recovery (world.hosts 0).log).audit r.made.1 was.said.audit);
-  }
+  pub stands_up : HoldsAll (effect (effect (book_in o world) (crash_entry stamp)) (restart_entry stamp inc (recovery (world.hosts 0).log))) (world.hosts 0).log
+  stands_up = subst (λ (b : BookValue). HoldsAll (effect b (restart_entry stamp inc (recovery (world.hosts 0).log))) (world.hosts 0).log) book_stopped r

@@ -8,7 +8,5 @@ pub mod Showing
 pub mod Seats
 -- Room in the log of a node's disk.
 pub mod Rooms
--- What an image of its disk stands for.
-pub mod StandsFor
 -- A node over its log as a host of the world.
 pub mod InWorld

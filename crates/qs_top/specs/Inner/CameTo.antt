@@ -9,7 +9,7 @@ use Rattle.qs_log.specs.declared.fault.OpenFault.{OpenFault}
 use Rattle.qs_node_step.specs.declared.trace.Step.{Step}
 use Rattle.qs_top.specs.Inner.Making.{IsFailed, IsOutOfMemory, IsPassedEnd, IsPassedShort}
 use Rattle.qs_top.specs.Inner.OverNodes.{IsUnopenedMade}
-use Rattle.qs_top.specs.Run.{AreMerged, machine_of}
+use Rattle.qs_top.specs.Ran.{AreMerged, machine_of}
 use Rattle.qs_top.specs.declared.whole.RunMade.{RunMade}
 use Rattle.qs_world_rounds.specs.declared.faults.RoundFault.{RoundFault}
 use Rattle.qs_world_rounds.specs.declared.faults.RoundFault.TheVariants as faults

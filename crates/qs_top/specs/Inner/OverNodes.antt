@@ -8,7 +8,7 @@ use Rattle.qs_disk.specs.Disk.{DiskState}
 use Rattle.qs_log.specs.declared.fault.OpenFault.{OpenFault}
 use Rattle.qs_node_step.specs.declared.trace.Step.{Step}
 use Rattle.qs_top.specs.Inner.Making.{IsMadeFrom, IsNothingMade, IsOutOfMemory, not_opened}
-use Rattle.qs_top.specs.Run.{AreMerged, machine_of, opened_in}
+use Rattle.qs_top.specs.Ran.{AreMerged, machine_of, opened_in}
 use Rattle.qs_top.specs.declared.nodes.Gathered.{Gathered}
 use Rattle.qs_top.specs.declared.whole.RunMade.{RunMade}
 use Rattle.qs_world_left.specs.Left.{AreReadAsLeft}

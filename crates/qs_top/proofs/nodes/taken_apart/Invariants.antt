@@ -1,5 +1,5 @@
 use Rattle.std.proofs.Common.{◌≡◌, map}
-use Rattle.qs_top.specs.Run.{journal_in, opened_in, trace_in}
+use Rattle.qs_top.specs.Ran.{journal_in, opened_in, trace_in}
 use Rattle.qs_top.proofs.nodes.taken_apart.Given as goal
 
 -- of those nodes so far

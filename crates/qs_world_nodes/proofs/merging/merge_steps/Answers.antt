@@ -12,5 +12,5 @@ returns c =
     let asked = answers_always _ _ _ (λ f a r g h. search rules) in
     let sort = c.in_ok-sort_by_key.ensures in
     subst (IsMergedBy step_key (length c.args.traces) (λ n. get_or c.args.traces n [])) (sym c.from_vec.ensures)
-    (merged_by c.args.traces c.into_vec-steps.result.items c.sort_by_key.new.self.items (c.into_vec-steps.ensures ∙ c.in_ok-all_steps.ensures)
+    (merged_by c.args.traces c.into_vec-steps.result.items c.sort_by_key.new.self.items (c.into_vec-steps.ensures ∙ c.in_ok-joined.ensures)
     (sort.sorted key asked) (sort.stable key asked))
