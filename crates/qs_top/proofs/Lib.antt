@@ -17,6 +17,8 @@ mod NodesTold
 mod NodesMachine
 -- Which end a run came to.
 mod NodesCame
+-- What its nodes tell, once it is judged.
+mod NodesTraced
 -- What it is once its output was given.
 mod NodesGiven
 -- What it leaves.

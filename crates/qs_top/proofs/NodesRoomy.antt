@@ -13,7 +13,7 @@ use Rattle.qs_top.specs.Disks.{StayRoomy}
 use Rattle.qs_top.specs.declared.whole.RunMade.{RunMade}
 use Rattle.qs_top.proofs.Coherent.{touched_roomy}
 use Rattle.qs_top.proofs.NodesCame.{came_to}
-use Rattle.qs_top.proofs.NodesGiven.{NodesLaws, logs_coherent}
+use Rattle.qs_top.proofs.NodesTraced.{NodesLaws, logs_coherent}
 use Rattle.qs_top.proofs.NodesLeft.{each_of}
 use Rattle.qs_top.proofs.NodesMachine.{begun_sizes, left_sizes, left_states}
 use Rattle.qs_top.proofs.NodesTold.{map_has}

@@ -17,7 +17,7 @@ use Rattle.qs_top.specs.Disks.{AreOnlyTouched, AtNode, IsOnlyTouched, OfThese, S
 use Rattle.qs_top.specs.Inner.CameTo.{CameTo}
 use Rattle.qs_top.specs.Inner.Giving.{IsGiven, IsNoScript}
 use Rattle.qs_top.specs.Inner.OverNodes.{IsOverNodes}
-use Rattle.qs_top.specs.Ran.{RanNotBegun, RanOutOfMemory, RanRefused, RanShort, RanWhole}
+use Rattle.qs_top.specs.Ran.{RanByRounds, RanNotBegun, RanOutOfMemory, RanRefused, RanShort, RanWhole}
 use Rattle.qs_top.specs.Run.{HasLawful, IsNothing, LeaveAll, Leaves}
 use Rattle.qs_top.specs.Statuses.{Gives, IfNot, IsEnd, IsOfRounds, IsOfRun, Tells}
 use Rattle.qs_top.specs.Texts.{HasText, OfScript}
@@ -25,9 +25,11 @@ use Rattle.qs_top.specs.declared.outcome.Run.{Run}
 use Rattle.qs_top.specs.declared.whole.RunMade.{RunMade}
 use Rattle.qs_top.proofs.Given.{built_given, empty_given, fault_given, silent_given, status_made, touched_alone}
 use Rattle.qs_top.proofs.NodesCame.{came_built, came_empty, came_silent, came_to}
-use Rattle.qs_top.proofs.NodesGiven.{NodesLaws, nodes_cut_off, nodes_ended, nodes_refused, nodes_short}
+use Rattle.qs_top.proofs.NodesGiven.{nodes_cut_off, nodes_ended, nodes_refused, nodes_short}
+use Rattle.qs_top.proofs.NodesTraced.{NodesLaws}
 use Rattle.qs_top.proofs.NodesLawful.{nodes_damaged, nodes_fault, nodes_lawful}
 use Rattle.qs_top.proofs.NodesLeft.{nodes_leave}
+use Rattle.qs_top.proofs.StatusLemmas.{end_has_script}
 use Rattle.qs_top.proofs.TextLemmas.{text_of_script}
 use Rattle.qs_top.proofs.NodesRoomy.{RoomLaws, nodes_roomy}
 use Rattle.qs_top.proofs.NodesUntold.{UntoldLaws, nodes_coherent, nodes_out}
@@ -82,36 +84,38 @@ module _ {D K : Type 0} (told : Type 0) (state : D → DiskState) (own size : D 
   pub these_leave : OfThese nodes (LeaveAll told state nodes run.status) old new
   these_leave = with_holds (nodes_leave told state own size seed nodes script shown faults_of given before after made run over.disks over.afters over.holds gave over.count)
 
-  module _ (l m : Option (List ℕ)) (read : HasText shown l m (λ text. script_of nodes text ≡ Ok script)) (once : SitOnce script.seats) (fits : Fits nodes script) (laws : NodesLaws told state own size) where
-    pub these_ended : IsEnd run.status → HasText shown l m (OfScript nodes (λ script. OfThese nodes (RanWhole told state own size seed nodes script shown (λ status. run.status ≡ status) (Appends (given before) (given after)) run.journal run.trace) old new))
+  module _ (l m : Option (List ℕ)) (read : HasText shown l m (λ text. script_of nodes text ≡ Ok script)) (once : SitOnce script.seats) (fits : Fits nodes script) (u : UntoldLaws told state own size) where
+    these_ended : IsEnd run.status → HasText shown l m (OfScript nodes (λ script. OfThese nodes (RanWhole told state own size seed nodes script shown (λ status. run.status ≡ status) (Appends (given before) (given after)) run.journal run.trace) old new))
     these_ended e = text_of_script l m shown nodes script (λ script. OfThese nodes (RanWhole told state own size seed nodes script shown (λ status. run.status ≡ status) (Appends (given before) (given after)) run.journal run.trace) old new) read
-        (with_holds (nodes_ended told state own size seed nodes script shown faults_of given before after made run over.disks over.afters over.holds gave over.count once fits laws e))
+        (with_holds (nodes_ended told state own size seed nodes script shown faults_of given before after made run over.disks over.afters over.holds gave over.count once fits u.laws e))
 
-    pub these_cut_off : run.status ≡ statuses.WriteFault → HasText shown l m (OfScript nodes (λ script. OfThese nodes (RanWhole told state own size seed nodes script shown IsEnd (GivesPart (given before) (given after)) run.journal run.trace) old new))
+    these_cut_off : run.status ≡ statuses.WriteFault → HasText shown l m (OfScript nodes (λ script. OfThese nodes (RanWhole told state own size seed nodes script shown IsEnd (GivesPart (given before) (given after)) run.journal run.trace) old new))
     these_cut_off fault = text_of_script l m shown nodes script (λ script. OfThese nodes (RanWhole told state own size seed nodes script shown IsEnd (GivesPart (given before) (given after)) run.journal run.trace) old new) read
-        (with_holds (nodes_cut_off told state own size seed nodes script shown faults_of given before after made run over.disks over.afters over.holds gave over.count once fits laws fault))
+        (with_holds (nodes_cut_off told state own size seed nodes script shown faults_of given before after made run over.disks over.afters over.holds gave over.count once fits u.laws fault))
 
-    pub these_short : (node : NodeNo) → run.status ≡ statuses.DiskFault node
+    these_short : (node : NodeNo) → run.status ≡ statuses.DiskFault node
         → HasText shown l m (OfScript nodes (λ script. OfThese nodes (λ disks afters. RanNotBegun told state own size node run.journal run.trace disks afters ⊎ RanShort told state own size seed nodes script node run.journal run.trace disks afters) old new))
     these_short node is = text_of_script l m shown nodes script (λ script. OfThese nodes (λ disks afters. RanNotBegun told state own size node run.journal run.trace disks afters ⊎ RanShort told state own size seed nodes script node run.journal run.trace disks afters) old new) read
-        (with_holds (nodes_short told state own size seed nodes script shown faults_of given before after made run over.disks over.afters over.holds gave over.count once fits laws node is))
+        (with_holds (nodes_short told state own size seed nodes script shown faults_of given before after made run over.disks over.afters over.holds gave over.count once fits u.laws node is))
 
-    pub these_refused : (line clause : ℕ) → run.status ≡ statuses.Unlawful line clause
+    these_refused : (line clause : ℕ) → run.status ≡ statuses.Unlawful line clause
         → HasText shown l m (OfScript nodes (λ script. OfThese nodes (RanRefused told state own size seed nodes script line clause) old new))
     these_refused line clause is = text_of_script l m shown nodes script (λ script. OfThese nodes (RanRefused told state own size seed nodes script line clause) old new) read
-        (with_holds (nodes_refused told state own size seed nodes script shown faults_of given before after made run over.disks over.afters over.holds gave over.count once fits laws line clause is))
+        (with_holds (nodes_refused told state own size seed nodes script shown faults_of given before after made run over.disks over.afters over.holds gave over.count once fits u.laws line clause is))
 
-    module _ (u : UntoldLaws told state own size) where
-      pub these_out : run.status ≡ statuses.NoMemory → OfThese nodes (AreOnlyTouched told state) old new ⊎ HasText shown l m (OfScript nodes (λ script. OfThese nodes (RanOutOfMemory told state own size seed script) old new))
-      these_out is = by (nodes_out told state own size seed nodes script shown faults_of given before after made run over.disks over.afters over.holds gave over.count once fits u is)
-        where
-          by : AreOnlyTouched told state over.disks over.afters ⊎ RanOutOfMemory told state own size seed script over.disks over.afters
-              → OfThese nodes (AreOnlyTouched told state) old new ⊎ HasText shown l m (OfScript nodes (λ script. OfThese nodes (RanOutOfMemory told state own size seed script) old new))
-          by (inl touched) = inl (with_holds touched)
-          by (inr ran) = inr (text_of_script l m shown nodes script (λ script. OfThese nodes (RanOutOfMemory told state own size seed script) old new) read (with_holds ran))
+    these_out : run.status ≡ statuses.NoMemory → OfThese nodes (AreOnlyTouched told state) old new ⊎ HasText shown l m (OfScript nodes (λ script. OfThese nodes (RanOutOfMemory told state own size seed script) old new))
+    these_out is = by (nodes_out told state own size seed nodes script shown faults_of given before after made run over.disks over.afters over.holds gave over.count once fits u is)
+      where
+        by : AreOnlyTouched told state over.disks over.afters ⊎ RanOutOfMemory told state own size seed script over.disks over.afters
+            → OfThese nodes (AreOnlyTouched told state) old new ⊎ HasText shown l m (OfScript nodes (λ script. OfThese nodes (RanOutOfMemory told state own size seed script) old new))
+        by (inl touched) = inl (with_holds touched)
+        by (inr ran) = inr (text_of_script l m shown nodes script (λ script. OfThese nodes (RanOutOfMemory told state own size seed script) old new) read (with_holds ran))
 
-      pub these_coherent : OfThese nodes (StayCoherent told state) old new
-      these_coherent = with_holds (nodes_coherent told state own size seed nodes script shown faults_of given before after made run over.disks over.afters over.holds gave over.count once fits u)
+    pub these_by_rounds : RanByRounds told state own size seed nodes shown l m (given before) (given after) run old new
+    these_by_rounds = record { ended = these_ended; cut_off = these_cut_off; cut_short = these_short; refused = these_refused; out_of_memory = these_out }
+
+    pub these_coherent : OfThese nodes (StayCoherent told state) old new
+    these_coherent = with_holds (nodes_coherent told state own size seed nodes script shown faults_of given before after made run over.disks over.afters over.holds gave over.count once fits u)
 
   module _ (once : SitOnce script.seats) (fits : Fits nodes script) (laws : NodesLaws told state own size) (rooms : RoomLaws told state own size) where
     pub these_roomy : OfThese nodes (StayRoomy told state size) old new
@@ -163,3 +167,13 @@ none_coherent told state nodes disks few some = none_these nodes (StayCoherent t
 
 pub none_roomy : {D : Type 0} (told : Type 0) (state : D → DiskState) (size : D → ℕ) (nodes : ℕ) (disks : List D) → nodes ≤ 8 → 8 ≤ length disks → OfThese nodes (StayRoomy told state size) disks disks
 none_roomy told state size nodes disks few some = none_these nodes (StayRoomy told state size) disks few some (λ t coherent roomy. roomy)
+
+pub none_by_rounds : {D : Type 0} (told : Type 0) (state : D → DiskState) (own size : D → ℕ) (seed nodes : ℕ) (shown : Shown) (l m given after : Option (List ℕ)) (run : Run) (disks : List D) → IsNoScript run.status → nodes ≤ 8 → 8 ≤ length disks
+    → RanByRounds told state own size seed nodes shown l m given after run disks disks
+none_by_rounds told state own size seed nodes shown l m given after run disks none few some = record {
+  ended = λ e. absurd (end_has_script run.status e none);
+  cut_off = λ is. absurd (subst IsNoScript is none);
+  cut_short = λ node is. absurd (subst IsNoScript is none);
+  refused = λ line clause is. absurd (subst IsNoScript is none);
+  out_of_memory = λ is. inl (none_touched told state nodes disks few some);
+}

@@ -19,7 +19,7 @@ use Rattle.qs_top.specs.declared.outcome.Run.{Run}
 use Rattle.qs_top.specs.declared.whole.RunMade.{RunMade}
 use Rattle.qs_top.proofs.Given.{status_made}
 use Rattle.qs_top.proofs.NodesCame.{came_to}
-use Rattle.qs_top.proofs.NodesGiven.{NodesLaws, begins_coherent, logs_coherent}
+use Rattle.qs_top.proofs.NodesTraced.{NodesLaws, begins_coherent, logs_coherent}
 use Rattle.qs_top.proofs.NodesLeft.{each_of}
 use Rattle.qs_top.proofs.NodesMachine.{left_states}
 use Rattle.qs_top.proofs.NodesTold.{map_has, map_length}

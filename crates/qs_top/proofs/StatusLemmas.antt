@@ -6,6 +6,7 @@ use Rattle.qs_book_script.specs.declared.status.Status.{Status}
 use Rattle.qs_book_script.specs.declared.status.Status.TheVariants as statuses
 use Rattle.qs_book_script.specs.declared.status.Waiting.{Waiting}
 use Rattle.qs_top.specs.Ends.{status_of}
+use Rattle.qs_top.specs.Inner.Giving.{IsNoScript}
 use Rattle.qs_top.specs.Verdicts.{IsRefusal}
 use Rattle.qs_top.specs.Statuses.{Gives, IsEnd, IsOfRounds, IsOfRun, Tells}
 
@@ -76,6 +77,22 @@ end_refuses (statuses.NoRoom node need room) e r = e
 end_refuses (statuses.Unlawful line clause) e r = e
 end_refuses (statuses.Journal line) e r = e
 end_refuses (statuses.LastGeneration node) e r = e
+
+-- what came to its end had a script
+pub end_has_script : (status : Status) → IsEnd status → IsNoScript status → ⊥
+end_has_script statuses.Finished e none = none
+end_has_script (statuses.Unfinished rounds waiting) e none = none
+end_has_script statuses.Usage e none = e
+end_has_script (statuses.Script line fault) e none = e
+end_has_script statuses.ReadFault e none = e
+end_has_script statuses.WriteFault e none = e
+end_has_script (statuses.DiskFault node) e none = e
+end_has_script (statuses.Damaged node at) e none = e
+end_has_script statuses.NoMemory e none = e
+end_has_script (statuses.NoRoom node need room) e none = e
+end_has_script (statuses.Unlawful line clause) e none = e
+end_has_script (statuses.Journal line) e none = e
+end_has_script (statuses.LastGeneration node) e none = e
 
 pub status_tells : (rounds : ℕ) (settled : Bool) (waiting : List Waiting) → Tells (status_of rounds settled waiting)
 status_tells rounds true [] = tt

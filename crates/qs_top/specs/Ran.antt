@@ -20,7 +20,7 @@ use Rattle.qs_node_step.specs.declared.trace.Step.{Step}
 use Rattle.qs_text.specs.declared.given.Shown.{Shown}
 use Rattle.qs_top.specs.Disks.{AreOnlyTouched, OfThese}
 use Rattle.qs_top.specs.Ends.{status_of}
-use Rattle.qs_top.specs.Run.{AreHeldBy, AreTold, IsNothing, output_from}
+use Rattle.qs_top.specs.Run.{AreHeldBy, AreLasting, AreTold, IsNothing, output_from}
 use Rattle.qs_top.specs.Statuses.{IsEnd}
 use Rattle.qs_top.specs.Texts.{HasText, OfScript}
 use Rattle.qs_top.specs.Verdicts.{IsRefusedAt, rule_of_script}
@@ -95,15 +95,16 @@ pub record RanShort {D : Type 0} (told : Type 0) (state : D → DiskState) (own 
   pub traced : AreTraced told state own size script seed (Err (round_faults.DiskFault node)) tells disks afters ran journal trace
   pub is_told : AreToldOf told state script nodes tells ran.last.sites disks afters journal trace
 
--- the judge refused what the nodes made, at this line for this clause
+-- the judge refused what the nodes made, at this line for this clause; where the logs were coherent, what is left lasts, as of a run that is told
 pub record RanRefused {D : Type 0} (told : Type 0) (state : D → DiskState) (own size : D → ℕ) (seed nodes : ℕ) (script : Script) (line clause : ℕ) (disks afters : List D) : Type 0 where
   pub ending : Result Ending RoundFault
   pub tells : List SiteTold
   pub ran : HasRun told state own size script seed ending (Ok tells) disks afters
   pub journal : List Entry
   pub trace : List Step
-  pub merged : AreMerged tells journal trace
+  pub traced : AreTraced told state own size script seed ending tells disks afters ran journal trace
   pub held : told → AreHeldBy state script nodes disks (map opened_in tells)
+  pub lasts : told → AreCoherentDisks (map state disks) → AreLasting state (book_after (machine_of tells) journal) (up_at ran.last.sites) trace afters
   pub refused : IsRefusedAt script (machine_of tells) journal line clause
   pub by_script : told → AreCoherentDisks (map state disks) → clause ≡ rule_of_script  -- then each entry is a lawful step
 
@@ -129,12 +130,17 @@ pub record RanOutOfMemory {D : Type 0} (told : Type 0) (state : D → DiskState)
 
 -- what comes of it by its status, where the text was taken of a source from `old_text` to `new_text`, and the sink had got `old_out` and has `new_out`
 pub record RanByRounds {D : Type 0} (told : Type 0) (state : D → DiskState) (own size : D → ℕ) (seed nodes : ℕ) (shown : Shown) (old_text new_text old_out new_out : Option (List ℕ)) (run : Run) (old new : List D) : Type 0 where
+  -- it ended: its nodes made rounds over the links between them, up to the end
   pub ended : IsEnd run.status
       → HasText shown old_text new_text (OfScript nodes (λ script. OfThese nodes (RanWhole told state own size seed nodes script shown (λ status. run.status ≡ status) (Appends old_out new_out) run.journal run.trace) old new))
+  -- so it did where the sink failed
   pub cut_off : run.status ≡ statuses.WriteFault
       → HasText shown old_text new_text (OfScript nodes (λ script. OfThese nodes (RanWhole told state own size seed nodes script shown IsEnd (GivesPart old_out new_out) run.journal run.trace) old new))
+  -- a disk failed as its log was opened, or as its node was started again: up to there
   pub cut_short : (node : NodeNo) → run.status ≡ statuses.DiskFault node
       → HasText shown old_text new_text (OfScript nodes (λ script. OfThese nodes (λ disks afters. RanNotBegun told state own size node run.journal run.trace disks afters ⊎ RanShort told state own size seed nodes script node run.journal run.trace disks afters) old new))
+  -- the judge refused the journal
   pub refused : (line clause : ℕ) → run.status ≡ statuses.Unlawful line clause → HasText shown old_text new_text (OfScript nodes (λ script. OfThese nodes (RanRefused told state own size seed nodes script line clause) old new))
+  -- memory was refused before all nodes had begun, or later
   pub out_of_memory : run.status ≡ statuses.NoMemory
       → OfThese nodes (AreOnlyTouched told state) old new ⊎ HasText shown old_text new_text (OfScript nodes (λ script. OfThese nodes (RanOutOfMemory told state own size seed script) old new))

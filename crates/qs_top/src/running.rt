@@ -1,5 +1,5 @@
 //! The top call.
-ghost use Rattle.std.specs.Prelude.{◌≡◌, ◌≢◌, ◌↔◌, ◌≤◌, ◌⊎◌, ◌^◌, ⊤, ℕ, List, [], Ok, Err, None, Some, length, IfOk, IfErr};
+ghost use Rattle.std.specs.Prelude.{◌≡◌, ◌≢◌, ◌↔◌, ◌≤◌, ◌⊎◌, ◌^◌, ⊤, ℕ, List, Ok, Err, None, Some, length, IfOk, IfErr};
 ghost use Rattle.std.specs.Io.KnownBytes.{Appends};
 ghost use Rattle.qs_base.specs.Causes.{Rose};
 ghost use Rattle.qs_base.specs.declared.identifiers.NodeNo.{NodeNo};
@@ -14,7 +14,7 @@ ghost use Rattle.qs_book_script.specs.declared.status.ScriptFault.{ScriptFault};
 ghost use Rattle.qs_top.specs.Asking.{asked_by, nodes_of};
 ghost use Rattle.qs_top.specs.Disks.{AreOnlyTouched, AreOthers, AtNode, OfThese, StayCoherent, StayRoomy};
 ghost use Rattle.qs_top.specs.Inner.Giving.{IsGiven, IsGivenOf, IsNoScript, IsTextFault};
-ghost use Rattle.qs_top.specs.Ran.{RanByRounds, RanNotBegun, RanOutOfMemory, RanRefused, RanShort, RanWhole};
+ghost use Rattle.qs_top.specs.Ran.{RanByRounds};
 ghost use Rattle.qs_top.specs.Run.{HasLawful, IsNotBegun, IsNothing, IsRefused, IsShort, IsWhole, LeaveAll};
 ghost use Rattle.qs_top.specs.Statuses.{IfNot, IsEnd, IsPastScript, IsOfRun, Gives, Tells};
 ghost use Rattle.qs_top.specs.Texts.{HasText, OfScript, ReadWhole};
@@ -184,31 +184,9 @@ pub fn run_script<S: Source, K: Sink, D: Disk>(
     ensures past_script { IsPastScript result.status
         → HasText shown (S.left source.old) (S.left source.new) (OfScript nodes (λ script. ⊤)) }
 
-    // A run that ended made its rounds over the links between its nodes; its journal and its trace are those of all of them, merged by stamp and node, and the trace is of
-    // a run of the world over packets. Where a disk failed, or the judge refuses the journal, the nodes had made rounds up to there.
-    ensures ended { IsEnd result.status
-        → HasText shown (S.left source.old) (S.left source.new) (OfScript nodes (λ script. OfThese nodes
-        (RanWhole D.told D.state D.fault_count D.byte_count seed nodes script shown (λ status. result.status ≡ status) (Appends (K.given sink.old) (K.given sink.new)) result.journal result.trace)
-        disks.old.items disks.new.items)) }
-    ensures cut_off { result.status ≡ Status.WriteFault
-        → HasText shown (S.left source.old) (S.left source.new) (OfScript nodes (λ script. OfThese nodes
-        (RanWhole D.told D.state D.fault_count D.byte_count seed nodes script shown IsEnd (GivesPart (K.given sink.old) (K.given sink.new)) result.journal result.trace)
-        disks.old.items disks.new.items)) }
-    ensures cut_short { (node : NodeNo) → result.status ≡ Status.DiskFault node
-        → HasText shown (S.left source.old) (S.left source.new) (OfScript nodes (λ script. OfThese nodes
-        (λ firsts afters. RanNotBegun D.told D.state D.fault_count D.byte_count node result.journal result.trace firsts afters
-        ⊎ RanShort D.told D.state D.fault_count D.byte_count seed nodes script node result.journal result.trace firsts afters)
-        disks.old.items disks.new.items)) }
-    ensures refused { (line clause : ℕ) → result.status ≡ Status.Unlawful line clause
-        → HasText shown (S.left source.old) (S.left source.new) (OfScript nodes (λ script. OfThese nodes
-        (RanRefused D.told D.state D.fault_count D.byte_count seed nodes script line clause) disks.old.items disks.new.items)) }
-
-    // Where memory was refused the nodes did not all begin, and each disk was changed at most by the raise; or they began, and memory was refused in their rounds, or behind
-    // them as what they made was gathered, judged or told.
-    ensures out_of_memory { result.status ≡ Status.NoMemory
-        → OfThese nodes (AreOnlyTouched D.told D.state) disks.old.items disks.new.items
-        ⊎ HasText shown (S.left source.old) (S.left source.new) (OfScript nodes (λ script. OfThese nodes
-        (RanOutOfMemory D.told D.state D.fault_count D.byte_count seed script) disks.old.items disks.new.items)) }
+    // By which rounds and visits it came to its status. The nodes made rounds over the links between them; the journal and the trace are those of all of them, merged by stamp
+    // and node, and the trace is of a run of the world over packets.
+    ensures by_rounds { RanByRounds D.told D.state D.fault_count D.byte_count seed nodes shown (S.left source.old) (S.left source.new) (K.given sink.old) (K.given sink.new) result disks.old.items disks.new.items }
 
     // Else nothing is given, and nothing told; and what was taken of the source.
     ensures silent { IfNot (Gives result.status) (K.given sink.new ≡ K.given sink.old) }

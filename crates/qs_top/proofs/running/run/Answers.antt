@@ -51,7 +51,7 @@ returns-in-Some-Serial-clause-ended g c = λ nodes seed shown asked end.
     as_asked (λ (n : ℕ) (sh : Shown). HasText sh (g.S.Source.left c.args.source.now) (g.S.Source.left c.run_script.new.source) (OfScript n (λ script. OfThese n (IsWhole g.D.Disk.told g.D.Disk.state n script sh (λ status. c.run_script.result.status ≡ status) (Appends (g.K.Sink.given c.args.sink.now) (g.K.Sink.given c.run_script.new.sink)) c.run_script.result.journal c.run_script.result.trace) c.args.disks.now.items c.run_script.new.disks.items)))
     (asked_by (form_of c.args.words.now)) c.in-Some-Serial.nodes c.in-Some-Serial.seed nodes seed c.in-Some-Serial.shown shown one asked
     (promised (g.S.Source.left c.args.source.now) (g.S.Source.left c.run_script.new.source) c.in-Some-Serial.shown c.in-Some-Serial.nodes c.args.disks.now.items c.run_script.new.disks.items (λ script. RanWhole g.D.Disk.told g.D.Disk.state g.D.Disk.fault_count g.D.Disk.byte_count c.in-Some-Serial.seed c.in-Some-Serial.nodes script c.in-Some-Serial.shown (λ status. c.run_script.result.status ≡ status) (Appends (g.K.Sink.given c.args.sink.now) (g.K.Sink.given c.run_script.new.sink)) c.run_script.result.journal c.run_script.result.trace) (λ script. IsWhole g.D.Disk.told g.D.Disk.state c.in-Some-Serial.nodes script c.in-Some-Serial.shown (λ status. c.run_script.result.status ≡ status) (Appends (g.K.Sink.given c.args.sink.now) (g.K.Sink.given c.run_script.new.sink)) c.run_script.result.journal c.run_script.result.trace)
-    (whole_of g.D.Disk.told g.D.Disk.state g.D.Disk.fault_count g.D.Disk.byte_count c.in-Some-Serial.seed c.in-Some-Serial.nodes c.in-Some-Serial.shown (λ status. c.run_script.result.status ≡ status) (Appends (g.K.Sink.given c.args.sink.now) (g.K.Sink.given c.run_script.new.sink)) c.run_script.result.journal c.run_script.result.trace) (c.run_script.ensures.ended end))
+    (whole_of g.D.Disk.told g.D.Disk.state g.D.Disk.fault_count g.D.Disk.byte_count c.in-Some-Serial.seed c.in-Some-Serial.nodes c.in-Some-Serial.shown (λ status. c.run_script.result.status ≡ status) (Appends (g.K.Sink.given c.args.sink.now) (g.K.Sink.given c.run_script.new.sink)) c.run_script.result.journal c.run_script.result.trace) (c.run_script.ensures.by_rounds.ended end))
 
 pub returns-in-Some-Serial-clause-cut_off : goal.returns-in-Some-Serial-clause-cut_off
 returns-in-Some-Serial-clause-cut_off g c = λ nodes seed shown asked fault.
@@ -59,7 +59,7 @@ returns-in-Some-Serial-clause-cut_off g c = λ nodes seed shown asked fault.
     as_asked (λ (n : ℕ) (sh : Shown). HasText sh (g.S.Source.left c.args.source.now) (g.S.Source.left c.run_script.new.source) (OfScript n (λ script. OfThese n (IsWhole g.D.Disk.told g.D.Disk.state n script sh IsEnd (GivesPart (g.K.Sink.given c.args.sink.now) (g.K.Sink.given c.run_script.new.sink)) c.run_script.result.journal c.run_script.result.trace) c.args.disks.now.items c.run_script.new.disks.items)))
     (asked_by (form_of c.args.words.now)) c.in-Some-Serial.nodes c.in-Some-Serial.seed nodes seed c.in-Some-Serial.shown shown one asked
     (promised (g.S.Source.left c.args.source.now) (g.S.Source.left c.run_script.new.source) c.in-Some-Serial.shown c.in-Some-Serial.nodes c.args.disks.now.items c.run_script.new.disks.items (λ script. RanWhole g.D.Disk.told g.D.Disk.state g.D.Disk.fault_count g.D.Disk.byte_count c.in-Some-Serial.seed c.in-Some-Serial.nodes script c.in-Some-Serial.shown IsEnd (GivesPart (g.K.Sink.given c.args.sink.now) (g.K.Sink.given c.run_script.new.sink)) c.run_script.result.journal c.run_script.result.trace) (λ script. IsWhole g.D.Disk.told g.D.Disk.state c.in-Some-Serial.nodes script c.in-Some-Serial.shown IsEnd (GivesPart (g.K.Sink.given c.args.sink.now) (g.K.Sink.given c.run_script.new.sink)) c.run_script.result.journal c.run_script.result.trace)
-    (whole_of g.D.Disk.told g.D.Disk.state g.D.Disk.fault_count g.D.Disk.byte_count c.in-Some-Serial.seed c.in-Some-Serial.nodes c.in-Some-Serial.shown IsEnd (GivesPart (g.K.Sink.given c.args.sink.now) (g.K.Sink.given c.run_script.new.sink)) c.run_script.result.journal c.run_script.result.trace) (c.run_script.ensures.cut_off fault))
+    (whole_of g.D.Disk.told g.D.Disk.state g.D.Disk.fault_count g.D.Disk.byte_count c.in-Some-Serial.seed c.in-Some-Serial.nodes c.in-Some-Serial.shown IsEnd (GivesPart (g.K.Sink.given c.args.sink.now) (g.K.Sink.given c.run_script.new.sink)) c.run_script.result.journal c.run_script.result.trace) (c.run_script.ensures.by_rounds.cut_off fault))
 
 pub returns-in-Some-Serial-clause-cut_short : goal.returns-in-Some-Serial-clause-cut_short
 returns-in-Some-Serial-clause-cut_short g c = λ nodes seed shown asked node is.
@@ -67,7 +67,7 @@ returns-in-Some-Serial-clause-cut_short g c = λ nodes seed shown asked node is.
     as_asked (λ (n : ℕ) (sh : Shown). HasText sh (g.S.Source.left c.args.source.now) (g.S.Source.left c.run_script.new.source) (OfScript n (λ script. OfThese n (λ firsts afters. IsNotBegun g.D.Disk.told g.D.Disk.state c.run_script.result.journal c.run_script.result.trace firsts afters ⊎ IsShort g.D.Disk.told g.D.Disk.state n script c.run_script.result.journal c.run_script.result.trace firsts afters) c.args.disks.now.items c.run_script.new.disks.items)))
     (asked_by (form_of c.args.words.now)) c.in-Some-Serial.nodes c.in-Some-Serial.seed nodes seed c.in-Some-Serial.shown shown one asked
     (promised (g.S.Source.left c.args.source.now) (g.S.Source.left c.run_script.new.source) c.in-Some-Serial.shown c.in-Some-Serial.nodes c.args.disks.now.items c.run_script.new.disks.items (λ script. (λ firsts afters. RanNotBegun g.D.Disk.told g.D.Disk.state g.D.Disk.fault_count g.D.Disk.byte_count node c.run_script.result.journal c.run_script.result.trace firsts afters ⊎ RanShort g.D.Disk.told g.D.Disk.state g.D.Disk.fault_count g.D.Disk.byte_count c.in-Some-Serial.seed c.in-Some-Serial.nodes script node c.run_script.result.journal c.run_script.result.trace firsts afters)) (λ script. (λ firsts afters. IsNotBegun g.D.Disk.told g.D.Disk.state c.run_script.result.journal c.run_script.result.trace firsts afters ⊎ IsShort g.D.Disk.told g.D.Disk.state c.in-Some-Serial.nodes script c.run_script.result.journal c.run_script.result.trace firsts afters))
-    (cut_of g.D.Disk.told g.D.Disk.state g.D.Disk.fault_count g.D.Disk.byte_count c.in-Some-Serial.seed c.in-Some-Serial.nodes node c.run_script.result.journal c.run_script.result.trace) (c.run_script.ensures.cut_short node is))
+    (cut_of g.D.Disk.told g.D.Disk.state g.D.Disk.fault_count g.D.Disk.byte_count c.in-Some-Serial.seed c.in-Some-Serial.nodes node c.run_script.result.journal c.run_script.result.trace) (c.run_script.ensures.by_rounds.cut_short node is))
 
 pub returns-in-Some-Serial-clause-refused : goal.returns-in-Some-Serial-clause-refused
 returns-in-Some-Serial-clause-refused g c = λ nodes seed shown asked line clause is.
@@ -75,14 +75,14 @@ returns-in-Some-Serial-clause-refused g c = λ nodes seed shown asked line claus
     as_asked (λ (n : ℕ) (sh : Shown). HasText sh (g.S.Source.left c.args.source.now) (g.S.Source.left c.run_script.new.source) (OfScript n (λ script. OfThese n (IsRefused g.D.Disk.told g.D.Disk.state n script line clause) c.args.disks.now.items c.run_script.new.disks.items)))
     (asked_by (form_of c.args.words.now)) c.in-Some-Serial.nodes c.in-Some-Serial.seed nodes seed c.in-Some-Serial.shown shown one asked
     (promised (g.S.Source.left c.args.source.now) (g.S.Source.left c.run_script.new.source) c.in-Some-Serial.shown c.in-Some-Serial.nodes c.args.disks.now.items c.run_script.new.disks.items (λ script. RanRefused g.D.Disk.told g.D.Disk.state g.D.Disk.fault_count g.D.Disk.byte_count c.in-Some-Serial.seed c.in-Some-Serial.nodes script line clause) (λ script. IsRefused g.D.Disk.told g.D.Disk.state c.in-Some-Serial.nodes script line clause)
-    (refused_of g.D.Disk.told g.D.Disk.state g.D.Disk.fault_count g.D.Disk.byte_count c.in-Some-Serial.seed c.in-Some-Serial.nodes line clause) (c.run_script.ensures.refused line clause is))
+    (refused_of g.D.Disk.told g.D.Disk.state g.D.Disk.fault_count g.D.Disk.byte_count c.in-Some-Serial.seed c.in-Some-Serial.nodes line clause) (c.run_script.ensures.by_rounds.refused line clause is))
 
 pub returns-in-Some-Serial-clause-out_of_memory : goal.returns-in-Some-Serial-clause-out_of_memory
 returns-in-Some-Serial-clause-out_of_memory g c = λ nodes seed shown asked is.
     let one : asked_by (form_of c.args.words.now) ≡ Some (Asked.Serial c.in-Some-Serial.nodes c.in-Some-Serial.seed c.in-Some-Serial.shown) = cc (c.asked_by.ensures, c.in-Some-Serial.is, c.in-Some-Serial.field-0-is) in
     as_asked (λ (n : ℕ) (sh : Shown). OfThese n (AreOnlyTouched g.D.Disk.told g.D.Disk.state) c.args.disks.now.items c.run_script.new.disks.items ⊎ HasText sh (g.S.Source.left c.args.source.now) (g.S.Source.left c.run_script.new.source) (OfScript n (λ script. ⊤)))
     (asked_by (form_of c.args.words.now)) c.in-Some-Serial.nodes c.in-Some-Serial.seed nodes seed c.in-Some-Serial.shown shown one asked
-    (out_of (g.S.Source.left c.args.source.now) (g.S.Source.left c.run_script.new.source) c.in-Some-Serial.shown c.in-Some-Serial.nodes c.args.disks.now.items c.run_script.new.disks.items (AreOnlyTouched g.D.Disk.told g.D.Disk.state) (RanOutOfMemory g.D.Disk.told g.D.Disk.state g.D.Disk.fault_count g.D.Disk.byte_count c.in-Some-Serial.seed) (c.run_script.ensures.out_of_memory is))
+    (out_of (g.S.Source.left c.args.source.now) (g.S.Source.left c.run_script.new.source) c.in-Some-Serial.shown c.in-Some-Serial.nodes c.args.disks.now.items c.run_script.new.disks.items (AreOnlyTouched g.D.Disk.told g.D.Disk.state) (RanOutOfMemory g.D.Disk.told g.D.Disk.state g.D.Disk.fault_count g.D.Disk.byte_count c.in-Some-Serial.seed) (c.run_script.ensures.by_rounds.out_of_memory is))
 
 pub returns-in-Some-Serial-clause-coherent : goal.returns-in-Some-Serial-clause-coherent
 returns-in-Some-Serial-clause-coherent g c = λ nodes seed shown asked.
@@ -102,13 +102,8 @@ pub returns-in-Some-Serial-clause-by_rounds : goal.returns-in-Some-Serial-clause
 returns-in-Some-Serial-clause-by_rounds g c = λ nodes seed shown asked.
     let one : asked_by (form_of c.args.words.now) ≡ Some (Asked.Serial c.in-Some-Serial.nodes c.in-Some-Serial.seed c.in-Some-Serial.shown) = cc (c.asked_by.ensures, c.in-Some-Serial.is, c.in-Some-Serial.field-0-is) in
     by_asked (λ (n s : ℕ) (sh : Shown). RanByRounds g.D.Disk.told g.D.Disk.state g.D.Disk.fault_count g.D.Disk.byte_count s n sh (g.S.Source.left c.args.source.now) (g.S.Source.left c.run_script.new.source) (g.K.Sink.given c.args.sink.now) (g.K.Sink.given c.run_script.new.sink) c.run_script.result c.args.disks.now.items c.run_script.new.disks.items)
-    (asked_by (form_of c.args.words.now)) c.in-Some-Serial.nodes c.in-Some-Serial.seed nodes seed c.in-Some-Serial.shown shown one asked (record {
-      ended = c.run_script.ensures.ended;
-      cut_off = c.run_script.ensures.cut_off;
-      cut_short = c.run_script.ensures.cut_short;
-      refused = c.run_script.ensures.refused;
-      out_of_memory = c.run_script.ensures.out_of_memory;
-    })
+    (asked_by (form_of c.args.words.now)) c.in-Some-Serial.nodes c.in-Some-Serial.seed nodes seed c.in-Some-Serial.shown shown one asked
+    c.run_script.ensures.by_rounds
 
 -- src/running.rt:355:55
 pub run_script-requires-clause-some : goal.run_script-requires-clause-some

@@ -1,8 +1,8 @@
-use Rattle.std.proofs.Common.{◌≤◌, ◌∙◌, ap, inl, ℕ, subst, sym, arith, Err}
+use Rattle.std.proofs.Common.{◌≤◌, ◌∙◌, ap, ℕ, subst, sym, arith, Err}
 use Rattle.qs_top.specs.Inner.Giving.{IsNoScript}
 use Rattle.qs_top.proofs.Others.{others_these, others_same}
 use Rattle.qs_top.proofs.NodesLawful.{none_lawful}
-use Rattle.qs_top.proofs.NodesThese.{none_coherent, none_leave, none_roomy, none_touched, these_coherent, these_out, these_cut_off, these_damaged, these_empty, these_ended, these_fault, these_built, these_lawful, these_leave, these_ran, these_read, these_refused, these_roomy, these_script, these_short, these_silent, these_written}
+use Rattle.qs_top.proofs.NodesThese.{none_by_rounds, none_coherent, none_leave, none_roomy, these_by_rounds, these_coherent, these_damaged, these_empty, these_fault, these_built, these_lawful, these_leave, these_ran, these_read, these_roomy, these_script, these_silent, these_written}
 use Rattle.qs_top.proofs.TextLemmas.{text_fits, text_sits_once}
 use Rattle.qs_top.proofs.running.run_script.Goals as goal
 
@@ -20,18 +20,6 @@ returns-clause-disk_fault g c = λ node is. these_fault g.D.Disk.told g.D.Disk.s
 
 pub returns-clause-damaged : goal.returns-clause-damaged
 returns-clause-damaged g c = λ node at is. these_damaged g.D.Disk.told g.D.Disk.state g.D.Disk.fault_count g.D.Disk.byte_count c.args.seed c.args.nodes c.in-Ok.script c.args.shown g.K.Sink.faults g.K.Sink.given c.args.sink.now c.give.new.sink c.run_over_nodes-made.result c.give.result c.args.disks.now.items c.run_over_nodes-made.new.disks.items c.run_over_nodes-made.ensures.over c.give.ensures node at is
-
-pub returns-clause-ended : goal.returns-clause-ended
-returns-clause-ended g c = λ e. these_ended g.D.Disk.told g.D.Disk.state g.D.Disk.fault_count g.D.Disk.byte_count c.args.seed c.args.nodes c.in-Ok.script c.args.shown g.K.Sink.faults g.K.Sink.given c.args.sink.now c.give.new.sink c.run_over_nodes-made.result c.give.result c.args.disks.now.items c.run_over_nodes-made.new.disks.items c.run_over_nodes-made.ensures.over c.give.ensures (g.S.Source.left c.args.source.now) (g.S.Source.left c.script_for.new.source) c.in-Ok.ensures.read (text_sits_once (g.S.Source.left c.args.source.now) (g.S.Source.left c.script_for.new.source) c.args.shown c.args.nodes c.in-Ok.script c.nodes_have_openings.ensures.read c.in-Ok.ensures.read) (text_fits (g.S.Source.left c.args.source.now) (g.S.Source.left c.script_for.new.source) c.args.shown c.args.nodes c.in-Ok.script c.requires.some (few_enough c.args.nodes c.requires.few) c.scripts_fit.ensures c.in-Ok.ensures.read) (record { opens = c.nodes_have_openings.ensures.opens; ends = c.rounds_are_runs_of_the_world.ensures.ends; cut = c.rounds_are_runs_of_the_world.ensures.cut; raised = c.runs_follow_runs.ensures.raised; read = c.disks_are_read.ensures.read; ends_follow = c.runs_follow_runs.ensures.ends; cut_follows = c.runs_follow_runs.ensures.cut; ends_stand = c.runs_leave_standing_disks.ensures.ends; cut_stands = c.runs_leave_standing_disks.ensures.cut; ends_lawful = c.rounds_are_lawful.ensures.ends; cut_lawful = c.rounds_are_lawful.ensures.cut }) e
-
-pub returns-clause-cut_off : goal.returns-clause-cut_off
-returns-clause-cut_off g c = λ fault. these_cut_off g.D.Disk.told g.D.Disk.state g.D.Disk.fault_count g.D.Disk.byte_count c.args.seed c.args.nodes c.in-Ok.script c.args.shown g.K.Sink.faults g.K.Sink.given c.args.sink.now c.give.new.sink c.run_over_nodes-made.result c.give.result c.args.disks.now.items c.run_over_nodes-made.new.disks.items c.run_over_nodes-made.ensures.over c.give.ensures (g.S.Source.left c.args.source.now) (g.S.Source.left c.script_for.new.source) c.in-Ok.ensures.read (text_sits_once (g.S.Source.left c.args.source.now) (g.S.Source.left c.script_for.new.source) c.args.shown c.args.nodes c.in-Ok.script c.nodes_have_openings.ensures.read c.in-Ok.ensures.read) (text_fits (g.S.Source.left c.args.source.now) (g.S.Source.left c.script_for.new.source) c.args.shown c.args.nodes c.in-Ok.script c.requires.some (few_enough c.args.nodes c.requires.few) c.scripts_fit.ensures c.in-Ok.ensures.read) (record { opens = c.nodes_have_openings.ensures.opens; ends = c.rounds_are_runs_of_the_world.ensures.ends; cut = c.rounds_are_runs_of_the_world.ensures.cut; raised = c.runs_follow_runs.ensures.raised; read = c.disks_are_read.ensures.read; ends_follow = c.runs_follow_runs.ensures.ends; cut_follows = c.runs_follow_runs.ensures.cut; ends_stand = c.runs_leave_standing_disks.ensures.ends; cut_stands = c.runs_leave_standing_disks.ensures.cut; ends_lawful = c.rounds_are_lawful.ensures.ends; cut_lawful = c.rounds_are_lawful.ensures.cut }) fault
-
-pub returns-clause-cut_short : goal.returns-clause-cut_short
-returns-clause-cut_short g c = λ node is. these_short g.D.Disk.told g.D.Disk.state g.D.Disk.fault_count g.D.Disk.byte_count c.args.seed c.args.nodes c.in-Ok.script c.args.shown g.K.Sink.faults g.K.Sink.given c.args.sink.now c.give.new.sink c.run_over_nodes-made.result c.give.result c.args.disks.now.items c.run_over_nodes-made.new.disks.items c.run_over_nodes-made.ensures.over c.give.ensures (g.S.Source.left c.args.source.now) (g.S.Source.left c.script_for.new.source) c.in-Ok.ensures.read (text_sits_once (g.S.Source.left c.args.source.now) (g.S.Source.left c.script_for.new.source) c.args.shown c.args.nodes c.in-Ok.script c.nodes_have_openings.ensures.read c.in-Ok.ensures.read) (text_fits (g.S.Source.left c.args.source.now) (g.S.Source.left c.script_for.new.source) c.args.shown c.args.nodes c.in-Ok.script c.requires.some (few_enough c.args.nodes c.requires.few) c.scripts_fit.ensures c.in-Ok.ensures.read) (record { opens = c.nodes_have_openings.ensures.opens; ends = c.rounds_are_runs_of_the_world.ensures.ends; cut = c.rounds_are_runs_of_the_world.ensures.cut; raised = c.runs_follow_runs.ensures.raised; read = c.disks_are_read.ensures.read; ends_follow = c.runs_follow_runs.ensures.ends; cut_follows = c.runs_follow_runs.ensures.cut; ends_stand = c.runs_leave_standing_disks.ensures.ends; cut_stands = c.runs_leave_standing_disks.ensures.cut; ends_lawful = c.rounds_are_lawful.ensures.ends; cut_lawful = c.rounds_are_lawful.ensures.cut }) node is
-
-pub returns-clause-refused : goal.returns-clause-refused
-returns-clause-refused g c = λ line clause is. these_refused g.D.Disk.told g.D.Disk.state g.D.Disk.fault_count g.D.Disk.byte_count c.args.seed c.args.nodes c.in-Ok.script c.args.shown g.K.Sink.faults g.K.Sink.given c.args.sink.now c.give.new.sink c.run_over_nodes-made.result c.give.result c.args.disks.now.items c.run_over_nodes-made.new.disks.items c.run_over_nodes-made.ensures.over c.give.ensures (g.S.Source.left c.args.source.now) (g.S.Source.left c.script_for.new.source) c.in-Ok.ensures.read (text_sits_once (g.S.Source.left c.args.source.now) (g.S.Source.left c.script_for.new.source) c.args.shown c.args.nodes c.in-Ok.script c.nodes_have_openings.ensures.read c.in-Ok.ensures.read) (text_fits (g.S.Source.left c.args.source.now) (g.S.Source.left c.script_for.new.source) c.args.shown c.args.nodes c.in-Ok.script c.requires.some (few_enough c.args.nodes c.requires.few) c.scripts_fit.ensures c.in-Ok.ensures.read) (record { opens = c.nodes_have_openings.ensures.opens; ends = c.rounds_are_runs_of_the_world.ensures.ends; cut = c.rounds_are_runs_of_the_world.ensures.cut; raised = c.runs_follow_runs.ensures.raised; read = c.disks_are_read.ensures.read; ends_follow = c.runs_follow_runs.ensures.ends; cut_follows = c.runs_follow_runs.ensures.cut; ends_stand = c.runs_leave_standing_disks.ensures.ends; cut_stands = c.runs_leave_standing_disks.ensures.cut; ends_lawful = c.rounds_are_lawful.ensures.ends; cut_lawful = c.rounds_are_lawful.ensures.cut }) line clause is
 
 pub returns-clause-script : goal.returns-clause-script
 returns-clause-script g c = λ line fault is. absurd (these_script g.D.Disk.told g.D.Disk.state g.D.Disk.fault_count g.D.Disk.byte_count c.args.seed c.args.nodes c.in-Ok.script c.args.shown g.K.Sink.faults g.K.Sink.given c.args.sink.now c.give.new.sink c.run_over_nodes-made.result c.give.result c.args.disks.now.items c.run_over_nodes-made.new.disks.items c.run_over_nodes-made.ensures.over c.give.ensures line fault is)
@@ -70,17 +58,18 @@ returns-clause-silent g c = these_silent g.D.Disk.told g.D.Disk.state g.D.Disk.f
 pub returns-clause-built : goal.returns-clause-built
 returns-clause-built g c = these_built g.D.Disk.told g.D.Disk.state g.D.Disk.fault_count g.D.Disk.byte_count c.args.seed c.args.nodes c.in-Ok.script c.args.shown g.K.Sink.faults g.K.Sink.given c.args.sink.now c.give.new.sink c.run_over_nodes-made.result c.give.result c.args.disks.now.items c.run_over_nodes-made.new.disks.items c.run_over_nodes-made.ensures.over c.give.ensures
 
-pub returns-in-Err-clause-out_of_memory : goal.returns-in-Err-clause-out_of_memory
-returns-in-Err-clause-out_of_memory g c = λ is. inl (none_touched g.D.Disk.told g.D.Disk.state c.args.nodes c.args.disks.now.items c.requires.few c.requires.disks)
+pub returns-in-Err-clause-by_rounds : goal.returns-in-Err-clause-by_rounds
+returns-in-Err-clause-by_rounds g c = none_by_rounds g.D.Disk.told g.D.Disk.state g.D.Disk.fault_count g.D.Disk.byte_count c.args.seed c.args.nodes c.args.shown (g.S.Source.left c.args.source.now) (g.S.Source.left c.script_for.new.source) (g.K.Sink.given c.args.sink.now) (g.K.Sink.given c.args.sink.now) c.ended.result c.args.disks.now.items
+    (subst IsNoScript (sym c.ended.ensures.status) c.in-Err.ensures.none) c.requires.few c.requires.disks
 
-pub returns-clause-out_of_memory : goal.returns-clause-out_of_memory
-returns-clause-out_of_memory g c = λ is. these_out g.D.Disk.told g.D.Disk.state g.D.Disk.fault_count g.D.Disk.byte_count c.args.seed c.args.nodes c.in-Ok.script c.args.shown g.K.Sink.faults g.K.Sink.given c.args.sink.now c.give.new.sink c.run_over_nodes-made.result c.give.result c.args.disks.now.items c.run_over_nodes-made.new.disks.items c.run_over_nodes-made.ensures.over c.give.ensures (g.S.Source.left c.args.source.now) (g.S.Source.left c.script_for.new.source) c.in-Ok.ensures.read (text_sits_once (g.S.Source.left c.args.source.now) (g.S.Source.left c.script_for.new.source) c.args.shown c.args.nodes c.in-Ok.script c.nodes_have_openings.ensures.read c.in-Ok.ensures.read) (text_fits (g.S.Source.left c.args.source.now) (g.S.Source.left c.script_for.new.source) c.args.shown c.args.nodes c.in-Ok.script c.requires.some (few_enough c.args.nodes c.requires.few) c.scripts_fit.ensures c.in-Ok.ensures.read) (record { opens = c.nodes_have_openings.ensures.opens; ends = c.rounds_are_runs_of_the_world.ensures.ends; cut = c.rounds_are_runs_of_the_world.ensures.cut; raised = c.runs_follow_runs.ensures.raised; read = c.disks_are_read.ensures.read; ends_follow = c.runs_follow_runs.ensures.ends; cut_follows = c.runs_follow_runs.ensures.cut; ends_stand = c.runs_leave_standing_disks.ensures.ends; cut_stands = c.runs_leave_standing_disks.ensures.cut; ends_lawful = c.rounds_are_lawful.ensures.ends; cut_lawful = c.rounds_are_lawful.ensures.cut }) (record { laws = record { opens = c.nodes_have_openings.ensures.opens; ends = c.rounds_are_runs_of_the_world.ensures.ends; cut = c.rounds_are_runs_of_the_world.ensures.cut; raised = c.runs_follow_runs.ensures.raised; read = c.disks_are_read.ensures.read; ends_follow = c.runs_follow_runs.ensures.ends; cut_follows = c.runs_follow_runs.ensures.cut; ends_stand = c.runs_leave_standing_disks.ensures.ends; cut_stands = c.runs_leave_standing_disks.ensures.cut; ends_lawful = c.rounds_are_lawful.ensures.ends; cut_lawful = c.rounds_are_lawful.ensures.cut }; follows = c.runs_follow_runs.ensures.refused; stands = c.refused_runs_leave_standing_disks.ensures.refused; lawful = c.rounds_are_lawful.ensures.refused; touched = c.touched_disks_stay_coherent.ensures }) is
+pub returns-clause-by_rounds : goal.returns-clause-by_rounds
+returns-clause-by_rounds g c = these_by_rounds g.D.Disk.told g.D.Disk.state g.D.Disk.fault_count g.D.Disk.byte_count c.args.seed c.args.nodes c.in-Ok.script c.args.shown g.K.Sink.faults g.K.Sink.given c.args.sink.now c.give.new.sink c.run_over_nodes-made.result c.give.result c.args.disks.now.items c.run_over_nodes-made.new.disks.items c.run_over_nodes-made.ensures.over c.give.ensures (g.S.Source.left c.args.source.now) (g.S.Source.left c.script_for.new.source) c.in-Ok.ensures.read (text_sits_once (g.S.Source.left c.args.source.now) (g.S.Source.left c.script_for.new.source) c.args.shown c.args.nodes c.in-Ok.script c.nodes_have_openings.ensures.read c.in-Ok.ensures.read) (text_fits (g.S.Source.left c.args.source.now) (g.S.Source.left c.script_for.new.source) c.args.shown c.args.nodes c.in-Ok.script c.requires.some (few_enough c.args.nodes c.requires.few) c.scripts_fit.ensures c.in-Ok.ensures.read) (record { laws = record { opens = c.nodes_have_openings.ensures.opens; ends = c.rounds_are_runs_of_the_world.ensures.ends; cut = c.rounds_are_runs_of_the_world.ensures.cut; raised = c.runs_follow_runs.ensures.raised; read = c.disks_are_read.ensures.read; ends_follow = c.runs_follow_runs.ensures.ends; cut_follows = c.runs_follow_runs.ensures.cut; ends_stand = c.runs_leave_standing_disks.ensures.ends; cut_stands = c.runs_leave_standing_disks.ensures.cut; ends_lawful = c.rounds_are_lawful.ensures.ends; cut_lawful = c.rounds_are_lawful.ensures.cut }; follows = c.runs_follow_runs.ensures.refused; stands = c.refused_runs_leave_standing_disks.ensures.refused; lawful = c.rounds_are_lawful.ensures.refused; touched = c.touched_disks_stay_coherent.ensures })
 
 pub returns-in-Err-clause-coherent : goal.returns-in-Err-clause-coherent
 returns-in-Err-clause-coherent g c = none_coherent g.D.Disk.told g.D.Disk.state c.args.nodes c.args.disks.now.items c.requires.few c.requires.disks
 
 pub returns-clause-coherent : goal.returns-clause-coherent
-returns-clause-coherent g c = these_coherent g.D.Disk.told g.D.Disk.state g.D.Disk.fault_count g.D.Disk.byte_count c.args.seed c.args.nodes c.in-Ok.script c.args.shown g.K.Sink.faults g.K.Sink.given c.args.sink.now c.give.new.sink c.run_over_nodes-made.result c.give.result c.args.disks.now.items c.run_over_nodes-made.new.disks.items c.run_over_nodes-made.ensures.over c.give.ensures (g.S.Source.left c.args.source.now) (g.S.Source.left c.script_for.new.source) c.in-Ok.ensures.read (text_sits_once (g.S.Source.left c.args.source.now) (g.S.Source.left c.script_for.new.source) c.args.shown c.args.nodes c.in-Ok.script c.nodes_have_openings.ensures.read c.in-Ok.ensures.read) (text_fits (g.S.Source.left c.args.source.now) (g.S.Source.left c.script_for.new.source) c.args.shown c.args.nodes c.in-Ok.script c.requires.some (few_enough c.args.nodes c.requires.few) c.scripts_fit.ensures c.in-Ok.ensures.read) (record { opens = c.nodes_have_openings.ensures.opens; ends = c.rounds_are_runs_of_the_world.ensures.ends; cut = c.rounds_are_runs_of_the_world.ensures.cut; raised = c.runs_follow_runs.ensures.raised; read = c.disks_are_read.ensures.read; ends_follow = c.runs_follow_runs.ensures.ends; cut_follows = c.runs_follow_runs.ensures.cut; ends_stand = c.runs_leave_standing_disks.ensures.ends; cut_stands = c.runs_leave_standing_disks.ensures.cut; ends_lawful = c.rounds_are_lawful.ensures.ends; cut_lawful = c.rounds_are_lawful.ensures.cut }) (record { laws = record { opens = c.nodes_have_openings.ensures.opens; ends = c.rounds_are_runs_of_the_world.ensures.ends; cut = c.rounds_are_runs_of_the_world.ensures.cut; raised = c.runs_follow_runs.ensures.raised; read = c.disks_are_read.ensures.read; ends_follow = c.runs_follow_runs.ensures.ends; cut_follows = c.runs_follow_runs.ensures.cut; ends_stand = c.runs_leave_standing_disks.ensures.ends; cut_stands = c.runs_leave_standing_disks.ensures.cut; ends_lawful = c.rounds_are_lawful.ensures.ends; cut_lawful = c.rounds_are_lawful.ensures.cut }; follows = c.runs_follow_runs.ensures.refused; stands = c.refused_runs_leave_standing_disks.ensures.refused; lawful = c.rounds_are_lawful.ensures.refused; touched = c.touched_disks_stay_coherent.ensures })
+returns-clause-coherent g c = these_coherent g.D.Disk.told g.D.Disk.state g.D.Disk.fault_count g.D.Disk.byte_count c.args.seed c.args.nodes c.in-Ok.script c.args.shown g.K.Sink.faults g.K.Sink.given c.args.sink.now c.give.new.sink c.run_over_nodes-made.result c.give.result c.args.disks.now.items c.run_over_nodes-made.new.disks.items c.run_over_nodes-made.ensures.over c.give.ensures (g.S.Source.left c.args.source.now) (g.S.Source.left c.script_for.new.source) c.in-Ok.ensures.read (text_sits_once (g.S.Source.left c.args.source.now) (g.S.Source.left c.script_for.new.source) c.args.shown c.args.nodes c.in-Ok.script c.nodes_have_openings.ensures.read c.in-Ok.ensures.read) (text_fits (g.S.Source.left c.args.source.now) (g.S.Source.left c.script_for.new.source) c.args.shown c.args.nodes c.in-Ok.script c.requires.some (few_enough c.args.nodes c.requires.few) c.scripts_fit.ensures c.in-Ok.ensures.read) (record { laws = record { opens = c.nodes_have_openings.ensures.opens; ends = c.rounds_are_runs_of_the_world.ensures.ends; cut = c.rounds_are_runs_of_the_world.ensures.cut; raised = c.runs_follow_runs.ensures.raised; read = c.disks_are_read.ensures.read; ends_follow = c.runs_follow_runs.ensures.ends; cut_follows = c.runs_follow_runs.ensures.cut; ends_stand = c.runs_leave_standing_disks.ensures.ends; cut_stands = c.runs_leave_standing_disks.ensures.cut; ends_lawful = c.rounds_are_lawful.ensures.ends; cut_lawful = c.rounds_are_lawful.ensures.cut }; follows = c.runs_follow_runs.ensures.refused; stands = c.refused_runs_leave_standing_disks.ensures.refused; lawful = c.rounds_are_lawful.ensures.refused; touched = c.touched_disks_stay_coherent.ensures })
 
 pub returns-in-Err-clause-roomy : goal.returns-in-Err-clause-roomy
 returns-in-Err-clause-roomy g c = none_roomy g.D.Disk.told g.D.Disk.state g.D.Disk.byte_count c.args.nodes c.args.disks.now.items c.requires.few c.requires.disks
