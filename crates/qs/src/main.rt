@@ -3,8 +3,9 @@
 #![tactic(auto)]
 
 use qs_program::program;
+use std::io::IsTerminal;
 use std::process::ExitCode;
 
 fn main(rt: HostRuntime) -> ExitCode {
-    program(&rt)
+    program(&rt, rt.stderr().is_terminal())
 }
