@@ -18,7 +18,7 @@ use Rattle.qs_world_links.specs.Posts.{AreInFront, TellsOfTakes, trace_in}
 use Rattle.qs_world_traces.specs.Links.{IsTakenByPlan, put_to, took_from}
 
 -- what is put later goes out behind
-taken_still : (plan : List LinkFault) (put took more : List Packet) → IsTakenByPlan plan put took → IsTakenByPlan plan (put ++ more) took
+pub taken_still : (plan : List LinkFault) (put took more : List Packet) → IsTakenByPlan plan put took → IsTakenByPlan plan (put ++ more) took
 taken_still plan put took more t =
     let it : (rest : List Packet) × (goes_out plan [] put ++ rest ≡ goes_out plan [] (put ++ more)) = goes_out_more plan [] put more in
     record { rest = t.rest ++ it.0; is = sym (append_assoc took t.rest it.0) ∙ (ap (λ (l : List Packet). l ++ it.0) t.is ∙ it.1) }

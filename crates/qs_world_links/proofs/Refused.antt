@@ -27,13 +27,13 @@ use Rattle.qs_world_links.specs.Telling.{BreakTells, RestartTellsTakes, VisitTel
 use Rattle.qs_world_traces.specs.Links.{is_from, took_from}
 
 -- steps were added, and what they took stood in front of what was carried
-record TookSome {D : Type 0} (nodes n : ℕ) (old new : Post D) : Type 0 where
-  takes : List Packet
-  adds : Adds nodes n takes old.seat.node new.seat.node
-  took : AreCarriedNamed nodes n old.links → (m : ℕ) → is_peer nodes n m ≡ true → AreInFront (filter (is_from m) takes) (into_of old.links m).inbox
+pub record TookSome {D : Type 0} (nodes n : ℕ) (old new : Post D) : Type 0 where
+  pub takes : List Packet
+  pub adds : Adds nodes n takes old.seat.node new.seat.node
+  pub took : AreCarriedNamed nodes n old.links → (m : ℕ) → is_peer nodes n m ≡ true → AreInFront (filter (is_from m) takes) (into_of old.links m).inbox
 
 module _ {D : Type 0} (nodes n : ℕ) where
-  some_none : (old new : Post D) → Adds nodes n [] old.seat.node new.seat.node → TookSome nodes n old new
+  pub some_none : (old new : Post D) → Adds nodes n [] old.seat.node new.seat.node → TookSome nodes n old new
   some_none old new adds = record { takes = []; adds = adds; took = λ named m peer. record { rest = (into_of old.links m).inbox; is = refl } }
 
   some_of : (old new : Post D) → Took nodes n old new → TookSome nodes n old new
@@ -66,7 +66,7 @@ module _ {D : Type 0} (nodes n : ℕ) where
   module _ (told : Type 0) (state : D → DiskState) (own size : D → ℕ) where
     -- ---- within the turn of a node's packets
 
-    in_hearing : (k : ℕ) → is_peer nodes n k ≡ true → (old new : Post D) → BreaksHearing told state own size k old new → IsPostOf nodes n old → TookSome nodes n old new
+    pub in_hearing : (k : ℕ) → is_peer nodes n k ≡ true → (old new : Post D) → BreaksHearing told state own size k old new → IsPostOf nodes n old → TookSome nodes n old new
     in_hearing k peer old new (inl same) of = some_none old new (adds_seen nodes n (λ s. s) (λ s. refl) old.seat.node new.seat.node same of.node)
     in_hearing k peer old new (inr (ready, (same, (packet, (has, (answers, takes)))))) of = by ready takes (adds_seen nodes n (λ s. s) (λ s. refl) old.seat.node ready same of.node)
       where
@@ -103,7 +103,7 @@ module _ {D : Type 0} (nodes n : ℕ) where
         room : Adds nodes n [] old.node ready
         room = adds_seen nodes n (λ s. s) (λ s. refl) old.node ready same of
 
-    some_turn : (sources : List _) (old new : Seat D) → TurnsSome told state own size sources old new → BringNone {D = D} due sources → IsOfNode nodes n old.node → Adds nodes n [] old.node new.node
+    pub some_turn : (sources : List _) (old new : Seat D) → TurnsSome told state own size sources old new → BringNone {D = D} due sources → IsOfNode nodes n old.node → Adds nodes n [] old.node new.node
     some_turn [] old new turns none of = absurd turns
     some_turn (source ∷ sources) old new (inl broken) none of = in_turn source old new broken (none.0, tt) of
     some_turn (source ∷ sources) old new (inr (mid, (turn, rest))) none of =

@@ -110,7 +110,7 @@ module _ {D : Type 0} (told : Type 0) (state : D → DiskState) (o : Opening) (n
     as_seen : (s new : Seen) → new ≡ f s → IsAlike s new
     as_seen s new e = subst (IsAlike s) (sym e) (same s)
 
-    seen_as : (old new : CellState D) → IsSeenAs f old new → IsInWorld told state o n old ends clients → IsInWorld told state o n new ends clients
+    pub seen_as : (old new : CellState D) → IsSeenAs f old new → IsInWorld told state o n old ends clients → IsInWorld told state o n new ends clients
     seen_as (states.Up old) (states.Up new) ((host, sessions), (seen_is, setting)) was =
         let alike : IsAlike (seen old.carried) (seen new.carried) = as_seen (seen old.carried) (seen new.carried) seen_is in
         record {

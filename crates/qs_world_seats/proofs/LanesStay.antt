@@ -37,11 +37,11 @@ module _ {D : Type 0} (told : Type 0) (state : D → DiskState) (own size : D �
   taken None left old new turn = rings_as left new.ends (ap (λ (s : Seat D). s.ends) turn)
   taken (Some occasion) left old new (answers, (makes, is)) = subst (HaveSameRings left) (sym is) (delivered answers left)
 
-  turns : (sources : List _) (old new : Seat D) → TurnsAll told state own size sources old new → HaveSameRings old.ends new.ends
-  turns [] old new same = rings_as old.ends new.ends (ap (λ (s : Seat D). s.ends) same)
-  turns (source ∷ sources) old new (mid, (turn, rest)) =
+  pub turns_rings : (sources : List _) (old new : Seat D) → TurnsAll told state own size sources old new → HaveSameRings old.ends new.ends
+  turns_rings [] old new same = rings_as old.ends new.ends (ap (λ (s : Seat D). s.ends) same)
+  turns_rings (source ∷ sources) old new (mid, (turn, rest)) =
       rings_on old.ends (left_by source turn.ready old.ends) new.ends (rings_left source turn.ready old.ends)
-      (rings_on (left_by source turn.ready old.ends) mid.ends new.ends (taken _ (left_by source turn.ready old.ends) _ mid turn.turn) (turns sources mid new rest))
+      (rings_on (left_by source turn.ready old.ends) mid.ends new.ends (taken _ (left_by source turn.ready old.ends) _ mid turn.turn) (turns_rings sources mid new rest))
 
   -- ---- packets
 
@@ -49,14 +49,14 @@ module _ {D : Type 0} (told : Type 0) (state : D → DiskState) (own size : D �
   heard_if None old new same = rings_as old.seat.ends new.seat.ends (ap (λ (p : Post D). p.seat.ends) same)
   heard_if (Some packet) old new (links, (answers, (takes, is))) = subst (HaveSameRings old.seat.ends) (sym is) (delivered answers old.seat.ends)
 
-  heard_in : (m : ℕ) (ready : CellState D) (old new : Post D) → HearsIn told state own size m ready old new → HaveSameRings old.seat.ends new.seat.ends
-  heard_in m (states.Down stopped) old new same = rings_as old.seat.ends new.seat.ends (ap (λ (p : Post D). p.seat.ends) same)
-  heard_in m (states.Up running) old new (packet, (left, (took, turn))) = heard_if packet (record { seat = record old.seat { node = states.Up running }; links = left }) new turn
+  pub heard_rings : (m : ℕ) (ready : CellState D) (old new : Post D) → HearsIn told state own size m ready old new → HaveSameRings old.seat.ends new.seat.ends
+  heard_rings m (states.Down stopped) old new same = rings_as old.seat.ends new.seat.ends (ap (λ (p : Post D). p.seat.ends) same)
+  heard_rings m (states.Up running) old new (packet, (left, (took, turn))) = heard_if packet (record { seat = record old.seat { node = states.Up running }; links = left }) new turn
 
   times_heard : (m count : ℕ) (old new : Post D) → HearsTimes told state own size m count old new → HaveSameRings old.seat.ends new.seat.ends
   times_heard m zero old new same = rings_as old.seat.ends new.seat.ends (ap (λ (p : Post D). p.seat.ends) same)
   times_heard m (suc count) old new (mid, (before, hears)) =
-      rings_on old.seat.ends mid.seat.ends new.seat.ends (times_heard m count old mid before) (heard_in m hears.ready mid new hears.turn)
+      rings_on old.seat.ends mid.seat.ends new.seat.ends (times_heard m count old mid before) (heard_rings m hears.ready mid new hears.turn)
 
   below_heard : (nodes : ℕ) (old new : Post D) → HearsBelow told state own size nodes old new → HaveSameRings old.seat.ends new.seat.ends
   below_heard zero old new same = rings_as old.seat.ends new.seat.ends (ap (λ (p : Post D). p.seat.ends) same)
@@ -69,4 +69,4 @@ module _ {D : Type 0} (told : Type 0) (state : D → DiskState) (own size : D �
   visit_rings old new visits =
       rings_on old.seat.ends visits.begun.seat.ends new.seat.ends (rings_as old.seat.ends visits.begun.seat.ends visits.begins.ends)
       (rings_on visits.begun.seat.ends visits.heard.seat.ends new.seat.ends (below_heard old.links.size visits.begun visits.heard visits.hears)
-      (turns (sources_of old.seat.ends) visits.heard.seat new.seat visits.turns))
+      (turns_rings (sources_of old.seat.ends) visits.heard.seat new.seat visits.turns))

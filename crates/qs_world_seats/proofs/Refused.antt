@@ -48,7 +48,7 @@ use Rattle.qs_world_seats.specs.Shown.{IsDown, Reaches}
 use Rattle.qs_world_seats.specs.Visiting.{AreOfClients, IsTurn, PostInWorld}
 
 module _ {D : Type 0} (told : Type 0) (state : D → DiskState) (own size : D → ℕ) (o : Opening) (n : ℕ) (clients : List ClientCell) where
-  abbrev Stays : CellState D → Type 0
+  abbrev pub Stays : CellState D → Type 0
   Stays node = IsCellIn told state o n node
 
   -- ---- an event, whatever the cause for which it was not made
@@ -81,15 +81,15 @@ module _ {D : Type 0} (told : Type 0) (state : D → DiskState) (own size : D �
 
   -- ---- the node goes on in the world with its clients while it is up, and once it is down it stays
 
-  record IsLost (node : CellState D) : Type 0 where
-    stopped : Stopped D
-    is : node ≡ states.Down stopped
-    left : Stays node
+  pub record IsLost (node : CellState D) : Type 0 where
+    pub stopped : Stopped D
+    pub is : node ≡ states.Down stopped
+    pub left : Stays node
 
-  abbrev Stands : Seat D → Type 0
+  abbrev pub Stands : Seat D → Type 0
   Stands seat = PostInWorld told state o n seat clients ⊎ IsLost seat.node
 
-  cell_left : (seat : Seat D) → Stands seat → Stays seat.node
+  pub cell_left : (seat : Seat D) → Stands seat → Stays seat.node
   cell_left seat (inl was) = cell_of told state o n seat.node seat.ends clients was
   cell_left seat (inr lost) = lost.left
 
@@ -144,11 +144,11 @@ module _ {D : Type 0} (told : Type 0) (state : D → DiskState) (own size : D �
         by (states.Up running) due_is it (inr lost) = absurd (never_up running old.ends lost)
         by (states.Down stopped) due_is it there = absurd (cc due_is)
 
-  turns_stand : (sources : List _) (old new : Seat D) → TurnsAll told state own size sources old new → AreTurns told state own size clients due left_by sources → Stands old → Stands new
+  pub turns_stand : (sources : List _) (old new : Seat D) → TurnsAll told state own size sources old new → AreTurns told state own size clients due left_by sources → Stands old → Stands new
   turns_stand [] old new same all s = subst Stands (sym same) s
   turns_stand (source ∷ sources) old new (mid, (turn, rest)) all s = turns_stand sources mid new rest all.1 (turn_stands source all.0.0 all.0.1.0 old mid turn s)
 
-  some_leave : (sources : List _) (old new : Seat D) → TurnsSome told state own size sources old new → AreTurns told state own size clients due left_by sources → Stands old → Stays new.node
+  pub some_leave : (sources : List _) (old new : Seat D) → TurnsSome told state own size sources old new → AreTurns told state own size clients due left_by sources → Stands old → Stays new.node
   some_leave [] old new turns all s = absurd turns
   some_leave (source ∷ sources) old new (inl broken) all s = broken_leaves source all.0.0 all.0.1.0 old new broken s
   some_leave (source ∷ sources) old new (inr (mid, (turn, rest))) all s = some_leave sources mid new rest all.1 (turn_stands source all.0.0 all.0.1.0 old mid turn s)
@@ -178,7 +178,7 @@ module _ {D : Type 0} (told : Type 0) (state : D → DiskState) (own size : D �
   hears_leave m running old new (None, (links, (took, is))) was = subst Stays (sym (ap (λ (p : Post D). p.seat.node) is)) (up_of told state o n running old.seat.ends clients was)
   hears_leave m running old new (Some packet, (links, (took, (same, (answers, (takes, ends_are)))))) was = taken_leaves packet running old.seat.ends new.seat.node answers takes was
 
-  hearing_stands : (m : ℕ) (old new : Post D) → Hears told state own size m old new → Stands old.seat → Stands new.seat
+  pub hearing_stands : (m : ℕ) (old new : Post D) → Hears told state own size m old new → Stands old.seat → Stands new.seat
   hearing_stands m old new hears s = by hears.ready hears.turn (room_stands old.seat hears.ready hears.same s)
     where
       by : (ready : CellState D) → HearsIn told state own size m ready old new → Stands (record { node = ready; ends = old.seat.ends }) → Stands new.seat
@@ -194,7 +194,7 @@ module _ {D : Type 0} (told : Type 0) (state : D → DiskState) (own size : D �
   below_stands zero old new same s = subst (λ (p : Post D). Stands p.seat) (sym same) s
   below_stands (suc m) old new (mid, (before, hears)) s = times_stand m (carried_from mid.links m) mid new hears (below_stands m old mid before s)
 
-  hearing_leaves : (m : ℕ) (old new : Post D) → BreaksHearing told state own size m old new → Stands old.seat → Stays new.seat.node
+  pub hearing_leaves : (m : ℕ) (old new : Post D) → BreaksHearing told state own size m old new → Stands old.seat → Stays new.seat.node
   hearing_leaves m old new (inl same) s = cell_left (record { node = new.seat.node; ends = old.seat.ends }) (room_stands old.seat new.seat.node same s)
   hearing_leaves m old new (inr (ready, (same, (packet, (has, (answers, takes)))))) s = by ready takes (room_stands old.seat ready same s)
     where

@@ -114,7 +114,7 @@ module _ {D : Type 0} (told : Type 0) (state : D → DiskState) (own size : D �
   world_hears nodes old new hears granted was = all_hear told state own size (λ node ends. IsInWorld told state o n node ends clients)
       (λ m a b one still there. each_hearing told state own size o n m a b clients one still there) nodes old new hears granted was
 
-  world_turns : (sources : List _) (old new : Seat D) → TurnsAll told state own size sources old new → IsGranted new.node → AreTurns told state own size clients due left_by sources → PostInWorld told state o n old clients → PostInWorld told state o n new clients
+  pub world_turns : (sources : List _) (old new : Seat D) → TurnsAll told state own size sources old new → IsGranted new.node → AreTurns told state own size clients due left_by sources → PostInWorld told state o n old clients → PostInWorld told state o n new clients
   world_turns sources old new turns granted all was = all_turn told state own size clients (λ node ends. IsInWorld told state o n node ends clients)
       (λ a b ends same there. each_room told state o n a b ends clients same there)
       (λ from ready ends mid occasion rest is taken still there. turn_by told state own size o n clients from ready ends mid occasion rest is taken still there) sources old new turns granted all was

@@ -1,0 +1,55 @@
+-- Bursts before rounds: the sites take their turns side by side, in threads, and then make a round in one. They stay in the world; so what they tell is a run of it.
+use Rattle.std.specs.Prelude.{◌≡◌, ℕ, zero, suc, Bool, List}
+use Rattle.std.specs.Global.{Global}
+use Rattle.qs_book_script.specs.declared.script.Script.{Script}
+use Rattle.qs_disk.specs.Disk.{DiskState}
+use Rattle.qs_link.specs.declared.outgoing.LinkFault.{LinkFault}
+use Rattle.qs_world.specs.World.{Opening}
+use Rattle.qs_world_bursts.specs.Turns.{TakesTurn, TakesTurns}
+use Rattle.qs_world_nodes.specs.Nodes.{AreSitesIn, OpensSites, plans_of}
+use Rattle.qs_world_nodes.specs.Running.{AreTraced}
+use Rattle.qs_world_rounds.specs.Rounds.{Cast}
+use Rattle.qs_world_seats.specs.Sites.{IsSiteIn}
+use Rattle.qs_world_sites.specs.Rounds.{IsRound}
+use Rattle.qs_world_sites.specs.Seats.{HasBegun}
+use Rattle.qs_world_sites.specs.Sites.{AreCarried, Each, SitesValue}
+
+-- ---- one site
+
+abbrev pub TurnGoesOn : {D : Type 0} → Type 0 → (D → DiskState) → (D → ℕ) → (D → ℕ) → Opening → ℕ → Cast D → Cast D → Type 0
+TurnGoesOn told state own size o n old new = told → TakesTurn told state own size old new → IsSiteIn told state o n old → IsSiteIn told state o n new
+
+-- ---- all of them
+
+-- each takes so many turns
+abbrev pub Bursts : {D : Type 0} → Type 0 → (D → DiskState) → (D → ℕ) → (D → ℕ) → ℕ → List (Cast D) → List (Cast D) → Type 0
+Bursts told state own size turns old new = Each (TakesTurns told state own size turns) old new
+
+-- a burst, and what is carried behind it
+abbrev pub BurstKeeps : {D : Type 0} → Type 0 → (D → DiskState) → (D → ℕ) → (D → ℕ) → Opening → (ℕ → ℕ → List LinkFault) → ℕ → List (Cast D) → List (Cast D) → List (Cast D) → Type 0
+BurstKeeps told state own size o plans turns old mid new =
+    told → Bursts told state own size turns old mid → AreCarried mid new → AreSitesIn told state o plans old → AreSitesIn told state o plans new
+
+-- a burst, and then a round
+pub record IsRoundBehind {D : Type 0} (told : Type 0) (state : D → DiskState) (own size : D → ℕ) (turns : ℕ) (old new : SitesValue D) : Type 0 where
+  pub burst : SitesValue D
+  pub bursts : Bursts told state own size turns old.sites burst.sites
+  pub order : List ℕ
+  pub quiet : Bool
+  pub round : IsRound told state own size order burst new quiet
+
+abbrev pub RoundBehindKeeps : {D : Type 0} → Type 0 → (D → DiskState) → (D → ℕ) → (D → ℕ) → Opening → (ℕ → ℕ → List LinkFault) → ℕ → SitesValue D → SitesValue D → Type 0
+RoundBehindKeeps told state own size o plans turns old new =
+    told → IsRoundBehind told state own size turns old new → AreSitesIn told state o plans old.sites → AreSitesIn told state o plans new.sites
+
+-- so many of them
+abbrev pub RoundsBehind : {D : Type 0} → Type 0 → (D → DiskState) → (D → ℕ) → (D → ℕ) → ℕ → ℕ → SitesValue D → SitesValue D → Type 0
+RoundsBehind told state own size turns zero old new = new ≡ old
+RoundsBehind told state own size turns (suc n) old new =
+    (mid : SitesValue _) × (RoundsBehind told state own size turns n old mid × IsRoundBehind told state own size turns mid new)
+
+-- after so many of a run that has begun so, what the cells tell is of a run of the world
+abbrev pub RoundsBehindAreTraced : {D : Type 0} → Type 0 → (D → DiskState) → (D → ℕ) → (D → ℕ) → Global → Script → List D → Opening → ℕ → ℕ → SitesValue D → SitesValue D → Type 0
+RoundsBehindAreTraced told state own size alloc script disks o turns n all new =
+    told → (begun : HasBegun told state own alloc script disks all) → OpensSites told state own alloc script disks all begun o → RoundsBehind told state own size turns n all new
+    → AreTraced o (plans_of script) new.sites
