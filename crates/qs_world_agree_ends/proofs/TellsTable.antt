@@ -1,0 +1,106 @@
+-- What a place is to tell and names stays from one event to the next.
+use Rattle.std.proofs.Common.{ℕ, refl, arith}
+use Rattle.std.proofs.lemmas.Bool.Decides.{nat_tests}
+use Rattle.qs_world_agree.specs.World.{World}
+use Rattle.qs_world_agree.specs.Step.{Event, Issue, Issue_unmet, Issue_local, Meet, Notice, Engage, Join, Cover, Serve, Serve_told, Lend, Yield, Ask, Vote_read, Vote_volatile, Force, Vote_recoverable, Vote_abort, Yes, Yes_lost, Count, Ignore, Refuse, Miss, Forget, Crash, Restart, Restart_in_doubt, Restart_home, Commit, Commit_cut, Commit_unlogged, Abort, Tell, Learn, Learn_cut, Learn_home, Acknowledge, Take_told, End, Checkpoint, Tell_abort, Learn_abort, Name_again, Take_names, Learn_abort_home, Abort_logged, Drop_engage, Drop_join, Drop_cover, Inquire, Inquire_lost, Inquire_home, Answer_commit, Answer_running, Answer_abort, Step}
+use Rattle.qs_world_agree_ends.proofs.Telling.{Telling, Tells}
+
+by_issue : (p q r : ℕ) (w v : World) (k n : ℕ) → Telling w k n → Step (Issue p q r) w v → Tells w v k n
+by_issue p q r w v k n h s = grind (arith, nat_tests, h, s)
+
+by_issue_unmet : (p q r : ℕ) (w v : World) (k n : ℕ) → Telling w k n → Step (Issue_unmet p q r) w v → Tells w v k n
+by_issue_unmet p q r w v k n h s = grind (arith, nat_tests, h, s)
+
+by_count : (p q : ℕ) (w v : World) (k n : ℕ) → Telling w k n → Step (Count p q) w v → Tells w v k n
+by_count p q w v k n h s = grind (arith, nat_tests, h, s)
+
+by_restart_home : (p : ℕ) (w v : World) (k n : ℕ) → Telling w k n → Step (Restart_home p) w v → Tells w v k n
+by_restart_home p w v k n h s = grind (arith, nat_tests, h, s)
+
+by_commit : (w v : World) (k n : ℕ) → Telling w k n → Step Commit w v → Tells w v k n
+by_commit w v k n h s = grind (arith, nat_tests, h, s.0.unknown, s)
+
+by_commit_unlogged : (w v : World) (k n : ℕ) → Telling w k n → Step Commit_unlogged w v → Tells w v k n
+by_commit_unlogged w v k n h s = grind (arith, nat_tests, h, s.0.unknown, s)
+
+by_abort : (w v : World) (k n : ℕ) → Telling w k n → Step Abort w v → Tells w v k n
+by_abort w v k n h s = grind (arith, nat_tests, h, s)
+
+by_learn : (p : ℕ) (w v : World) (k n : ℕ) → Telling w k n → Step (Learn p) w v → Tells w v k n
+by_learn p w v k n h s = grind (arith, nat_tests, h, s)
+
+by_learn_abort : (p : ℕ) (w v : World) (k n : ℕ) → Telling w k n → Step (Learn_abort p) w v → Tells w v k n
+by_learn_abort p w v k n h s = grind (arith, nat_tests, h, s)
+
+by_name_again : (p : ℕ) (w v : World) (k n : ℕ) → Telling w k n → Step (Name_again p) w v → Tells w v k n
+by_name_again p w v k n h s = grind (arith, nat_tests, h, s)
+
+by_take_names : (p q r : ℕ) (w v : World) (k n : ℕ) → Telling w k n → Step (Take_names p q r) w v → Tells w v k n
+by_take_names p q r w v k n h s = grind (arith, nat_tests, h, s)
+
+by_learn_abort_home : (p q : ℕ) (w v : World) (k n : ℕ) → Telling w k n → Step (Learn_abort_home p q) w v → Tells w v k n
+by_learn_abort_home p q w v k n h s = grind (arith, nat_tests, h, s)
+
+by_answer_running : (p : ℕ) (w v : World) (k n : ℕ) → Telling w k n → Step (Answer_running p) w v → Tells w v k n
+by_answer_running p w v k n h s = grind (arith, nat_tests, h, s)
+
+by_answer_abort : (p q : ℕ) (w v : World) (k n : ℕ) → Telling w k n → Step (Answer_abort p q) w v → Tells w v k n
+by_answer_abort p q w v k n h s = grind (arith, nat_tests, h, s)
+
+pub tells_step : (e : Event) (w v : World) (k n : ℕ) → Telling w k n → Step e w v → Tells w v k n
+tells_step (Issue p q r) w v k n h s = by_issue p q r w v k n h s
+tells_step (Issue_unmet p q r) w v k n h s = by_issue_unmet p q r w v k n h s
+tells_step (Issue_local p q) w v k n h s = rw s.1 (record { node = refl; home = refl; drew = λ is. is; to_tell = λ is. is; named = λ is. is; decides = λ at other is drew. absurd (other is); learns = λ away other is drew. absurd (other is) })
+tells_step (Meet p q) w v k n h s = rw s.5 (record { node = refl; home = refl; drew = λ is. is; to_tell = λ is. is; named = λ is. is; decides = λ at other is drew. absurd (other is); learns = λ away other is drew. absurd (other is) })
+tells_step (Notice p q) w v k n h s = rw s.5 (record { node = refl; home = refl; drew = λ is. is; to_tell = λ is. is; named = λ is. is; decides = λ at other is drew. absurd (other is); learns = λ away other is drew. absurd (other is) })
+tells_step (Engage p q) w v k n h s = rw s.4 (record { node = refl; home = refl; drew = λ is. is; to_tell = λ is. is; named = λ is. is; decides = λ at other is drew. absurd (other is); learns = λ away other is drew. absurd (other is) })
+tells_step (Join p q) w v k n h s = rw s.5 (record { node = refl; home = refl; drew = λ is. is; to_tell = λ is. is; named = λ is. is; decides = λ at other is drew. absurd (other is); learns = λ away other is drew. absurd (other is) })
+tells_step (Cover p q) w v k n h s = rw s.4 (record { node = refl; home = refl; drew = λ is. is; to_tell = λ is. is; named = λ is. is; decides = λ at other is drew. absurd (other is); learns = λ away other is drew. absurd (other is) })
+tells_step (Serve p q) w v k n h s = rw s.2 (record { node = refl; home = refl; drew = λ is. is; to_tell = λ is. is; named = λ is. is; decides = λ at other is drew. absurd (other is); learns = λ away other is drew. absurd (other is) })
+tells_step (Serve_told p q) w v k n h s = rw s.2 (record { node = refl; home = refl; drew = λ is. is; to_tell = λ is. is; named = λ is. is; decides = λ at other is drew. absurd (other is); learns = λ away other is drew. absurd (other is) })
+tells_step (Lend p q) w v k n h s = rw s.2 (record { node = refl; home = refl; drew = λ is. is; to_tell = λ is. is; named = λ is. is; decides = λ at other is drew. absurd (other is); learns = λ away other is drew. absurd (other is) })
+tells_step (Yield p) w v k n h s = rw s.2.2 (record { node = refl; home = refl; drew = λ is. is; to_tell = λ is. is; named = λ is. is; decides = λ at other is drew. absurd (other is); learns = λ away other is drew. absurd (other is) })
+tells_step (Ask p) w v k n h s = rw s.1 (record { node = refl; home = refl; drew = λ is. is; to_tell = λ is. is; named = λ is. is; decides = λ at other is drew. absurd (other is); learns = λ away other is drew. absurd (other is) })
+tells_step (Vote_read p q) w v k n h s = rw s.1 (record { node = refl; home = refl; drew = λ is. is; to_tell = λ is. is; named = λ is. is; decides = λ at other is drew. absurd (other is); learns = λ away other is drew. absurd (other is) })
+tells_step (Vote_volatile p q) w v k n h s = rw s.2 (record { node = refl; home = refl; drew = λ is. is; to_tell = λ is. is; named = λ is. is; decides = λ at other is drew. absurd (other is); learns = λ away other is drew. absurd (other is) })
+tells_step (Force p q) w v k n h s = rw s.2 (record { node = refl; home = refl; drew = λ is. is; to_tell = λ is. is; named = λ is. is; decides = λ at other is drew. absurd (other is); learns = λ away other is drew. absurd (other is) })
+tells_step (Vote_recoverable p q) w v k n h s = rw s.2 (record { node = refl; home = refl; drew = λ is. is; to_tell = λ is. is; named = λ is. is; decides = λ at other is drew. absurd (other is); learns = λ away other is drew. absurd (other is) })
+tells_step (Vote_abort p q) w v k n h s = rw s.1 (record { node = refl; home = refl; drew = λ is. is; to_tell = λ is. is; named = λ is. is; decides = λ at other is drew. absurd (other is); learns = λ away other is drew. absurd (other is) })
+tells_step (Yes p) w v k n h s = rw s.3 (record { node = refl; home = refl; drew = λ is. is; to_tell = λ is. is; named = λ is. is; decides = λ at other is drew. absurd (other is); learns = λ away other is drew. absurd (other is) })
+tells_step (Yes_lost p) w v k n h s = rw s.3 (record { node = refl; home = refl; drew = λ is. is; to_tell = λ is. is; named = λ is. is; decides = λ at other is drew. absurd (other is); learns = λ away other is drew. absurd (other is) })
+tells_step (Count p q) w v k n h s = by_count p q w v k n h s
+tells_step (Ignore p q) w v k n h s = rw s.4 (record { node = refl; home = refl; drew = λ is. is; to_tell = λ is. is; named = λ is. is; decides = λ at other is drew. absurd (other is); learns = λ away other is drew. absurd (other is) })
+tells_step (Refuse p) w v k n h s = rw s.1 (record { node = refl; home = refl; drew = λ is. is; to_tell = λ is. is; named = λ is. is; decides = λ at other is drew. absurd (other is); learns = λ away other is drew. absurd (other is) })
+tells_step (Miss p) w v k n h s = rw s.2 (record { node = refl; home = refl; drew = λ is. is; to_tell = λ is. is; named = λ is. is; decides = λ at other is drew. absurd (other is); learns = λ away other is drew. absurd (other is) })
+tells_step (Forget p) w v k n h s = rw s.5 (record { node = refl; home = refl; drew = λ is. is; to_tell = λ is. is; named = λ is. is; decides = λ at other is drew. absurd (other is); learns = λ away other is drew. absurd (other is) })
+tells_step (Crash p) w v k n h s = rw s.1 (record { node = refl; home = refl; drew = λ is. is; to_tell = λ is. is; named = λ is. is; decides = λ at other is drew. absurd (other is); learns = λ away other is drew. absurd (other is) })
+tells_step (Restart p) w v k n h s = rw s.4 (record { node = refl; home = refl; drew = λ is. is; to_tell = λ is. is; named = λ is. is; decides = λ at other is drew. absurd (other is); learns = λ away other is drew. absurd (other is) })
+tells_step (Restart_in_doubt p q) w v k n h s = rw s.4 (record { node = refl; home = refl; drew = λ is. is; to_tell = λ is. is; named = λ is. is; decides = λ at other is drew. absurd (other is); learns = λ away other is drew. absurd (other is) })
+tells_step (Restart_home p) w v k n h s = by_restart_home p w v k n h s
+tells_step Commit w v k n h s = by_commit w v k n h s
+tells_step Commit_cut w v k n h s = rw s.1 (record { node = refl; home = refl; drew = λ is. is; to_tell = λ is. is; named = λ is. is; decides = λ at other is drew. absurd (other is); learns = λ away other is drew. absurd (other is) })
+tells_step Commit_unlogged w v k n h s = by_commit_unlogged w v k n h s
+tells_step Abort w v k n h s = by_abort w v k n h s
+tells_step (Tell p q) w v k n h s = rw s.3 (record { node = refl; home = refl; drew = λ is. is; to_tell = λ is. is; named = λ is. is; decides = λ at other is drew. absurd (other is); learns = λ away other is drew. absurd (other is) })
+tells_step (Learn p) w v k n h s = by_learn p w v k n h s
+tells_step (Learn_cut p) w v k n h s = rw s.3 (record { node = refl; home = refl; drew = λ is. is; to_tell = λ is. is; named = λ is. is; decides = λ at other is drew. absurd (other is); learns = λ away other is drew. absurd (other is) })
+tells_step (Learn_home p) w v k n h s = rw s.3 (record { node = refl; home = refl; drew = λ is. is; to_tell = λ is. is; named = λ is. is; decides = λ at other is drew. absurd (other is); learns = λ away other is drew. absurd (other is) })
+tells_step (Acknowledge p) w v k n h s = rw s.2 (record { node = refl; home = refl; drew = λ is. is; to_tell = λ is. is; named = λ is. is; decides = λ at other is drew. absurd (other is); learns = λ away other is drew. absurd (other is) })
+tells_step (Take_told p q) w v k n h s = rw s.3 (record { node = refl; home = refl; drew = λ is. is; to_tell = λ is. is; named = λ is. is; decides = λ at other is drew. absurd (other is); learns = λ away other is drew. absurd (other is) })
+tells_step (End p) w v k n h s = rw s.4 (record { node = refl; home = refl; drew = λ is. is; to_tell = λ is. is; named = λ is. is; decides = λ at other is drew. absurd (other is); learns = λ away other is drew. absurd (other is) })
+tells_step (Checkpoint p) w v k n h s = rw s.3 (record { node = refl; home = refl; drew = λ is. is; to_tell = λ is. is; named = λ is. is; decides = λ at other is drew. absurd (other is); learns = λ away other is drew. absurd (other is) })
+tells_step (Tell_abort p q) w v k n h s = rw s.4 (record { node = refl; home = refl; drew = λ is. is; to_tell = λ is. is; named = λ is. is; decides = λ at other is drew. absurd (other is); learns = λ away other is drew. absurd (other is) })
+tells_step (Learn_abort p) w v k n h s = by_learn_abort p w v k n h s
+tells_step (Name_again p) w v k n h s = by_name_again p w v k n h s
+tells_step (Take_names p q r) w v k n h s = by_take_names p q r w v k n h s
+tells_step (Learn_abort_home p q) w v k n h s = by_learn_abort_home p q w v k n h s
+tells_step (Abort_logged p) w v k n h s = rw s.2 (record { node = refl; home = refl; drew = λ is. is; to_tell = λ is. is; named = λ is. is; decides = λ at other is drew. absurd (other is); learns = λ away other is drew. absurd (other is) })
+tells_step (Drop_engage p q) w v k n h s = rw s.4 (record { node = refl; home = refl; drew = λ is. is; to_tell = λ is. is; named = λ is. is; decides = λ at other is drew. absurd (other is); learns = λ away other is drew. absurd (other is) })
+tells_step (Drop_join p q) w v k n h s = rw s.5 (record { node = refl; home = refl; drew = λ is. is; to_tell = λ is. is; named = λ is. is; decides = λ at other is drew. absurd (other is); learns = λ away other is drew. absurd (other is) })
+tells_step (Drop_cover p q) w v k n h s = rw s.3 (record { node = refl; home = refl; drew = λ is. is; to_tell = λ is. is; named = λ is. is; decides = λ at other is drew. absurd (other is); learns = λ away other is drew. absurd (other is) })
+tells_step (Inquire p) w v k n h s = rw s.4 (record { node = refl; home = refl; drew = λ is. is; to_tell = λ is. is; named = λ is. is; decides = λ at other is drew. absurd (other is); learns = λ away other is drew. absurd (other is) })
+tells_step (Inquire_lost p) w v k n h s = rw s.5 (record { node = refl; home = refl; drew = λ is. is; to_tell = λ is. is; named = λ is. is; decides = λ at other is drew. absurd (other is); learns = λ away other is drew. absurd (other is) })
+tells_step (Inquire_home p) w v k n h s = rw s.5 (record { node = refl; home = refl; drew = λ is. is; to_tell = λ is. is; named = λ is. is; decides = λ at other is drew. absurd (other is); learns = λ away other is drew. absurd (other is) })
+tells_step (Answer_commit p q) w v k n h s = rw s.2 (record { node = refl; home = refl; drew = λ is. is; to_tell = λ is. is; named = λ is. is; decides = λ at other is drew. absurd (other is); learns = λ away other is drew. absurd (other is) })
+tells_step (Answer_running p) w v k n h s = by_answer_running p w v k n h s
+tells_step (Answer_abort p q) w v k n h s = by_answer_abort p q w v k n h s
