@@ -62,7 +62,7 @@ module _ {D : Type 0} (told : Type 0) (state : D → DiskState) (own size : D �
     tells other n low = posts_of_each (λ k p q. IsPostOf o.size k p → TellsOfActs o.size k p q) other old mid b.count
         (λ k a d a_is d_is of. turns_tell told state own size o.size k turns a d (b.each k a d a_is d_is) of) n (omega (arith, was.count, low)) ((was.links other).of n low)
 
-    behind : AreSitesIn told state o plans mid
+    pub behind : AreSitesIn told state o plans mid
     behind = record {
       count = b.count ∙ was.count;
       each = each_of (TakesTurns told state own size turns) (λ n a. IsSiteIn told state o n a) old mid b (λ n a d taken there. each_turns told state own size o n turns a d t taken there) was.each;

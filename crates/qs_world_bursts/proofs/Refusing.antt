@@ -32,7 +32,7 @@ use Rattle.qs_world_links.proofs.Keeping.{taken_still}
 use Rattle.qs_world_links.proofs.Linking.{each_link_goes_on, each_link_is_named, each_link_keeps_plan, put_to_more, took_from_more}
 use Rattle.qs_world_links.proofs.Refused.{TookSome, in_hearing, some_none, some_turn}
 use Rattle.qs_world_links.proofs.Visiting.{sources_none}
-use Rattle.qs_world_links.specs.Between.{Goes, IsFrom, IsLinkOf}
+use Rattle.qs_world_links.specs.Between.{BearsStamp, Goes, IsFrom, IsLinkOf}
 use Rattle.qs_world_links.specs.Everywhere.{LinksAreTold}
 use Rattle.qs_world_links.specs.Posts.{AreCarriedNamed, AreInFront, IsOfNode, IsPostOf, trace_in}
 use Rattle.qs_world_traces.specs.Links.{IsTakenByPlan, is_from, put_to, puts_of, took_from}
@@ -42,6 +42,7 @@ use Rattle.qs_world_traces.specs.Links.{IsTakenByPlan, is_from, put_to, puts_of,
 pub some_of_acts : {D : Type 0} (nodes n : ℕ) (old new : Post D) → TellsOfActs nodes n old new → TellsOfSome nodes n old new
 some_of_acts nodes n old new a = record {
   steps = a.steps;
+  bears = a.bears;
   trace = a.trace;
   out = flat_map puts_of a.steps;
   rest = [];
@@ -85,6 +86,7 @@ module _ {D : Type 0} (nodes n : ℕ) (old mid new : Post D) (a : TellsOfActs no
   pub some_behind : TellsOfSome nodes n old new
   some_behind = record {
     steps = a.steps ++ b.steps;
+    bears = All-append BearsStamp a.steps b.steps a.bears b.bears;
     trace = b.trace ∙ (ap (λ (l : List Step). l ++ b.steps) a.trace ∙ append_assoc (steps_in old.seat.node) a.steps b.steps);
     out = flat_map puts_of a.steps ++ b.out;
     rest = b.rest;
@@ -133,6 +135,7 @@ module _ {D : Type 0} (told : Type 0) (state : D → DiskState) (own size : D �
       → ((m : ℕ) → is_peer nodes n m ≡ true → (into_of new.links m).ring ≡ (into_of a.begun.links m).ring) → TellsOfSome nodes n old new
   tells some out rest puts put ring = record {
     steps = (all some).steps;
+    bears = (all some).bears;
     trace = (all some).trace;
     out = out;
     rest = rest;

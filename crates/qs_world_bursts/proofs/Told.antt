@@ -28,7 +28,7 @@ use Rattle.qs_world_links.proofs.Ends.{all_behind, all_front, none_put}
 use Rattle.qs_world_links.proofs.Hearing.{Took, peer_there, post_of_node, post_then, times_hear, took_none}
 use Rattle.qs_world_links.proofs.Linking.{put_to_more, took_from_more}
 use Rattle.qs_world_links.proofs.Visiting.{BringNone, all_turn, sources_none}
-use Rattle.qs_world_links.specs.Between.{Goes, IsFrom}
+use Rattle.qs_world_links.specs.Between.{BearsStamp, Goes, IsFrom}
 use Rattle.qs_world_links.specs.Posts.{AreCarriedNamed, IsOfNode, IsPostOf}
 use Rattle.qs_world_traces.specs.Links.{is_from, put_to, puts_of, took_from}
 
@@ -113,6 +113,7 @@ module _ {D : Type 0} (told : Type 0) (state : D → DiskState) (own size : D �
     steps = (adds old new a of).steps;
     trace = ap (λ s. steps_in s.node) a.seat ∙ (adds old new a of).trace;
     from = (adds old new a of).from;
+    bears = (adds old new a of).bears;
     put = puts old new a of;
     on = on old new a of;
     received = popped old new a of;
@@ -131,6 +132,7 @@ module _ {D : Type 0} (nodes n : ℕ) where
     steps = [];
     trace = ap steps_in node ∙ sym (append-nil (steps_in old.seat.node));
     from = All-nil (IsFrom n);
+    bears = All-nil BearsStamp;
     put = λ m peer. subst (λ (l : LinksValue). PutNone (out_of old.links m) (out_of l m)) (sym links) (none_put (out_of old.links m));
     on = λ m. [];
     received = λ m peer. ap (λ (l : LinksValue). received (into_of l m).ring) links ∙ sym (append-nil (received (into_of old.links m).ring));
@@ -166,6 +168,7 @@ module _ {D : Type 0} (nodes n : ℕ) where
     trace = b.trace ∙ (ap (λ (l : List Step). l ++ b.steps) a.trace ∙ append_assoc (steps_in old.seat.node) a.steps b.steps);
     from = All-same (IsFrom n) (flat_map puts_of (a.steps ++ b.steps)) (flat_map puts_of a.steps ++ flat_map puts_of b.steps) (flat_map-append puts_of a.steps b.steps)
         (All-append (IsFrom n) (flat_map puts_of a.steps) (flat_map puts_of b.steps) a.from b.from);
+    bears = All-append BearsStamp a.steps b.steps a.bears b.bears;
     put = λ m peer. subst (λ (l : List Packet). PutAll l (out_of old.links m) (out_of new.links m)) (sym (put_to_more m a.steps b.steps))
         (puts_more (put_to m a.steps) (put_to m b.steps) (out_of old.links m) (out_of mid.links m) (out_of new.links m) (a.put m peer) (b.put m peer));
     on = λ m. a.on m ++ b.on m;

@@ -18,7 +18,7 @@ use Rattle.qs_world.specs.World.{Opening}
 use Rattle.qs_world_bursts.specs.Acts.{Acts, Draws, MakesOne, in_act_as}
 use Rattle.qs_world_bursts.specs.Telling.{AreFifo, ComeNamed}
 use Rattle.qs_world_bursts.specs.Turns.{TakesTurns}
-use Rattle.qs_world_links.specs.Between.{IsFrom}
+use Rattle.qs_world_links.specs.Between.{BearsStamp, IsFrom}
 use Rattle.qs_world_links.specs.Everywhere.{LinksAreTold}
 use Rattle.qs_world_links.specs.Posts.{AreInFront, IsPostOf, trace_in}
 use Rattle.qs_world_nodes.specs.Nodes.{AreCellsIn, AreSitesIn}
@@ -87,6 +87,7 @@ TakesSome told state own size turns old new =
 pub record TellsOfSome {D : Type 0} (nodes n : ℕ) (old new : Post D) : Type 0 where
   pub steps : List Step
   pub trace : trace_in new ≡ trace_in old ++ steps
+  pub bears : All BearsStamp steps
   pub out : List Packet
   pub rest : List Packet
   pub puts : flat_map puts_of steps ≡ out ++ rest

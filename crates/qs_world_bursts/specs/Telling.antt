@@ -11,7 +11,7 @@ use Rattle.qs_link.specs.declared.outgoing.LinkFault.{LinkFault}
 use Rattle.qs_node_step.specs.declared.trace.Step.{Step}
 use Rattle.qs_packet.specs.declared.packet.Packet.{Packet}
 use Rattle.qs_world_bursts.specs.Acts.{Acts}
-use Rattle.qs_world_links.specs.Between.{Goes, IsFrom}
+use Rattle.qs_world_links.specs.Between.{BearsStamp, Goes, IsFrom}
 use Rattle.qs_world_links.specs.Everywhere.{LinksAreTold}
 use Rattle.qs_world_links.specs.Posts.{IsPostOf, trace_in}
 use Rattle.qs_world_traces.specs.Links.{put_to, puts_of, took_from}
@@ -21,12 +21,13 @@ use Rattle.rtrb.specs.Ring.{SameConsumer, received}
 abbrev pub ComeNamed : ℕ → ℕ → LinksValue → (ℕ → List Packet) → Type 0
 ComeNamed nodes n links on = (m : ℕ) → is_peer nodes n m ≡ true → All (Goes m n) ((into_of links m).inbox ++ on m)
 
--- the trace has these steps more, and what they put goes from this node. Each link got what they put for its node, in order. Packets were popped from the rings; and where
+-- the trace has these steps more, and what they put goes from this node, with the stamps of its steps. Each link got what they put for its node, in order. Packets were popped from the rings; and where
 -- all that came is so named, what they took of each node stood first in its inbox, or was popped, in order
 pub record TellsOfActs {D : Type 0} (nodes n : ℕ) (old new : Post D) : Type 0 where
   pub steps : List Step
   pub trace : trace_in new ≡ trace_in old ++ steps
   pub from : All (IsFrom n) (flat_map puts_of steps)
+  pub bears : All BearsStamp steps
   pub put : (m : ℕ) → is_peer nodes n m ≡ true → PutAll (put_to m steps) (out_of old.links m) (out_of new.links m)
   pub on : ℕ → List Packet
   pub received : (m : ℕ) → is_peer nodes n m ≡ true → received (into_of new.links m).ring ≡ received (into_of old.links m).ring ++ on m

@@ -69,7 +69,7 @@ module _ {D : Type 0} (told : Type 0) (state : D → DiskState) (own size : D �
   pub takes_in_adds : (old : Up D) (new : CellState D) (answers : List ClientAnswer) → TakesIn told state own size packet (states.Up old) new answers → IsOfNode nodes n (states.Up old) → AddsPacket nodes n packet (states.Up old) new
   takes_in_adds old new answers taken of = record {
     takes = handed.takes;
-    adds = record { steps = handed.adds.steps; trace = handed.adds.trace; takes_are = handed.adds.takes_are; from = handed.adds.from; node = handed.adds.node };
+    adds = record { steps = handed.adds.steps; trace = handed.adds.trace; takes_are = handed.adds.takes_are; from = handed.adds.from; bears = handed.adds.bears; node = handed.adds.node };
     is = handed.is;
   }
     where

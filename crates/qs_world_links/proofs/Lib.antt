@@ -2,6 +2,8 @@
 pub mod Ends
 -- The link between two nodes as one of them goes on, and what it tells.
 pub mod Linking
+-- What is sent bears the stamp of its step.
+pub mod Bearing
 -- What an event adds to the trace of its cell.
 pub mod Adding
 -- A packet that comes.

@@ -13,6 +13,10 @@ use Rattle.qs_world_traces.specs.Links.{IsTakenByPlan, put_to, took_from}
 abbrev pub IsFrom : ℕ → Packet → Type 0
 IsFrom m packet = packet.from.0 ≡ m
 
+-- each packet that a step put bears its stamp
+abbrev pub BearsStamp : Step → Type 0
+BearsStamp step = All (λ p. p.stamp ≡ step.stamp) step.put
+
 -- the packet goes from node m to node n
 abbrev pub Goes : ℕ → ℕ → Packet → Type 0
 Goes m n packet = IsFrom m packet × (packet.to.0 ≡ n)

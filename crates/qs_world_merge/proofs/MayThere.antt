@@ -99,14 +99,14 @@ less_of : (b : Bool) (o : Option Event) → is_some (if b then o else None) ≡ 
 less_of true o some = refl
 less_of false o some = absurd (cc some)
 
-steps_below : (w : PacketWorld) (n stamp s m : ℕ) (p : Packet Parcel) → stamp ≡ s → may_step w n stamp (Brought m p) ≡ true → p.stamp < s
+pub steps_below : (w : PacketWorld) (n stamp s m : ℕ) (p : Packet Parcel) → stamp ≡ s → may_step w n stamp (Brought m p) ≡ true → p.stamp < s
 steps_below w n stamp s m p at may =
     let one = and_parts (w.network.up n) _ may in
     let two = and_parts (is_later w n stamp) _ one.1 in
     let three = and_parts (is_some (event_of w n stamp (Brought m p))) _ two.1 in
     subst (λ (k : ℕ). p.stamp < k) at (ltb-true p.stamp stamp (less_of (nat_lt p.stamp stamp) _ three.0))
 
-meets_below : (w : PacketWorld) (n stamp s m : ℕ) (p : Packet Parcel) → stamp ≡ s → may_meet w n stamp m p ≡ true → p.stamp < s
+pub meets_below : (w : PacketWorld) (n stamp s m : ℕ) (p : Packet Parcel) → stamp ≡ s → may_meet w n stamp m p ≡ true → p.stamp < s
 meets_below w n stamp s m p at may =
     let one = and_parts (w.network.up n) _ may in
     let two = and_parts (is_later w n stamp) _ one.1 in

@@ -28,7 +28,7 @@ module _ {D : Type 0} (told : Type 0) (state : D → DiskState) (o : Opening) (p
   tells_at : (n : ℕ) (a : Cast D) → slice_get sites n ≡ Some a → IsOfLocalRun o n (observed_by (journal_at sites n) (trace_at sites n))
   tells_at n a is = subst (λ (x : _). IsOfLocalRun o n (observed_by (journal_by x) (trace_by x))) (sym is) (each_cell_tells told state o n a.node.seat.node (are.each n a is))
 
-  local : AreOfLocalRuns o (λ n. observed_by (journal_at sites n) (trace_at sites n))
+  pub local : AreOfLocalRuns o (λ n. observed_by (journal_at sites n) (trace_at sites n))
   local n low = by (found sites n (omega (arith, low, are.count)))
     where
       by : (a : Cast D) × (slice_get sites n ≡ Some a) → IsOfLocalRun o n (observed_by (journal_at sites n) (trace_at sites n))

@@ -23,14 +23,14 @@ whole_front xs = record { rest = []; is = sym (append-nil xs) }
 pub front_then : {A : Type 0} {xs ys zs : List A} → IsFront xs ys → IsFront ys zs → IsFront xs zs
 front_then {A} {xs} {ys} {zs} a b = record { rest = a.rest ++ b.rest; is = b.is ∙ (ap (λ (l : List A). l ++ b.rest) a.is ∙ append_assoc xs a.rest b.rest) }
 
-seen_front : (xs ys : List packets.Packet) (p : Packet Message) → IsFront xs ys → Among (map seen xs) p → Among (map seen ys) p
+pub seen_front : (xs ys : List packets.Packet) (p : Packet Message) → IsFront xs ys → Among (map seen xs) p → Among (map seen ys) p
 seen_front xs ys p front among = let found = among_map seen xs p among in
     map_among seen ys found.0 p (subst (λ (l : List packets.Packet). Among l found.0) (sym front.is) (among_front xs front.rest found.0 found.1)) found.2
 
 puts_front : (n : ℕ) (xs ys : List Step) → IsFront xs ys → IsFront (put_to n xs) (put_to n ys)
 puts_front n xs ys front = record { rest = put_to n front.rest; is = ap (put_to n) front.is ∙ put_to_more n xs front.rest }
 
-takes_front : (m : ℕ) (xs ys : List Step) → IsFront xs ys → IsFront (took_from m xs) (took_from m ys)
+pub takes_front : (m : ℕ) (xs ys : List Step) → IsFront xs ys → IsFront (took_from m xs) (took_from m ys)
 takes_front m xs ys front = record { rest = took_from m front.rest; is = ap (took_from m) front.is ∙ took_from_more m xs front.rest }
 
 -- ---- what is taken was put

@@ -102,7 +102,7 @@ module _ {D : Type 0} (told : Type 0) (state : D → DiskState) (own size : D �
   below_roomy (suc m) old new (mid, (before, hears)) was = times_roomy m (carried_from mid.links m) mid new hears (below_roomy m old mid before was)
 
   -- one of them for which memory was refused
-  breaking_roomy : (m : ℕ) (old new : Post D) → BreaksHearing told state own size m old new → HasRoom old.seat.node → HasRoom new.seat.node
+  pub breaking_roomy : (m : ℕ) (old new : Post D) → BreaksHearing told state own size m old new → HasRoom old.seat.node → HasRoom new.seat.node
   breaking_roomy m old new (inl same) was = seen_roomy (λ s. s) state size began old.seat.node new.seat.node same was
   breaking_roomy m old new (inr (ready, (same, (packet, (has, (answers, takes)))))) was = by ready takes (seen_roomy (λ s. s) state size began old.seat.node ready same was)
     where

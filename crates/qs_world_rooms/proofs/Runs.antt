@@ -50,7 +50,7 @@ not_full : {D : Type 0} (state : D → DiskState) (size : D → ℕ) (began : Be
 not_full state size began (states.Up running) room = refl
 not_full state size began (states.Down stopped) room = room.roomy
 
-leave : {D : Type 0} (state : D → DiskState) (size : D → ℕ) (began : ℕ → Began) (sites : List (Cast D)) → AreRoomySites state size began sites → LeaveRoom state size sites
+pub leave : {D : Type 0} (state : D → DiskState) (size : D → ℕ) (began : ℕ → Began) (sites : List (Cast D)) → AreRoomySites state size began sites → LeaveRoom state size sites
 leave {D} state size began sites rooms = record {
   disks = λ n bytes disk of_size of_disk. by n bytes disk of_size of_disk (found sites n (omega (arith, low_of (sizes_of size sites) n bytes of_size, length-map sites (disk_size size))));
   none = λ n site is. not_full state size (began n) site.node.seat.node (rooms n site is);
@@ -64,20 +64,20 @@ leave {D} state size began sites rooms = record {
 
 module _ {D : Type 0} (may : (o : Opening) → MayBegin o) (told : Type 0) (state : D → DiskState) (own size : D → ℕ) (alloc : Global) (script : Script) (disks : List D) (all : SitesValue D) (t : told)
     (b : BeginsRoomy told state own size alloc script disks all) where
-  abbrev o : Opening
+  abbrev pub o : Opening
   o = opening_over alloc script disks all.sites
 
-  opens : IsOpening o
+  pub opens : IsOpening o
   opens = may_open may told state own size alloc script disks all t b.begun b.once b.fits b.coherent
 
-  first : AreSitesIn told state o (plans_of script) all.sites
+  pub first : AreSitesIn told state o (plans_of script) all.sites
   first = first_in may told state own size alloc script disks all t b.begun b.once b.fits b.coherent
 
-  abbrev bytes_by : Option (Cast D) → ℕ
+  abbrev pub bytes_by : Option (Cast D) → ℕ
   bytes_by None = 0
   bytes_by (Some site) = disk_size size site
 
-  abbrev began : ℕ → Began
+  abbrev pub began : ℕ → Began
   began n = record { content = content_at (map state disks) n; bytes = bytes_by (slice_get all.sites n) }
 
   module _ (n : ℕ) (disk : D) (site : Cast D) (of_disk : slice_get disks n ≡ Some disk) (there : slice_get all.sites n ≡ Some site) where
@@ -111,10 +111,10 @@ module _ {D : Type 0} (may : (o : Opening) → MayBegin o) (told : Type 0) (stat
 
   -- ---- and goes on
 
-  abbrev Stays : List (Cast D) → Type 0
+  abbrev pub Stays : List (Cast D) → Type 0
   Stays sites = Stay told state own size o (plans_of script) began t opens sites
 
-  begins : Stays all.sites
+  pub begins : Stays all.sites
   begins = record { are = first; rooms = rooms }
     where
       rooms : AreRoomySites state size began all.sites

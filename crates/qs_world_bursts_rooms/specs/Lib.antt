@@ -1,0 +1,2 @@
+-- Room through bursts.
+pub mod Rooms
