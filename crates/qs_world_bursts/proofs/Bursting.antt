@@ -57,17 +57,22 @@ module _ {D : Type 0} (size : ℕ) (mid new : List (Cast D)) (count : length mid
 -- ---- a burst, and a round behind it
 
 module _ {D : Type 0} (told : Type 0) (state : D → DiskState) (own size : D → ℕ) (o : Opening) (plans : ℕ → ℕ → List LinkFault) (turns : ℕ) where
-  module _ (old mid new : List (Cast D)) (t : told) (b : Bursts told state own size turns old mid) (c : AreCarried mid new) (was : AreSitesIn told state o plans old) where
+  -- where each ring was looked at from both ends
+  module _ (old mid : List (Cast D)) (t : told) (b : Bursts told state own size turns old mid) (fifo : (other : Post D) → AreFifo o.size (post_at other mid)) (was : AreSitesIn told state o plans old) where
     tells : (other : Post D) (n : ℕ) → n < o.size → TellsOfActs o.size n (post_at other old n) (post_at other mid n)
     tells other n low = posts_of_each (λ k p q. IsPostOf o.size k p → TellsOfActs o.size k p q) other old mid b.count
         (λ k a d a_is d_is of. turns_tell told state own size o.size k turns a d (b.each k a d a_is d_is) of) n (omega (arith, was.count, low)) ((was.links other).of n low)
 
-    pub behind : AreSitesIn told state o plans mid
-    behind = record {
+    pub joined_in : AreSitesIn told state o plans mid
+    joined_in = record {
       count = b.count ∙ was.count;
       each = each_of (TakesTurns told state own size turns) (λ n a. IsSiteIn told state o n a) old mid b (λ n a d taken there. each_turns told state own size o n turns a d t taken there) was.each;
-      links = λ other. each_joined o.size plans (post_at other old) (post_at other mid) (tells other) (are_fifo o.size mid new (b.count ∙ was.count) c other) (was.links other);
+      links = λ other. each_joined o.size plans (post_at other old) (post_at other mid) (tells other) (fifo other) (was.links other);
     }
+
+  -- as it is carried
+  pub behind : (old mid new : List (Cast D)) → told → Bursts told state own size turns old mid → AreCarried mid new → AreSitesIn told state o plans old → AreSitesIn told state o plans mid
+  behind old mid new t b c was = joined_in old mid t b (are_fifo o.size mid new (b.count ∙ was.count) c) was
 
   pub each_burst : (old mid new : List (Cast D)) → BurstKeeps told state own size o plans turns old mid new
   each_burst old mid new t b c was = each_carries told state o plans mid new c (behind old mid new t b c was)

@@ -114,6 +114,14 @@ module _ {D : Type 0} (told : Type 0) (state : D → DiskState) (own size : D �
       let first : TellsOfActs nodes n (post_of old.node) (post_of mid.node) = turns_tell told state own size nodes n few old mid before of in
       some_behind nodes n (post_of old.node) (post_of mid.node) (post_of new.node) first (turn_some mid new refused first.post)
 
+-- ---- each ring was looked at from both ends
+
+pub fifo_at : {D : Type 0} (size : ℕ) (new : List (Cast D)) → length new ≡ size → AreFifoSites new → (other : Post D) → AreFifo size (post_at other new)
+fifo_at size new count fifo other m n low_m low_n apart = posts_of_each (λ k p q. (k ≢ n) → IsFifo (out_of p.links n).feed (into_of (post_at other new n).links k)) other new new refl
+    (λ k a b a_is b_is k_apart. posts_of_each (λ j r s. (k ≢ j) → IsFifo (out_of (links_of a) j).feed (into_of r.links k)) other new new refl
+    (λ j d f d_is f_is j_apart. fifo k j a d a_is d_is j_apart) n (omega (arith, count, low_n)) k_apart)
+    m (omega (arith, count, low_m)) apart
+
 -- ---- all sites
 
 module _ {D : Type 0} (told : Type 0) (state : D → DiskState) (own size : D → ℕ) (o : Opening) (plans : ℕ → ℕ → List LinkFault) (turns : ℕ) (old new : List (Cast D)) (t : told) (e : Each (TakesSome told state own size turns) old new) (fifo : AreFifoSites new) (was : AreSitesIn told state o plans old) where
@@ -125,14 +133,8 @@ module _ {D : Type 0} (told : Type 0) (state : D → DiskState) (own size : D �
     tells n low = posts_of_each (λ k p q. IsPostOf o.size k p → TellsOfSome o.size k p q) other old new e.count
         (λ k a b a_is b_is of. some_tells told state own size o.size k turns a b (e.each k a b a_is b_is) of) n (omega (arith, was.count, low)) ((was.links other).of n low)
 
-    are_fifo : AreFifo o.size (post_at other new)
-    are_fifo m n low_m low_n apart = posts_of_each (λ k p q. (k ≢ n) → IsFifo (out_of p.links n).feed (into_of (post_at other new n).links k)) other new new refl
-        (λ k a b a_is b_is k_apart. posts_of_each (λ j r s. (k ≢ j) → IsFifo (out_of (links_of a) j).feed (into_of r.links k)) other new new refl
-        (λ j d f d_is f_is j_apart. fifo k j a d a_is d_is j_apart) n (omega (arith, count, low_n)) k_apart)
-        m (omega (arith, count, low_m)) apart
-
     keeps : KeepPlans o.size plans (trace_at new)
-    keeps = keep_at o.size new count other plans (each_keeps_after o.size plans (post_at other old) (post_at other new) tells are_fifo (was.links other))
+    keeps = keep_at o.size new count other plans (each_keeps_after o.size plans (post_at other old) (post_at other new) tells (fifo_at o.size new count fifo other) (was.links other))
 
   -- where there are two nodes there is a post
   keeps_all : KeepPlans o.size plans (trace_at new)

@@ -1,5 +1,5 @@
-use Rattle.qs_world_bursts_rooms.proofs.Rooms.{each_burst_roomy, each_refused_burst_roomy, each_round_behind_roomy, each_rounds_behind_roomy}
-use Rattle.qs_world_bursts_rooms.proofs.bursts.bursts_stay_roomy.Goals as goal
+use Rattle.qs_world_bursts_left.proofs.Rooms.{each_burst_roomy, each_refused_burst_roomy, each_round_behind_roomy, each_rounds_behind_roomy}
+use Rattle.qs_world_bursts_left.proofs.bursts.bursts_stay_roomy.Goals as goal
 
 pub returns : goal.returns
 returns g c = record {

@@ -8,3 +8,5 @@ pub mod Acts
 pub mod Turns
 -- Bursts of all sites, and rounds behind them.
 pub mod Rooms
+-- The end of a run.
+pub mod Ended

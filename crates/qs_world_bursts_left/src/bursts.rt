@@ -4,7 +4,7 @@ ghost use Rattle.std.specs.Global.{Global};
 ghost use Rattle.qs_book_script.specs.declared.script.Script.{Script};
 ghost use Rattle.qs_link.specs.declared.outgoing.LinkFault.{LinkFault};
 ghost use Rattle.qs_world.specs.World.{Opening};
-ghost use Rattle.qs_world_bursts_rooms.specs.Rooms.{BurstStaysRoomy, RefusedBurstStaysRoomy, RoundBehindStaysRoomy, RoundsBehindLeaveRoom, RoundsBehindStayRoomy};
+ghost use Rattle.qs_world_bursts_left.specs.Rooms.{BurstStaysRoomy, RefusedBurstStaysRoomy, RoundBehindStaysRoomy, RoundsBehindLeaveRoom, RoundsBehindStayRoomy};
 ghost use Rattle.qs_world_one.specs.Rooms.{Began};
 ghost use Rattle.qs_world_rounds.specs.Rounds.{Cast};
 ghost use Rattle.qs_world_sites.specs.Sites.{SitesValue};

@@ -14,7 +14,7 @@ use Rattle.qs_world_bursts.proofs.Turning.{clients_alone, each_turn, turn_tells}
 use Rattle.qs_world_bursts.specs.Acts.{Acts}
 use Rattle.qs_world_bursts.specs.Refused.{ActIsRefused, BreaksAct, TakesSome, TurnIsRefused}
 use Rattle.qs_world_bursts.specs.Turns.{TakesTurn, TakesTurns}
-use Rattle.qs_world_bursts_rooms.proofs.Acts.{act_keeps, broken_act_room}
+use Rattle.qs_world_bursts_left.proofs.Acts.{act_keeps, broken_act_room}
 use Rattle.qs_world_links.specs.Posts.{IsOfNode, IsPostOf}
 use Rattle.qs_world_nodes.proofs.Carrying.{IsSamePost, same_cell}
 use Rattle.qs_world_one.specs.Rooms.{Began, IsRoomyCell}

@@ -20,9 +20,9 @@ use Rattle.qs_world_bursts.proofs.Bursting.{behind, each_round_behind}
 use Rattle.qs_world_bursts.proofs.Leaving.{each_refused_burst, some_tells}
 use Rattle.qs_world_bursts.specs.Refused.{TakesSome, TellsOfSome}
 use Rattle.qs_world_bursts.specs.Threads.{Bursts, IsRoundBehind, RoundsBehind}
-use Rattle.qs_world_bursts_rooms.proofs.Cut.{amid_one_run}
-use Rattle.qs_world_bursts_rooms.proofs.Turns.{Stays, some_room}
-use Rattle.qs_world_bursts_rooms.specs.Rooms.{BurstStaysRoomy, RefusedBurstStaysRoomy, RoundBehindStaysRoomy, RoundsBehindLeaveRoom, RoundsBehindStayRoomy}
+use Rattle.qs_world_bursts_left.proofs.Cut.{amid_one_run}
+use Rattle.qs_world_bursts_left.proofs.Turns.{Stays, some_room}
+use Rattle.qs_world_bursts_left.specs.Rooms.{BurstStaysRoomy, RefusedBurstStaysRoomy, RoundBehindStaysRoomy, RoundsBehindLeaveRoom, RoundsBehindStayRoomy}
 use Rattle.qs_world_links.proofs.Ends.{all_behind}
 use Rattle.qs_world_links.specs.Between.{BearsStamp}
 use Rattle.qs_world_links.specs.Posts.{IsPostOf}
@@ -90,9 +90,12 @@ module _ {D : Type 0} (told : Type 0) (state : D → DiskState) (own size : D �
   burst_some : (old new : List (Cast D)) → Bursts told state own size turns old new → Each (TakesSome told state own size turns) old new
   burst_some old new b = record { count = b.count; each = λ n a c a_is c_is. inl (b.each n a c a_is c_is) }
 
+  pub burst_rooms : (old mid : List (Cast D)) → Bursts told state own size turns old mid → AreSitesIn told state o plans old → AreSitesIn told state o plans mid → AreRoomySites state size began old → AreRoomySites state size began mid
+  burst_rooms old mid b was there rooms = rooms_after old mid (burst_some old mid b) was (each_cells told state o plans mid there) rooms
+
   round_room : (old new : SitesValue D) → AreSitesIn told state o plans old.sites → IsRoundBehind told state own size turns old new → AreRoomySites state size began old.sites → AreRoomySites state size began new.sites
   round_room old new was r rooms = each_round told state own size o plans began r.order r.burst new r.quiet t opens there r.round
-      (rooms_after old.sites r.burst.sites (burst_some old.sites r.burst.sites r.bursts) was (each_cells told state o plans r.burst.sites there) rooms)
+      (burst_rooms old.sites r.burst.sites r.bursts was there rooms)
     where
       there : AreSitesIn told state o plans r.burst.sites
       there = behind told state own size o plans turns old.sites r.burst.sites r.round.carried.sites t r.bursts r.round.carries was
@@ -112,8 +115,7 @@ module _ {D : Type 0} (told : Type 0) (state : D → DiskState) (own size : D �
 
 module _ {D : Type 0} (told : Type 0) (state : D → DiskState) (own size : D → ℕ) (o : Opening) (plans : ℕ → ℕ → List LinkFault) (began : ℕ → Began) (turns : ℕ) where
   pub each_burst_roomy : (old mid new : List (Cast D)) → BurstStaysRoomy told state own size o plans began turns old mid new
-  each_burst_roomy old mid new t opens was b c rooms = rooms_after told state own size o plans began turns t opens old mid (burst_some told state own size o plans began turns t opens old mid b) was
-      (each_cells told state o plans mid (behind told state own size o plans turns old mid new t b c was)) rooms
+  each_burst_roomy old mid new t opens was b c rooms = burst_rooms told state own size o plans began turns t opens old mid b was (behind told state own size o plans turns old mid new t b c was) rooms
 
   pub each_refused_burst_roomy : (old new : List (Cast D)) → RefusedBurstStaysRoomy told state own size o plans began turns old new
   each_refused_burst_roomy old new t opens was e fifo rooms = rooms_after told state own size o plans began turns t opens old new e was (each_refused_burst told state own size o plans turns old new t e fifo was) rooms

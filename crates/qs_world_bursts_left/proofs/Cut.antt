@@ -15,7 +15,7 @@ use Rattle.qs_session_channels.specs.End.{Packet}
 use Rattle.qs_session_channels.specs.Network.{Among}
 use Rattle.qs_world.specs.Openings.{IsOpening}
 use Rattle.qs_world.specs.World.{Opening, Parcel}
-use Rattle.qs_world_bursts_rooms.proofs.Fronts.{Rises, Splits, are_front, behind, behind_late, last_stamp, moves_both, moves_low, put_late_of, rises_front, rises_rest, splits, trace_rises, upto, upto_low, whole}
+use Rattle.qs_world_bursts_left.proofs.Fronts.{Rises, Splits, are_front, behind, behind_late, last_stamp, moves_both, moves_low, put_late_of, rises_front, rises_rest, splits, trace_rises, upto, upto_low, whole}
 use Rattle.qs_world_links.proofs.Linking.{put_to_more}
 use Rattle.qs_world_links.specs.Between.{BearsStamp}
 use Rattle.qs_world_merge.proofs.Members.{among_map, map_among}

@@ -1,2 +1,0 @@
--- Room through bursts.
-pub mod Rooms
