@@ -139,7 +139,7 @@ module _ (event : Event) (I : Stage → Work → Type 0) (r : Whole event I) whe
   pub reply_keeps : (server : Option ServerNo) (tid : Tid) (member : Member) (number : ℕ) (reply : Reply) (work : Work) → RepliesNow event tid member number reply work → I (replying server) work → I (replying server) (reply_came tid member number reply work)
   reply_keeps server tid member number reply work now = shapes.elim_keeps R (waiting_at tid member number work) work (λ request. take_reply tid reply request (taken_reply tid member number work)) work (λ none h. h)
       (λ request waits. shapes.if_keeps R (is_by_files request) (with_manager (tm.note_served tid request.count) dropped) (answer_issuer tid request.member request.number reply (client_of request.issuer) dropped) work
-      (λ is. r.does (d.NotesReply tid member number request) server work tt (waits, is))
+      (λ is. r.does (d.NotesReply tid member number request) server work tt (waits, (is, (reply, now))))
       (λ is. answers request waits is (lookup (is_at (client_cmp (client_of request.issuer))) work.node.commands) refl))
     where
       R : Work → Type 0
