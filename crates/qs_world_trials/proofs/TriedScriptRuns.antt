@@ -5,9 +5,10 @@ use Rattle.std.specs.Global.{Global}
 use Rattle.qs_engage.specs.Nodes.{all_nodes}
 use Rattle.qs_world_lawful.specs.Tried.{rich}
 use Rattle.qs_tm.specs.Members.{all_servers}
+use Rattle.qs_world_trials.specs.NotedCuts.{cut_away, cut_here, found_votes, noting_away, noting_here}
 use Rattle.qs_world_trials.specs.ScriptTests.{keeps_to_script}
 use Rattle.qs_world_trials.specs.SmallRuns.{asked_early, borrowed_again, cut_as_served, cut_as_voted, in_doubt, stopped_alone, told_one}
-use Rattle.qs_world_trials.specs.TriedScripts.{keeps, keeps_cut, with_less, with_other_seats}
+use Rattle.qs_world_trials.specs.TriedScripts.{keeps, keeps_cut, with_less, with_notes_here, with_other_seats}
 use Rattle.qs_world.specs.Driven.{rounds}
 use Rattle.qs_world.specs.DrivenRuns.{late, late_world, taken, taken_world}
 use Rattle.qs_world.specs.Faults.{both}
@@ -60,6 +61,26 @@ stopped_keeps alloc = refl
 pub doubt_keeps : (alloc : Global) → keeps alloc in_doubt ≡ true
 unfolding all_nodes all_servers digits
 doubt_keeps alloc = refl
+
+pub noted_here_keeps : (alloc : Global) → keeps_to_script (noting_here alloc) 1 (cut_here alloc) ≡ true
+unfolding all_nodes all_servers digits
+noted_here_keeps alloc = refl
+
+pub noted_away_keeps : (alloc : Global) → keeps_to_script (noting_away alloc) 1 (cut_away alloc) ≡ true
+unfolding all_nodes all_servers digits
+noted_away_keeps alloc = refl
+
+pub finds_here : (alloc : Global) → found_votes (cut_here alloc) ≡ 2
+unfolding all_nodes all_servers digits
+finds_here alloc = refl
+
+pub finds_away : (alloc : Global) → found_votes (cut_away alloc) ≡ 1
+unfolding all_nodes all_servers digits
+finds_away alloc = refl
+
+pub notes_breaks : (alloc : Global) → keeps_to_script (with_notes_here (noting_away alloc)) 1 (cut_away alloc) ≡ false
+unfolding all_nodes all_servers digits
+notes_breaks alloc = refl
 
 pub lines_breaks : (alloc : Global) → keeps_to_script (with_less (late alloc)) 2 (late_world alloc) ≡ false
 unfolding all_nodes all_servers digits

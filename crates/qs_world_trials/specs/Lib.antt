@@ -2,6 +2,7 @@ pub mod Broken
 pub mod CountTests
 pub mod CourseTests
 pub mod MachineTests
+pub mod NotedCuts
 pub mod RecordTests
 pub mod Runs
 pub mod ScriptTests

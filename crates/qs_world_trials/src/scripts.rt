@@ -4,12 +4,13 @@ ghost use Rattle.qs_world_trials.specs.TriedCourse.{FailsCourse, TriedCourse};
 ghost use Rattle.qs_world_trials.specs.TriedScripts.{FailsScripts, TriedScripts};
 
 /// The history of each of these runs of one, two and three nodes keeps to the scripts of its clients: with late loans, names that two bind, audit notes, transactions that
-/// conflict, a step that is cut off at each of ninety moments with its batch kept or lost, and nodes that restart in doubt.
+/// conflict, a step that is cut off at each of ninety moments with its batch kept or lost, and nodes that restart in doubt; and with votes that were noted, of files alone or with audit,
+/// which a restart finds since their step was cut off.
 pub fn journals_keep_to_scripts()
     ensures shown { (alloc : Global) → TriedScripts alloc }
 {}
 
-/// It does not keep to scripts with a line less, with a client at another node, or without a client.
+/// It does not keep to scripts with a line less, with a client at another node, without a client, or with notes that go to another node.
 pub fn scripts_may_be_broken()
     ensures shown { (alloc : Global) → FailsScripts alloc }
 {}
