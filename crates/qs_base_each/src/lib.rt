@@ -7,7 +7,8 @@ ghost use Rattle.std.specs.Thread.{IsSync, IsSend};
 ghost use Rattle.qs_base_each.specs.Calls.{Accepts, Changes, ChangesTo};
 
 use qs_base::NoMemory;
-use std::thread::{Threads, join_mut};
+use std::sync::atomic::{AtomicBool, Ordering};
+use std::thread::{self, Threads, join_mut};
 
 /// Calls `f` once at each of them, each in a thread of its own where one can be made, and returns once all calls have. Where it succeeds each call did, and each has what a call leaves
 /// of it.
@@ -92,6 +93,47 @@ fn both<R: Threads + Sync, T: Send, F: Fn(&mut T) -> Result<(), NoMemory> + Sync
     let (a, b) = join_mut(rt, &mut first, &mut second);
     a?;
     b
+}
+
+/// Where two calls wait for each other, for so many turns and no longer.
+#[derive(Drop)]
+struct Meeting {
+    here: [AtomicBool; 2],
+}
+
+impl Meeting {
+    /// For how many turns a call waits: some seconds.
+    const TURNS: u32 = 10_000_000;
+
+    /// Whether the other call came meanwhile: it is to be the first one or the second.
+    fn meets_other(&self, is_first: bool) -> bool {
+        let (mine, other) = if is_first { (0, 1) } else { (1, 0) };
+        self.here[mine].store(true, Ordering::SeqCst);
+        for _turn in 0..Self::TURNS {
+            if self.here[other].load(Ordering::SeqCst) {
+                return true;
+            }
+            thread::yield_now();
+        }
+        false
+    }
+}
+
+/// Two calls that wait for each other meet, so they go side by side.
+#[test]
+fn calls_go_side_by_side(rt: HostRuntime) {
+    let meeting = Meeting {
+        here: [AtomicBool::new(false), AtomicBool::new(false)],
+    };
+    let meet = |number: &mut u32| {
+        if meeting.meets_other(*number == 0) {
+            *number = 7;
+        }
+        Ok(())
+    };
+    let mut numbers: [u32; 2] = [0, 1];
+    assert!(rt; each(&rt, &meet, &mut numbers).is_ok());
+    assert!(rt; numbers == [7, 7]);
 }
 
 /// Each of seven numbers is raised, and where one call is refused the others are.
