@@ -28,3 +28,5 @@ pub mod Founding
 pub mod Rooms
 -- A log never opens as damaged where its node starts again.
 pub mod Reopening
+-- An act in a burst.
+pub mod Acting

@@ -21,6 +21,7 @@ use Rattle.qs_cell_chronicle.specs.Chronicle.{Told, counted, in_round, is_last, 
 use Rattle.qs_cell_chronicle.specs.declared.carried.Carried.{Carried}
 use Rattle.qs_cell_chronicle.specs.Occasions.{stamp_in}
 use Rattle.qs_cell_chronicle.specs.declared.occasion.Occasion.{Occasion}
+use Rattle.qs_cell.specs.Acts.{in_act_as}
 use Rattle.qs_cell.specs.Cell.{IsOutcome, begun, begun_past, labels_of, out_of, stepped}
 use Rattle.qs_cell.specs.Logged.{IsLogged, StandsWithin, limit_after, most_rounds}
 use Rattle.qs_cell.specs.Outcomes.{Outcome}
@@ -49,6 +50,9 @@ rounds_stay s few = omega arith
 
 pub round_begins : RoundsGrow in_round_as
 round_begins s few = omega (arith, few)
+
+pub act_begins : RoundsGrow in_act_as
+act_begins s few = omega arith
 
 pub within_seen : (f : Seen → Seen) → RoundsGrow f → (a b : Carried) → seen b ≡ f (seen a) → (frame : Frame) → StandsWithin a.chronicle.told.rounds frame
     → StandsWithin b.chronicle.told.rounds frame

@@ -21,7 +21,7 @@ use Rattle.qs_cell.specs.declared.state.RestartFault.{RestartFault}
 use Rattle.qs_cell.proofs.Hearing.{taken_rounds}
 use Rattle.qs_cell.proofs.Reopening.{made_rounds, restart_rounds}
 
-seen_rounds : {D : Type 0} (f : Seen → Seen) (old new : CellState D) → IsSeenAs f old new → rounds_of new ≡ (f (seen (carried_of old))).told.rounds
+pub seen_rounds : {D : Type 0} (f : Seen → Seen) (old new : CellState D) → IsSeenAs f old new → rounds_of new ≡ (f (seen (carried_of old))).told.rounds
 seen_rounds f (states.Up old) (states.Up new) same = ap (λ (s : Seen). s.told.rounds) same.1.0
 seen_rounds f (states.Down old) (states.Down new) same = ap (λ (s : Seen). s.told.rounds) same.1.1.1.0
 seen_rounds f (states.Up old) (states.Down new) same = absurd same
@@ -38,7 +38,7 @@ module _ {D : Type 0} (told : Type 0) (state : D → DiskState) (own size : D �
   in_rounds m (states.Down stopped) old new is = ap (λ (p : Post D). rounds_of p.seat.node) is
   in_rounds m (states.Up running) old new is = if_rounds is.0 (record { seat = record old.seat { node = states.Up running }; links = is.1.0 }) new is.1.1.1
 
-  hears_rounds : (m : ℕ) (old new : Post D) → Hears told state own size m old new → rounds_of new.seat.node ≡ rounds_of old.seat.node
+  pub hears_rounds : (m : ℕ) (old new : Post D) → Hears told state own size m old new → rounds_of new.seat.node ≡ rounds_of old.seat.node
   hears_rounds m old new hears = in_rounds m hears.ready old new hears.turn ∙ seen_rounds (λ s. s) old.seat.node hears.ready hears.same
 
   times_rounds : (m count : ℕ) (old new : Post D) → HearsTimes told state own size m count old new → rounds_of new.seat.node ≡ rounds_of old.seat.node
@@ -53,7 +53,7 @@ module _ {D : Type 0} (told : Type 0) (state : D → DiskState) (own size : D �
   turn_rounds None left old new taken = ap (λ (s : Seat D). rounds_of s.node) taken
   turn_rounds (Some occasion) left old new (answers, (makes, ends)) = made_rounds told state own size occasion old.node new.node answers makes
 
-  turns_rounds : (sources : List EventSource) (old new : Seat D) → TurnsAll told state own size sources old new → rounds_of new.node ≡ rounds_of old.node
+  pub turns_rounds : (sources : List EventSource) (old new : Seat D) → TurnsAll told state own size sources old new → rounds_of new.node ≡ rounds_of old.node
   turns_rounds [] old new turns = ap (λ (s : Seat D). rounds_of s.node) turns
   turns_rounds (source ∷ sources) old new (mid, (turn, rest)) =
       turns_rounds sources mid new rest

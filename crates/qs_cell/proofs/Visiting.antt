@@ -29,7 +29,7 @@ module _ {D : Type 0} (told : Type 0) (state : D → DiskState) (own size : D �
   in_grows m (states.Down stopped) old new is = entries_same (states.Down stopped) new.seat.node (ap (λ (p : Post D). entries_in p.seat.node) is)
   in_grows m (states.Up running) old new is = if_grows is.0 (record { seat = record old.seat { node = states.Up running }; links = is.1.0 }) new is.1.1.1
 
-  turn_grows : (m : ℕ) (old new : Post D) → Hears told state own size m old new → Grows (entries_in old.seat.node) (entries_in new.seat.node)
+  pub turn_grows : (m : ℕ) (old new : Post D) → Hears told state own size m old new → Grows (entries_in old.seat.node) (entries_in new.seat.node)
   turn_grows m old new hears = grows_on (entries_in old.seat.node) (entries_in hears.ready) (entries_in new.seat.node)
       (entries_same old.seat.node hears.ready (seen_same (λ s. s) old.seat.node hears.ready (λ s. refl) hears.same)) (in_grows m hears.ready old new hears.turn)
 
@@ -42,7 +42,7 @@ module _ {D : Type 0} (told : Type 0) (state : D → DiskState) (own size : D �
   below_grows (suc m) old new is = grows_on (entries_in old.seat.node) (entries_in is.0.seat.node) (entries_in new.seat.node) (below_grows m old is.0 is.1.0)
       (times_grow m (carried_from is.0.links m) is.0 new is.1.1)
 
-  broken_grows : (m : ℕ) (old new : Post D) → BreaksHearing told state own size m old new → Grows (entries_in old.seat.node) (entries_in new.seat.node)
+  pub broken_grows : (m : ℕ) (old new : Post D) → BreaksHearing told state own size m old new → Grows (entries_in old.seat.node) (entries_in new.seat.node)
   broken_grows m old new (inl same) = entries_same old.seat.node new.seat.node (seen_same (λ s. s) old.seat.node new.seat.node (λ s. refl) same)
   broken_grows m old new (inr it) = grows_on (entries_in old.seat.node) (entries_in it.0) (entries_in new.seat.node)
       (entries_same old.seat.node it.0 (seen_same (λ s. s) old.seat.node it.0 (λ s. refl) it.1.0)) (taken_grows told state own size it.1.1.0 it.0 new.seat.node it.1.1.1.1.0 it.1.1.1.1.1)

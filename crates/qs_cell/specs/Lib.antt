@@ -16,6 +16,8 @@ pub mod Asides
 pub mod Hearing
 -- A whole visit.
 pub mod WholeVisits
+-- An act of a node in a burst.
+pub mod Acts
 -- The start of a cell.
 pub mod Starts
 -- Each image of a node's disk has a log.

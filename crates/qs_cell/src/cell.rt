@@ -1,13 +1,14 @@
 //! The cell of a node: its visits and restarts, between its clients and its disk.
-ghost use Rattle.std.specs.Prelude.{◌≡◌, ◌≤◌, ◌<◌, ◌⊎◌, ℕ, true, drop, get_or, length, is_none, Err, IfOk, IfErr, OnOk, OnErr, IsTrue};
+ghost use Rattle.std.specs.Prelude.{◌≡◌, ◌≤◌, ◌<◌, ◌+◌, ◌-◌, ◌⊎◌, ℕ, true, drop, get_or, length, is_none, is_some, Err, IfOk, IfErr, IfSome, OnOk, OnErr, IsTrue};
 ghost use Rattle.std.specs.List.{flat_map, list_any};
 ghost use Rattle.qs_base.specs.Causes.{Rose};
+ghost use Rattle.qs_cell.specs.Acts.{Acts, BreaksAct, BreaksAsked, BreaksAt, MakesAsked, MakesAt, acts_in, asked_of, first_from, has_event, in_act_as, source_count};
 ghost use Rattle.qs_cell.specs.Joined.{HaveSameRings, StayJoined};
 ghost use Rattle.qs_cell.specs.Logged.{HasLog, IsLogged, most_rounds};
 ghost use Rattle.qs_cell.specs.Hearing.{BreaksBelow, BreaksFrom, BreaksHearing, Hears, HearsBelow, HearsFrom};
 ghost use Rattle.qs_cell.specs.Starts.{IsStarted, started_disk, journal_of, post_of, trace_of};
 ghost use Rattle.qs_cell.specs.WholeVisits.{Breaks, Visits, has_put};
-ghost use Rattle.qs_cell_peers.specs.Links.{CarriesLink, HasPut, HasPutSome, IsSameNode, StayLinked, has_carried, into_of, is_peer_of, out_of, puts_any, puts_of};
+ghost use Rattle.qs_cell_peers.specs.Links.{AreEmptied, CarriesLink, HasPut, HasPutSome, IsSameNode, KeepsEnds, Pulls, Pushes, StayLinked, has_carried, into_of, is_peer_of, out_of, puts_any, puts_of};
 ghost use Rattle.qs_cell.specs.Restart.{in_round_as};
 ghost use Rattle.qs_cell.specs.State.{IsSeenAs, LogStands, IsAllowed, StartsAgain, carried_of, cause_of, disk_of, has_undecided, is_settled_node, rounds_of};
 ghost use Rattle.qs_cell.specs.Visits.{Turns, IsBroken, TurnsAll, TurnsSome, Grows, sources_of, due, left_by, held_by, as_command, due_command, due_again, left_of, all_delivered, deliver, has_noted, is_noted, MakesIn};
@@ -31,7 +32,7 @@ use qs_book_machine::Opened;
 use qs_cell_chronicle::{Carried, HeldCommand, Occasion};
 use qs_cell_peers::Links;
 use qs_disk::{Disk, Fused};
-use qs_link::{Draw, Feed, NodeEnds, carry_in, carry_out, deliver, take_line};
+use qs_link::{Draw, Feed, NodeEnds, carry_in, carry_out, deliver, has_line, take_line};
 use qs_log::LogOpen;
 use qs_log_start::begin_run;
 use qs_node_step::{ClientAnswer, Setting, Step};
@@ -222,6 +223,7 @@ impl<D: Disk> NodeCell<D> {
         requires { is_peer_of self.old.links from ≡ true }
         ensures hears { OnOk result (Hears D.told D.state D.fault_count D.byte_count from (post_of self.old) (post_of self.new)) }
         ensures breaks { OnErr result (BreaksHearing D.told D.state D.fault_count D.byte_count from (post_of self.old) (post_of self.new)) }
+        ensures keeps { OnErr result (KeepsEnds self.old.links self.new.links) }
         ensures linked { StayLinked self.old.links self.new.links }
         ensures opened { self.new.opened ≡ self.old.opened }
         ensures faults { self.new.faults ≡ self.old.faults }
@@ -297,6 +299,143 @@ impl<D: Disk> NodeCell<D> {
         };
         let answers = self.state.event(self.alloc, occasion);
         deliver_all(&mut self.ends, answers)
+    }
+
+    /// An act in a burst. What stands in the rings of the links to this node is moved into their inboxes; then one event is made, if the node is
+    /// up and one is due: of the sources, which are the other nodes by number, the clients by number and the queues, the first that has one,
+    /// beginning one place further with each act; and what its step puts goes to the links, and on into their rings while these take it. The
+    /// other ends of the links may be used in other threads meanwhile. After `NoMemory`, which comes where memory was refused outside a step,
+    /// what was done stands, but a packet may be lost, and what the step put and answered may not have gone out.
+    pub fn act(&mut self) -> Result<(), NoMemory>
+        ensures acts { OnOk result (Acts D.told D.state D.fault_count D.byte_count (post_of self.old) (post_of self.new)) }
+        ensures breaks { OnErr result (BreaksAct D.told D.state D.fault_count D.byte_count (post_of self.old) (post_of self.new)) }
+        ensures grows { Grows (journal_of self.old) (journal_of self.new) }
+        ensures opened { self.new.opened ≡ self.old.opened }
+        ensures faults { self.new.faults ≡ self.old.faults }
+
+        // The links stay those of its node, joined to their other ends, and so do the lanes to the clients' ends.
+        ensures links { IsSameNode self.old.links self.new.links }
+        ensures linked { StayLinked self.old.links self.new.links }
+        ensures joined { StayJoined self.old.seat.ends self.new.seat.ends }
+    {
+        let steps = self.trace().len();
+        self.begin_act();
+        self.pull()?;
+        self.make_asked()?;
+        self.put_since(steps)?;
+        self.push();
+        Ok(())
+    }
+
+    /// One more act.
+    fn begin_act(&mut self)
+        ensures node { IsSeenAs in_act_as self.old.seat.node self.new.seat.node }
+        ensures ends { self.new.seat.ends ≡ self.old.seat.ends }
+        ensures links { self.new.links ≡ self.old.links }
+        ensures opened { self.new.opened ≡ self.old.opened }
+        ensures faults { self.new.faults ≡ self.old.faults }
+    {
+        self.state.begin_act();
+    }
+
+    /// What stands in the rings of the links to this node is moved into their inboxes. After `NoMemory`, which comes where memory was refused,
+    /// that of the first ones was.
+    fn pull(&mut self) -> Result<(), NoMemory>
+        ensures pulls { Pulls self.old.links self.new.links }
+        ensures emptied { OnOk result (AreEmptied self.new.links) }
+        ensures seat { self.new.seat ≡ self.old.seat }
+        ensures opened { self.new.opened ≡ self.old.opened }
+        ensures faults { self.new.faults ≡ self.old.faults }
+    {
+        self.links.pull_all()
+    }
+
+    /// What was put to the links goes on into their rings, while these take it.
+    fn push(&mut self)
+        ensures pushes { Pushes self.old.links self.new.links }
+        ensures seat { self.new.seat ≡ self.old.seat }
+        ensures opened { self.new.opened ≡ self.old.opened }
+        ensures faults { self.new.faults ≡ self.old.faults }
+    {
+        self.links.push_all();
+    }
+
+    /// The event of an act, if one is due of a source, and its answers.
+    fn make_asked(&mut self) -> Result<(), NoMemory>
+        ensures makes { OnOk result (MakesAsked (asked_of (post_of self.old)) D.told D.state D.fault_count D.byte_count (post_of self.old) (post_of self.new)) }
+        ensures breaks { OnErr result (BreaksAsked (asked_of (post_of self.old)) D.told D.state D.fault_count D.byte_count (post_of self.old) (post_of self.new)) }
+        ensures linked { StayLinked self.old.links self.new.links }
+        ensures opened { self.new.opened ≡ self.old.opened }
+        ensures faults { self.new.faults ≡ self.old.faults }
+        ensures rings { HaveSameRings self.old.seat.ends self.new.seat.ends }
+    {
+        match self.asked() {
+            Some(place) => self.make_at(place),
+            None => Ok(()),
+        }
+    }
+
+    /// The place of the source whose event an act makes, if one is due.
+    fn asked(&self) -> Option<usize>
+        ensures asked { result ≡ asked_of (post_of self.now) }
+        ensures within { IfSome result (λ place. place < source_count self.now.links self.now.seat.ends) }
+        ensures due { IfSome result (λ place. has_event (post_of self.now) place ≡ true) }
+    {
+        let count = self.links.count() + (self.ends.len() + 1);
+        let start = (self.acts() % count as u64) as usize;
+        match self.first_from(start, count) {
+            Some(place) => Some(place),
+            None => self.first_from(0, start),
+        }
+    }
+
+    /// The first place from `at` on, and before `end`, of whose source an event is due.
+    fn first_from(&self, at: usize, end: usize) -> Option<usize>
+        requires order { at ≤ end }
+        requires end { end ≤ source_count self.now.links self.now.seat.ends }
+        ensures first { result ≡ first_from (has_event (post_of self.now)) at (end - at) }
+        ensures within { IfSome result (λ place. place < end) }
+        ensures due { IfSome result (λ place. has_event (post_of self.now) place ≡ true) }
+    {
+        if at == end {
+            return None;
+        }
+        if self.has_event(at) {
+            return Some(at);
+        }
+        self.first_from(at + 1, end)
+    }
+
+    /// Whether an event is due of the source at that place.
+    fn has_event(&self, place: usize) -> bool
+        requires { place < source_count self.now.links self.now.seat.ends }
+        ensures { result ≡ has_event (post_of self.now) place }
+    {
+        let nodes = self.links.count();
+        if place < nodes {
+            return self.is_up() && self.links.carried_from(place) > 0;
+        }
+        let source = source_at(self.ends.as_slice(), place - nodes);
+        is_due(&self.state, self.ends.as_slice(), source)
+    }
+
+    /// The event of the source at that place, which is due, and its answers.
+    fn make_at(&mut self, place: usize) -> Result<(), NoMemory>
+        requires within { place < source_count self.old.links self.old.seat.ends }
+        requires due { has_event (post_of self.old) place ≡ true }
+        ensures makes { OnOk result (MakesAt D.told D.state D.fault_count D.byte_count place (post_of self.old) (post_of self.new)) }
+        ensures breaks { OnErr result (BreaksAt D.told D.state D.fault_count D.byte_count place (post_of self.old) (post_of self.new)) }
+        ensures linked { StayLinked self.old.links self.new.links }
+        ensures opened { self.new.opened ≡ self.old.opened }
+        ensures faults { self.new.faults ≡ self.old.faults }
+        ensures rings { HaveSameRings self.old.seat.ends self.new.seat.ends }
+    {
+        let nodes = self.links.count();
+        if place < nodes {
+            return self.hear_next(place);
+        }
+        let source = source_at(self.ends.as_slice(), place - nodes);
+        self.turn(source)
     }
 
     /// A node that is down starts again, and the answer says whether it is up: it is not exactly where the fuse tripped in
@@ -418,6 +557,13 @@ impl<D: Disk> NodeCell<D> {
         self.state.carried().chronicle.trace()
     }
 
+    /// How many acts it made in bursts.
+    pub fn acts(&self) -> u64
+        ensures { result ≡ acts_in self.now.seat.node }
+    {
+        self.state.carried().chronicle.acts()
+    }
+
     /// How often it was visited or restarted.
     pub fn rounds(&self) -> u64
         ensures { result ≡ (carried_of self.now.seat.node).chronicle.told.rounds }
@@ -491,6 +637,30 @@ fn rose(before: u64, now: u64) -> bool
     ensures { IsTrue result → Rose before now }
 {
     now > before || now == u64::MAX
+}
+
+/// Whether an event of that source is due.
+fn is_due<D: Disk>(state: &CellState<D>, ends: &[NodeEnds], source: EventSource) -> bool
+    ensures { result ≡ is_some (due source state.now ends.now) }
+{
+    if state.cause().is_some() {
+        return false;
+    }
+    match source {
+        EventSource::Client { client } => has_command(state.carried(), ends, client),
+        EventSource::Queues => state.queued(),
+        EventSource::Clock => true,
+    }
+}
+
+/// Whether a command of a client is due: one that an earlier incarnation took, or, where none is in hand, one that was carried.
+fn has_command(carried: &Carried, ends: &[NodeEnds], client: ClientNo) -> bool
+    ensures { result ≡ is_some (due_command client carried.now ends.now) }
+{
+    match carried.commands.get(&client) {
+        Some(held) => held.inc != carried.setting.inc,
+        None => has_line(ends, client),
+    }
 }
 
 /// How many sources a visit has.

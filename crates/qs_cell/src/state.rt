@@ -1,6 +1,7 @@
 //! A node that is up, or down.
 ghost use Rattle.std.specs.Prelude.{◌≡◌, ℕ, [], OnOk};
 ghost use Rattle.qs_cell.specs.State.{carried_of, cause_of, disk_of, is_queued, has_undecided, is_settled_node, IsSeenAs, LogStands, IsAllowed, StartsAgain, stopped_state, state_after, answer_of, answer_after};
+ghost use Rattle.qs_cell.specs.Acts.{in_act_as};
 ghost use Rattle.qs_cell.specs.Hearing.{HasTakenIn, SetsAside, TakesIn};
 ghost use Rattle.qs_cell.specs.Visits.{MakesIn};
 ghost use Rattle.qs_cell.specs.Restart.{in_round_as};
@@ -120,6 +121,16 @@ impl<D: Disk> CellState<D> {
         match self {
             CellState::Up { running } => running.carried.chronicle.begin_round(),
             CellState::Down { stopped } => stopped.carried.chronicle.begin_round(),
+        }
+    }
+
+    /// One more act.
+    pub fn begin_act(&mut self)
+        ensures { IsSeenAs in_act_as self.old self.new }
+    {
+        match self {
+            CellState::Up { running } => running.carried.chronicle.begin_act(),
+            CellState::Down { stopped } => stopped.carried.chronicle.begin_act(),
         }
     }
 

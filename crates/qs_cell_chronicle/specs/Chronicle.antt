@@ -69,6 +69,10 @@ numbered told = record told { events = counted told.events }
 abbrev pub in_round : Told → Told
 in_round told = record told { rounds = counted told.rounds }
 
+-- one more act in a burst
+abbrev pub in_act : Told → Told
+in_act told = record told { acts = counted told.acts }
+
 -- ---- entries and steps
 
 abbrev pub entry_of : NodeNo → ℕ → Act → Entry

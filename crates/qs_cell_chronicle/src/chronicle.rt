@@ -2,7 +2,7 @@
 ghost use Rattle.std.specs.Prelude.{◌≡◌, ◌≤◌, ◌<◌, ◌^◌, ◌+◌, ◌++◌, ◌∷◌, fold, length, Some, None, [], All, IfOk, OnOk};
 ghost use Rattle.qs_node_step.specs.declared.trace.Step.{Step};
 ghost use Rattle.qs_packet.specs.Grammar.{IsPacket};
-ghost use Rattle.qs_cell_chronicle.specs.Chronicle.{HasRoom, new_told, is_last, is_last_past, stamped, stamped_past, numbered, in_round, with_entry, step_of, noted, crashed};
+ghost use Rattle.qs_cell_chronicle.specs.Chronicle.{HasRoom, new_told, is_last, is_last_past, stamped, stamped_past, numbered, in_act, in_round, with_entry, step_of, noted, crashed};
 
 use crate::Tape;
 use qs_base::{List, NoMemory, NodeNo, Stamp};
@@ -133,6 +133,14 @@ impl Chronicle {
         ensures room { HasRoom self.old.entries self.old.steps self.new }
     {
         self.pages.rounds = self.pages.rounds.saturating_add(1);
+    }
+
+    /// One more act in a burst.
+    pub fn begin_act(&mut self)
+        ensures told { self.new.told ≡ in_act self.old.told }
+        ensures room { HasRoom self.old.entries self.old.steps self.new }
+    {
+        self.pages.acts = self.pages.acts.saturating_add(1);
     }
 
     /// A step that puts these packets to the links, with the entries of these acts, for which there is room. It takes no memory.

@@ -11,3 +11,5 @@ pub mod Beginning
 pub mod Stepping
 -- The ends stay of their rings.
 pub mod Linked
+-- In an act the rings are looked into.
+pub mod Pulling

@@ -22,17 +22,17 @@ use Rattle.qs_cell_peers.proofs.Places.{elsewhere, peer_is, place_below, there}
 none_fed : (f : FeedValue Packet) → Fed [] f f
 none_fed f = record { on = []; outbox = append-nil f.outbox; sent = sym (append-nil _); ring = ((refl, refl, refl, refl), refl) }
 
-put_none : (o : OutgoingValue) → PutNone o o
+pub put_none : (o : OutgoingValue) → PutNone o o
 put_none o = record { out = none_fed o.feed; held = refl; count = refl; plan = refl }
 
-none_then : (o p q : OutgoingValue) → PutNone o p → PutNone p q → PutNone o q
+pub none_then : (o p q : OutgoingValue) → PutNone o p → PutNone p q → PutNone o q
 none_then o p q a b = record { out = fed_trans [] [] o.feed p.feed q.feed a.out b.out; held = b.held ∙ a.held; count = b.count ∙ a.count; plan = b.plan ∙ a.plan }
 
 none_first : (ys : List Packet) (o p q : OutgoingValue) → PutNone o p → PutAll ys p q → PutAll ys o q
 none_first [] o p q a b = none_then o p q a b
 none_first (y ∷ ys) o p q a b = record { pushed = b.pushed; after = b.after; none = none_then o p b.pushed a b.none; one = b.one; others = b.others }
 
-all_more : (xs ys : List Packet) (o p q : OutgoingValue) → PutAll xs o p → PutAll ys p q → PutAll (xs ++ ys) o q
+pub all_more : (xs ys : List Packet) (o p q : OutgoingValue) → PutAll xs o p → PutAll ys p q → PutAll (xs ++ ys) o q
 all_more [] ys o p q a b = none_first ys o p q a b
 all_more (x ∷ xs) ys o p q a b = record { pushed = a.pushed; after = a.after; none = a.none; one = a.one; others = all_more xs ys a.after p q a.others b }
 

@@ -5,3 +5,5 @@ pub mod Steps
 pub mod Hears
 pub mod NoEnds
 pub mod Links
+-- Within an act of a burst.
+pub mod Pulling

@@ -1,14 +1,14 @@
 -- A node's ends of its links: one to each other node of the run, and one from it.
-use Rattle.std.specs.Prelude.{◌≡◌, ◌++◌, ◌+◌, ◌==◌, ◌<◌, ℕ, true, not, Bool, List, IfOk, OnOk, Result, get_or, length, nat_lt, if◌then◌else◌}
+use Rattle.std.specs.Prelude.{◌≡◌, ◌≢◌, [], ◌++◌, ◌+◌, ◌==◌, ◌<◌, ℕ, true, not, Bool, List, IfOk, OnOk, Result, get_or, length, nat_lt, if◌then◌else◌}
 use Rattle.std.specs.List.{filter, list_any}
 use Rattle.qs_base.specs.declared.identifiers.NodeNo.{NodeNo}
 use Rattle.qs_base.specs.declared.memory.NoMemory.{NoMemory}
-use Rattle.qs_link.specs.Lane.{DrawValue, IsFifo, IsFront, IsLane, on_way}
-use Rattle.qs_link.specs.Plan.{OutgoingValue}
+use Rattle.qs_link.specs.Lane.{DrawValue, Drawn, IsFifo, IsFront, IsLane, on_way}
+use Rattle.qs_link.specs.Plan.{OutgoingValue, PutNone}
 use Rattle.qs_link.specs.Planned.{Carried, PutAll}
 use Rattle.qs_node_step.specs.declared.trace.Step.{Step}
 use Rattle.qs_packet.specs.declared.packet.Packet.{Packet}
-use Rattle.rtrb.specs.Ring.{SameConsumer, SameProducer}
+use Rattle.rtrb.specs.Ring.{SameConsumer, SameProducer, known_free, known_items}
 use Rattle.qs_cell_peers.specs.NoEnds.{no_into, no_out}
 use Rattle.qs_cell_peers.specs.Peers.{is_peer, is_to, place}
 
@@ -47,10 +47,11 @@ puts_of step = step.put
 abbrev pub puts_any : Step → Bool
 puts_any step = not (length step.put == 0)
 
--- there are as many of one kind as of the other, and the node is one of the run
+-- there are as many of one kind as of the other, no more than other nodes have numbers, and the node is one of the run
 pub record AreLinks (n : NodeNo) (out : List OutgoingValue) (into : List (DrawValue Packet)) : Type 0 where
   pub in_run : n.0 < length out + 1
   pub both : length into ≡ length out
+  pub few : length out < 256
 
 -- they are the same node's
 pub record IsSameNode (old new : LinksValue) : Type 0 where
@@ -82,6 +83,33 @@ pub record HasPutSome (packets : List Packet) (old new : LinksValue) : Type 0 wh
   pub rest : List Packet
   pub is : packets ≡ front ++ rest
   pub put : HasPut front old new
+
+-- ---- in a burst, in which the other ends may be used in other threads
+
+-- packets were popped from the ring of each link to this node, and stand behind those in its inbox
+pub record Pulls (old new : LinksValue) : Type 0 where
+  pub same : IsSameNode old new
+  pub out : SameOut (λ m. true) old new
+  pub into : (m : ℕ) → is_peer_of old m ≡ true → Drawn [] (into_of old m) (into_of new m)
+
+-- all that the ring of each link held as it was looked into, so that its end knows of none there
+abbrev pub AreEmptied : LinksValue → Type 0
+AreEmptied links = (m : ℕ) → is_peer_of links m ≡ true → known_items (into_of links m).ring ≡ []
+
+-- packets went on from the outboxes into the rings, while these took them
+pub record Pushes (old new : LinksValue) : Type 0 where
+  pub same : IsSameNode old new
+  pub out : (m : ℕ) → is_peer_of old m ≡ true → PutNone (out_of old m) (out_of new m)
+  pub full : (m : ℕ) → is_peer_of old m ≡ true → (out_of new m).feed.outbox ≢ [] → known_free (out_of new m).feed.ring ≡ 0
+  pub into : SameInto (λ m. true) old new
+
+-- nothing was put to a link, and no ring was popped
+pub record KeepsEnds (old new : LinksValue) : Type 0 where
+  pub same : IsSameNode old new
+  pub out : SameOut (λ m. true) old new
+  pub ring : (m : ℕ) → is_peer_of old m ≡ true → (into_of new m).ring ≡ (into_of old m).ring
+
+-- ---- as a round begins
 
 -- a link between two nodes was carried: from its ends o and i to p and j
 pub record HasCarried (result : Result ℕ NoMemory) (o p : OutgoingValue) (i j : DrawValue Packet) : Type 0 where

@@ -1,12 +1,13 @@
 //! A node's ends of its links.
-ghost use Rattle.std.specs.Prelude.{◌≡◌, ◌+◌, ◌<◌, ◌↔◌, ℕ, true, not, [], ◌==◌, ◌∷◌, All, IfOk, IfSome, OnOk, OnErr, Some, length, slice_get};
+ghost use Rattle.std.specs.Prelude.{◌≡◌, ◌+◌, ◌<◌, ◌≤◌, ◌↔◌, ℕ, true, not, [], ◌==◌, ◌∷◌, All, IfOk, IfSome, OnOk, OnErr, Some, length, slice_get};
 ghost use Rattle.std.specs.List.{flat_map, list_any};
 ghost use Rattle.qs_packet.specs.Grammar.{IsPacket};
 ghost use Rattle.qs_node_step.specs.declared.trace.Step.{Step};
 ghost use Rattle.qs_link.specs.Lane.{IsLane};
 ghost use Rattle.qs_link.specs.Link.{Took, TookNone};
-ghost use Rattle.qs_cell_peers.specs.Links.{HasCarried, HasPut, HasPutSome, IsSameNode, SameInto, SameOut, carried_from, has_carried, has_packet, into_of, is_peer_of, out_of, puts_any, puts_of};
+ghost use Rattle.qs_cell_peers.specs.Links.{AreEmptied, HasCarried, HasPut, HasPutSome, IsSameNode, Pulls, Pushes, SameInto, SameOut, carried_from, has_carried, has_packet, into_of, is_peer_of, out_of, puts_any, puts_of};
 ghost use Rattle.qs_cell_peers.specs.Peers.{place};
+ghost use Rattle.qs_cell_peers.specs.Pulling.{IsEmptiedFrom, PullsFrom, PushesTo};
 
 use crate::peers::{is_other, place_of};
 use qs_base::{List, NoMemory, NodeNo};
@@ -40,6 +41,7 @@ impl Links {
     pub fn new(me: NodeNo, out: List<Outgoing>, into: List<Incoming>) -> Links
         requires ends { length out ≡ length into }
         requires me { me.0 < length out + 1 }
+        requires few { length out < 256 }
         ensures size { result.size ≡ length out + 1 }
         ensures me { result.me ≡ me }
         ensures out { (m : ℕ) → is_peer_of result m ≡ true → slice_get out (place me.0 m) ≡ Some (out_of result m) }
@@ -54,7 +56,8 @@ impl Links {
 
     /// How many nodes the run has.
     pub fn count(&self) -> usize
-        ensures { result ≡ self.now.size }
+        ensures count { result ≡ self.now.size }
+        ensures few { result ≤ 256 }
     {
         self.out.len() + 1
     }
@@ -136,6 +139,48 @@ impl Links {
         ensures none { TookNone result ↔ ((into_of self.old from).inbox ≡ []) }
     {
         self.into[place_of(self.me, from)].take_carried()
+    }
+
+    /// Looks into the ring of each link to this node, and moves the packets that stand there into its inbox. Their other ends may be used in
+    /// other threads meanwhile. After `NoMemory`, which comes where memory was refused, those of the first links were moved.
+    pub fn pull_all(&mut self) -> Result<(), NoMemory>
+        ensures pulls { Pulls self.old self.new }
+        ensures emptied { OnOk result (AreEmptied self.new) }
+    {
+        for from in 0..self.count() {
+            self.pull_from(from)?;
+        }
+        Ok(())
+    }
+
+    /// That of the link from a node, if there is one. After `NoMemory` nothing was moved.
+    fn pull_from(&mut self, from: usize) -> Result<(), NoMemory>
+        ensures pulls { PullsFrom from self.old self.new }
+        ensures emptied { OnOk result (IsEmptiedFrom from self.new) }
+    {
+        if !is_other(self.out.len(), self.me, from) {
+            return Ok(());
+        }
+        self.into[place_of(self.me, from)].pull()
+    }
+
+    /// Pushes what was put to each link, and stands in its outbox, into its ring while that takes it. Their other ends may be used in other
+    /// threads meanwhile.
+    pub fn push_all(&mut self)
+        ensures { Pushes self.old self.new }
+    {
+        for to in 0..self.count() {
+            self.push_to(to);
+        }
+    }
+
+    /// That of the link to a node, if there is one.
+    fn push_to(&mut self, to: usize)
+        ensures { PushesTo to self.old self.new }
+    {
+        if is_other(self.out.len(), self.me, to) {
+            self.out[place_of(self.me, to)].push_all();
+        }
     }
 
     /// Moves what stands on the link from another node to this one, in its ring and its outbox, into the inbox, and says how many packets

@@ -1,6 +1,6 @@
 -- Nothing goes out of a link that was not put to it.
-use Rattle.std.proofs.Common.{◌≡◌, ℕ, ◌+◌, Bool, true, false, List, [], ◌∷◌, ◌++◌, length, refl, ap, subst, sym, ◌∙◌}
-use Rattle.std.specs.Prelude.{⊤, cond, map}
+use Rattle.std.proofs.Common.{ℕ, ◌+◌, Bool, true, false, List, [], ◌∷◌, ◌++◌, length}
+use Rattle.std.specs.Prelude.{cond, map}
 use Rattle.std.specs.List.{filter}
 use Rattle.qs_link.specs.OnlyPut.{Each}
 use Rattle.qs_link.specs.Plan.{due, fate, is_due, item_of, kept, own}

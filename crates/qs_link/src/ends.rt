@@ -1,5 +1,5 @@
 //! The lanes between a node and its clients.
-ghost use Rattle.std.specs.Prelude.{◌≡◌, OnOk, OnErr};
+ghost use Rattle.std.specs.Prelude.{◌≡◌, OnOk, OnErr, is_some};
 ghost use Rattle.std.specs.List.{position};
 ghost use Rattle.qs_link.specs.Lanes.{is_of, delivered, put_to, taken_from, first_of, next_line, at_client, without_line, ends_of, SendsTo, SendsFrom, CarriesIn, CarriesOut};
 
@@ -70,6 +70,22 @@ fn take(commands: &mut Draw<ScriptLine>) -> Option<ScriptLine>
     ensures left { commands.new ≡ taken_from commands.old }
 {
     commands.take_carried()
+}
+
+/// Whether a command of the client was carried and not taken.
+pub fn has_line(ends: &[NodeEnds], client: ClientNo) -> bool
+    ensures { result ≡ is_some (next_line client ends.now) }
+{
+    match place(ends, client) {
+        Some(at) => has_command(&ends[at].commands),
+        None => false,
+    }
+}
+
+fn has_command(commands: &Draw<ScriptLine>) -> bool
+    ensures { result ≡ is_some (first_of commands.now.inbox) }
+{
+    commands.carried() > 0
 }
 
 // ---- carrying

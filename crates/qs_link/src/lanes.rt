@@ -149,6 +149,17 @@ impl<T: Drop> Draw<T> {
             Err(_) => None,
         }
     }
+
+    /// Looks into the ring, and moves what stands there behind what was carried, so that it counts as carried. The other end may be used in
+    /// another thread meanwhile. After `NoMemory`, which comes where memory was refused, nothing was moved.
+    pub fn pull(&mut self) -> Result<(), NoMemory>
+        ensures drawn { Drawn [] self.old self.new }
+        ensures all { OnOk result (known_items self.new.ring ≡ []) }
+        ensures none { OnErr result (self.new.inbox ≡ self.old.inbox) }
+    {
+        self.ring.slots();
+        pop_all(&mut self.ring, &mut self.inbox)
+    }
 }
 
 /// Moves what stands in the ring, and then what stands in the outbox, into the inbox, and says how many items that then

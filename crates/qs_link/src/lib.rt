@@ -9,7 +9,7 @@ mod links;
 mod outgoing;
 mod parcel;
 
-pub use ends::{NodeEnds, carry_in, carry_out, deliver, take_line};
+pub use ends::{NodeEnds, carry_in, carry_out, deliver, has_line, take_line};
 pub use lanes::{Draw, Feed, carry, lane, look};
 pub use laws::{taken_is_put, went};
 pub use links::{Incoming, carry_link, link};

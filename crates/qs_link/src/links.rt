@@ -1,7 +1,7 @@
 //! Links: lanes of parcels.
-ghost use Rattle.std.specs.Prelude.{◌≡◌, ◌↔◌, [], length, IfOk, IfSome, OnOk, IsErr};
+ghost use Rattle.std.specs.Prelude.{◌≡◌, ◌↔◌, [], length, IfOk, IfSome, OnErr, OnOk};
 ghost use Rattle.qs_base.specs.declared.memory.NoMemory.{NoMemory};
-ghost use Rattle.qs_link.specs.Lane.{IsLane, HasPlaces, IsFifo, IsFront, on_way};
+ghost use Rattle.qs_link.specs.Lane.{Drawn, IsLane, HasPlaces, IsFifo, IsFront, on_way};
 ghost use Rattle.qs_link.specs.Link.{Took, TookNone};
 ghost use Rattle.qs_link.specs.Plan.{IsPlan, IsFresh};
 ghost use Rattle.qs_link.specs.Planned.{Carried};
@@ -59,6 +59,16 @@ impl Incoming {
             Some(parcel) => Ok(Some(parcel.open(self.alloc)?)),
             None => Ok(None),
         }
+    }
+
+    /// Looks into the ring, and moves the packets that stand there behind those that were carried, so that they count as carried. The other
+    /// end may be used in another thread meanwhile. After `NoMemory`, which comes where memory was refused, nothing was moved.
+    pub fn pull(&mut self) -> Result<(), NoMemory>
+        ensures drawn { Drawn [] self.old self.new }
+        ensures all { OnOk result (known_items self.new.ring ≡ []) }
+        ensures none { OnErr result (self.new.inbox ≡ self.old.inbox) }
+    {
+        self.draw.pull()
     }
 
     /// How many packets were carried and not taken.

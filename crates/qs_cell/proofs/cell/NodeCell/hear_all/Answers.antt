@@ -22,7 +22,7 @@ loop-from-preserved g c = record {
 pub returns-in_err-hear_from-clause-breaks : goal.returns-in_err-hear_from-clause-breaks
 returns-in_err-hear_from-clause-breaks g c = on_err_all c.from_residual.result
     (below_breaks g.D.Disk.told g.D.Disk.state g.D.Disk.fault_count g.D.Disk.byte_count c.args.self.now.links.size c.loop-from.from c.count-from-end.result (post_of c.args.self.now) (post_of c.loop-from.self) (post_of c.hear_from.new.self)
-    (c.count-from-end.ensures ∙ ap (λ cell. cell.links.size) c.self.view_is) c.loop-from-test.true c.loop-from.invariant.hears c.in_err-hear_from.ensures.breaks)
+    (c.count-from-end.ensures.count ∙ ap (λ cell. cell.links.size) c.self.view_is) c.loop-from-test.true c.loop-from.invariant.hears c.in_err-hear_from.ensures.breaks)
 
 pub returns-in_err-hear_from-clause-linked : goal.returns-in_err-hear_from-clause-linked
 returns-in_err-hear_from-clause-linked g c = linked_on c.args.self.now.links c.loop-from.self.links c.hear_from.new.self.links c.loop-from.invariant.linked c.hear_from.ensures.linked

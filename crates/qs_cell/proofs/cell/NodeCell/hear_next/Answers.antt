@@ -2,11 +2,12 @@ use Rattle.std.proofs.Common.{◌≡◌, ◌∙◌, ap, subst, sym, Bool, true, 
 use Rattle.std.specs.Prelude.{Option, None, Some, Ok, is_some}
 use Rattle.qs_book_journal.specs.declared.entry.CrashCause.{CrashCause}
 use Rattle.qs_world.specs.Histories.{opened_with}
-use Rattle.qs_cell_peers.specs.Links.{StayLinked}
+use Rattle.qs_cell_peers.specs.Links.{KeepsEnds, StayLinked}
 use Rattle.qs_cell_peers.proofs.Linked.{linked_as, taken_linked}
 use Rattle.qs_cell.specs.Hearing.{BreaksHearing, Hears, Post}
 use Rattle.qs_cell.specs.Starts.{post_of}
 use Rattle.qs_cell.specs.State.{cause_of}
+use Rattle.qs_cell.proofs.Acting.{keeps_as, taken_keeps}
 use Rattle.qs_cell.proofs.Hearing.{taken_sound}
 use Rattle.qs_cell.proofs.HearingTurns.{has_taken, hearing_breaks, hears_down, hears_none, hears_some}
 use Rattle.qs_cell.proofs.Reopening.{rounds_stay}
@@ -111,3 +112,14 @@ returns-clause-breaks g c =
     (has_taken c.args.from c.take_carried.result (Some c.in-Some.packet) c.self.inside.links c.take_carried.new.self (c.in_ok-packet.was ∙ ap Ok c.in-Some.is) c.take_carried.ensures.same c.take_carried.ensures.out
     c.take_carried.ensures.others c.take_carried.ensures.took c.take_carried.ensures.ring c.take_carried.ensures.none)
     c.hear-answers.ensures.takes))
+
+pub returns-in_err-make_room-clause-keeps : goal.returns-in_err-make_room-clause-keeps
+returns-in_err-make_room-clause-keeps g c = on_err_all c.from_residual.result (keeps_as c.args.self.now.links c.self.inside.links (ap (λ cell. cell.links) c.self.view_is))
+
+pub returns-in_err-packet-clause-keeps : goal.returns-in_err-packet-clause-keeps
+returns-in_err-packet-clause-keeps g c = on_err_all c.from_residual-in_err-packet.result (subst (λ links. KeepsEnds links c.take_carried.new.self) (ap (λ cell. cell.links) c.self.view_is)
+    (taken_keeps c.args.from c.self.inside.links c.take_carried.new.self c.take_carried.ensures.same c.take_carried.ensures.out c.take_carried.ensures.others c.take_carried.ensures.ring))
+
+pub returns-clause-keeps : goal.returns-clause-keeps
+returns-clause-keeps g c = on_err_all c.deliver_all.result (subst (λ links. KeepsEnds links c.take_carried.new.self) (ap (λ cell. cell.links) c.self.view_is)
+    (taken_keeps c.args.from c.self.inside.links c.take_carried.new.self c.take_carried.ensures.same c.take_carried.ensures.out c.take_carried.ensures.others c.take_carried.ensures.ring))
