@@ -1,5 +1,5 @@
 -- A burst leaves the sites in the world, once the links were carried behind it, from both ends at once.
-use Rattle.std.proofs.Common.{◌≡◌, ◌≢◌, ◌∙◌, refl, subst, sym, ℕ, zero, suc, ◌<◌, List, arith, length, slice_get, Some}
+use Rattle.std.proofs.Common.{◌≡◌, ◌≢◌, ◌∙◌, refl, subst, sym, ℕ, zero, suc, ◌<◌, Bool, List, arith, length, slice_get, Some}
 use Rattle.std.specs.Global.{Global}
 use Rattle.qs_book_script.specs.declared.script.Script.{Script}
 use Rattle.qs_cell.specs.Hearing.{Post}
@@ -11,8 +11,7 @@ use Rattle.qs_world.specs.World.{Opening}
 use Rattle.qs_world_bursts.proofs.Joining.{each_joined}
 use Rattle.qs_world_bursts.proofs.Turning.{each_turns, turns_tell}
 use Rattle.qs_world_bursts.specs.Telling.{AreFifo, TellsOfActs}
-use Rattle.qs_world_bursts.specs.Threads.{BurstKeeps, Bursts, RoundBehindKeeps, RoundsBehind, RoundsBehindAreTraced}
-use Rattle.qs_world_bursts.specs.Turns.{TakesTurns}
+use Rattle.qs_world_bursts.specs.Threads.{BurstKeeps, RoundBehindKeeps, RoundsBehind, RoundsBehindAreTraced}
 use Rattle.qs_world_links.specs.Posts.{IsPostOf}
 use Rattle.qs_world_nodes.proofs.Beginning.{each_begins}
 use Rattle.qs_world_nodes.proofs.Carrying.{each_carries, each_of, same_cell}
@@ -21,7 +20,9 @@ use Rattle.qs_world_nodes.proofs.Rounds.{each_visits}
 use Rattle.qs_world_nodes.proofs.Telling.{each_sites_traced}
 use Rattle.qs_world_nodes.specs.Nodes.{AreSitesIn, plans_of, post_at}
 use Rattle.qs_world_rounds.specs.Rounds.{Cast}
+use Rattle.qs_world_rounds.specs.Turns.{TakesTurns}
 use Rattle.qs_world_seats.specs.Sites.{IsSiteIn}
+use Rattle.qs_world_sites.specs.Bursts.{Bursts}
 use Rattle.qs_world_sites.specs.Sites.{AreCarried, CarriesLanes, SitesValue, links_of}
 
 -- ---- where each ring is looked at from both ends, as it is carried
@@ -77,13 +78,13 @@ module _ {D : Type 0} (told : Type 0) (state : D → DiskState) (own size : D �
   pub each_burst : (old mid new : List (Cast D)) → BurstKeeps told state own size o plans turns old mid new
   each_burst old mid new t b c was = each_carries told state o plans mid new c (behind old mid new t b c was)
 
-  pub each_round_behind : (old new : SitesValue D) → RoundBehindKeeps told state own size o plans turns old new
-  each_round_behind old new t r was = each_visits told state own size o plans r.order r.round.carried new r.round.did t r.round.visits
+  pub each_round_behind : (order : List ℕ) (old new : SitesValue D) (quiet : Bool) → RoundBehindKeeps told state own size o plans turns order old new quiet
+  each_round_behind order old new quiet t r was = each_visits told state own size o plans order r.round.carried new r.round.did t r.round.visits
       (each_burst old.sites r.burst.sites r.round.carried.sites t r.bursts r.round.carries was)
 
   pub each_rounds_behind : (n : ℕ) (old new : SitesValue D) → told → RoundsBehind told state own size turns n old new → AreSitesIn told state o plans old.sites → AreSitesIn told state o plans new.sites
   each_rounds_behind zero old new t same was = subst (λ (s : SitesValue D). AreSitesIn told state o plans s.sites) (sym same) was
-  each_rounds_behind (suc n) old new t (mid, (before, last)) was = each_round_behind mid new t last (each_rounds_behind n old mid t before was)
+  each_rounds_behind (suc n) old new t (mid, (before, (order, (quiet, last)))) was = each_round_behind order mid new quiet t last (each_rounds_behind n old mid t before was)
 
 pub each_rounds_behind_traced : {D : Type 0} (told : Type 0) (state : D → DiskState) (own size : D → ℕ) (alloc : Global) (script : Script) (disks : List D) (o : Opening) (turns n : ℕ) (all new : SitesValue D)
     → RoundsBehindAreTraced told state own size alloc script disks o turns n all new

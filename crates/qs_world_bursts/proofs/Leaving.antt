@@ -1,5 +1,7 @@
 -- Where memory was refused in a burst, each cell is where its node has come to, whatever became of the clients.
-use Rattle.std.proofs.Common.{◌≡◌, ◌≢◌, ◌∙◌, ap, inl, inr, refl, subst, sym, ℕ, ◌<◌, suc, List, length, map, arith, drop, take, slice_get, Some}
+use Rattle.std.proofs.Common.{◌≡◌, ◌≢◌, ◌∙◌, ap, inl, inr, refl, subst, sym, ℕ, ◌<◌, List, length, arith, drop, take, slice_get, Some}
+use Rattle.qs_cell.proofs.Acting.{BreaksOne, MakesOne, breaks_one, one_of}
+use Rattle.qs_cell.specs.Acts.{BreaksAct, in_act_as}
 use Rattle.qs_cell.specs.Hearing.{Post}
 use Rattle.qs_cell.specs.Starts.{CellValue, post_of}
 use Rattle.qs_cell.specs.State.{IsSeenAs}
@@ -14,15 +16,16 @@ use Rattle.qs_world.specs.World.{Opening}
 use Rattle.qs_world_bursts.proofs.Refusing.{each_keeps_after, each_refused_act, some_behind, some_of_acts}
 use Rattle.qs_world_bursts.proofs.Told.{each_act, tells_none}
 use Rattle.qs_world_bursts.proofs.Turning.{clients_alone, each_turns, turns_one, turns_tell}
-use Rattle.qs_world_bursts.specs.Acts.{MakesOne, in_act_as}
-use Rattle.qs_world_bursts.specs.Refused.{AreFifoSites, BreaksAct, BreaksOne, RefusedBurstLeaves, TakesSome, TellsOfSome, TurnIsRefused}
+use Rattle.qs_world_bursts.specs.Refused.{RefusedBurstLeaves, TellsOfSome}
 use Rattle.qs_world_bursts.specs.Telling.{AreFifo, TellsOfActs}
 use Rattle.qs_world_links.specs.Posts.{IsPostOf}
 use Rattle.qs_world_nodes.proofs.Carrying.{IsSamePost, same_cell}
 use Rattle.qs_world_nodes.proofs.Keeping.{keep_at}
 use Rattle.qs_world_nodes.proofs.Places.{found, low_of, posts_of_each}
+use Rattle.qs_world_nodes.proofs.Refused.{same_cells}
 use Rattle.qs_world_nodes.specs.Nodes.{AreCellsIn, AreSitesIn, post_at, trace_at}
 use Rattle.qs_world_rounds.specs.Rounds.{Cast}
+use Rattle.qs_world_rounds.specs.Turns.{TakesSome, TurnIsRefused, client_places}
 use Rattle.qs_world_seats.proofs.Alike.{seen_as}
 use Rattle.qs_world_seats.proofs.Cellular.{each_site_cell}
 use Rattle.qs_world_seats.proofs.Refused.{Stands, cell_left, hearing_leaves, hearing_stands, some_leave, turns_stand}
@@ -32,6 +35,7 @@ use Rattle.qs_world_seats.specs.Cells.{IsCellIn}
 use Rattle.qs_world_seats.specs.Reached.{IsInWorld}
 use Rattle.qs_world_seats.specs.Sites.{IsSiteIn}
 use Rattle.qs_world_seats.specs.Visiting.{AreOfClients, PostInWorld}
+use Rattle.qs_world_sites.specs.Bursts.{AreFifoSites}
 use Rattle.qs_world_sites.specs.Sites.{Each, links_of}
 use Rattle.qs_world_traces.specs.Links.{IsTakenByPlan, KeepPlans, put_to, took_from}
 
@@ -61,8 +65,8 @@ module _ {D : Type 0} (told : Type 0) (state : D → DiskState) (own size : D �
     act_leaves : (old new : Post D) → BreaksAct told state own size old new → AreOfClients old.seat.ends clients → PostInWorld told state o n old.seat clients → IsCellIn told state o n new.seat.node
     act_leaves old new a of was = elim a.within [
       | inl same ↦ subst (λ (p : Post D). IsCellIn told state o n p.seat.node) (sym same) (cell_left told state own size o n clients a.begun.seat begun)
-      | inr (inl (one, ends)) ↦ broken_leaves a.begun new one of_begun begun
-      | inr (inr p) ↦ subst (λ (s : Seat D). IsCellIn told state o n s.node) (sym p.seat) (cell_left told state own size o n clients p.made.seat (made_stands a.begun p.made p.makes of_begun begun))
+      | inr (inl breaks) ↦ broken_leaves a.begun new (breaks_one told state own size a.begun new breaks).0 of_begun begun
+      | inr (inr p) ↦ subst (λ (s : Seat D). IsCellIn told state o n s.node) (sym p.seat) (cell_left told state own size o n clients p.made.seat (made_stands a.begun p.made (one_of told state own size a.begun p.made p.makes) of_begun begun))
     ]
       where
         begun : Stand a.begun.seat
@@ -78,12 +82,12 @@ module _ {D : Type 0} (told : Type 0) (state : D → DiskState) (own size : D �
   turn_leaves old new t (inr r) was = elim r.refused [
     | inl breaks ↦ act_leaves r.visited.clients (post_of r.visited.node) (post_of new.node) breaks visited.lanes visited.there.there
     | inr (acts, refused) ↦ subst (λ (s : Seat D). IsCellIn told state o n s.node) (sym acts.seat) (cell_left told state own size o n r.visited.clients acts.made.seat
-        (made_stands r.visited.clients acts.begun acts.made acts.makes (subst (λ (l : List NodeEnds). AreOfClients l r.visited.clients) (sym acts.ends) visited.lanes)
+        (made_stands r.visited.clients acts.begun acts.made (one_of told state own size acts.begun acts.made acts.makes) (subst (λ (l : List NodeEnds). AreOfClients l r.visited.clients) (sym acts.ends) visited.lanes)
         (begun_stands r.visited.clients (post_of r.visited.node) acts.begun acts.act acts.ends visited.there.there)))
   ]
     where
       visited : IsSiteIn told state o n r.visited
-      visited = each_visit_all told state own size o n (map suc r.clients) r.carried r.visited r.did t r.visits (each_site_carries told state o n old r.carried r.carries was)
+      visited = each_visit_all told state own size o n (client_places r.carried.clients) r.carried r.visited r.did t r.visits (each_site_carries told state o n old r.carried r.carries was)
 
   pub some_leaves : (turns : ℕ) (old new : Cast D) → told → TakesSome told state own size turns old new → IsSiteIn told state o n old → IsCellIn told state o n new.node.seat.node
   some_leaves turns old new t (inl all) was = each_site_cell told state o n new (each_turns told state own size o n turns old new t all was)
@@ -103,7 +107,7 @@ module _ {D : Type 0} (told : Type 0) (state : D → DiskState) (own size : D �
       carried = same_cell old.node r.carried.node old.clients r.carried.clients r.carries
 
       alone : r.visited.node ≡ r.carried.node
-      alone = clients_alone told state own size r.clients r.carried r.visited r.did r.visits
+      alone = clients_alone told state own size r.carried.clients r.carried r.visited r.did r.visits
 
       before : TellsOfActs nodes n (post_of old.node) (post_of r.visited.node)
       before = tells_none nodes n (post_of old.node) (post_of r.visited.node) (ap (λ (c : CellValue D). c.seat.node) alone ∙ carried.0) (ap (λ (c : CellValue D). c.links) alone ∙ carried.1) of
@@ -149,8 +153,8 @@ module _ {D : Type 0} (told : Type 0) (state : D → DiskState) (own size : D �
       by : (a : Cast D) × (slice_get old n ≡ Some a) → IsCellIn told state o n b.node.seat.node
       by (a, a_is) = some_leaves told state own size o n turns a b t (e.each n a b a_is is) (was.each n a a_is)
 
-  leaves : AreCellsIn told state o plans new
+  pub leaves : AreCellsIn told state o plans new
   leaves = record { count = count; each = each_cell; keep = keeps_all }
 
 pub each_refused_burst : {D : Type 0} (told : Type 0) (state : D → DiskState) (own size : D → ℕ) (o : Opening) (plans : ℕ → ℕ → List LinkFault) (turns : ℕ) (old new : List (Cast D)) → RefusedBurstLeaves told state own size o plans turns old new
-each_refused_burst told state own size o plans turns old new t e fifo was = leaves told state own size o plans turns old new t e fifo was
+each_refused_burst told state own size o plans turns old new t it was = same_cells told state own size o plans it.burst new it.same (leaves told state own size o plans turns old it.burst t it.some it.joined was)

@@ -8,6 +8,8 @@ pub mod Joining
 pub mod Turning
 -- Bursts of all sites.
 pub mod Bursting
+-- Rounds by a schedule.
+pub mod Scheduled
 -- Where memory was refused: what the traces tell.
 pub mod Refusing
 -- And where the cells are.

@@ -5,11 +5,14 @@ use Rattle.std.specs.List.{filter, flat_map}
 use Rattle.std.proofs.Math.Seq.{drop-append_seam}
 use Rattle.std.proofs.lemmas.List.Concat.{flat_map-append}
 use Rattle.std.proofs.lemmas.List.Elements.{All-append, All-filter, All-same, filter-append}
+use Rattle.qs_cell.proofs.Acting.{BreaksOne, breaks_one, one_of}
+use Rattle.qs_cell.specs.Acts.{BreaksAct, PutsSome, in_act_as}
 use Rattle.qs_cell.specs.Hearing.{Post}
 use Rattle.qs_cell.specs.Visits.{due, sources_of}
 use Rattle.qs_cell.specs.WholeVisits.{steps_in}
 use Rattle.qs_cell_peers.proofs.Places.{is_peer_from, peer_is}
-use Rattle.qs_cell_peers.specs.Links.{LinksValue, into_of, is_peer_of, out_of}
+use Rattle.qs_cell_peers.proofs.Putting.{all_more}
+use Rattle.qs_cell_peers.specs.Links.{KeepsEnds, LinksValue, into_of, is_peer_of, out_of}
 use Rattle.qs_cell_peers.specs.Peers.{is_peer, is_to}
 use Rattle.qs_disk.specs.Disk.{DiskState}
 use Rattle.qs_link.specs.Lane.{DrawValue}
@@ -20,10 +23,9 @@ use Rattle.qs_node_step.specs.declared.trace.Did.TheVariants as dids
 use Rattle.qs_node_step.specs.declared.trace.Step.{Step}
 use Rattle.qs_packet.specs.declared.packet.Packet.{Packet}
 use Rattle.rtrb.specs.Ring.{SameConsumer, received, sent}
-use Rattle.qs_world_bursts.proofs.Ends.{consumer_on, inbox_on, on_of, puts_more, received_on}
+use Rattle.qs_world_bursts.proofs.Ends.{consumer_on, inbox_on, on_of, received_on}
 use Rattle.qs_world_bursts.proofs.Told.{brings_one, made_one}
-use Rattle.qs_world_bursts.specs.Acts.{in_act_as}
-use Rattle.qs_world_bursts.specs.Refused.{BreaksAct, BreaksOne, KeepAfterSome, KeepsEnds, PutsSome, RefusedActTells, TellsOfSome}
+use Rattle.qs_world_bursts.specs.Refused.{KeepAfterSome, RefusedActTells, TellsOfSome}
 use Rattle.qs_world_bursts.specs.Telling.{AreFifo, ComeNamed, TellsOfActs}
 use Rattle.qs_world_links.proofs.Adding.{Adds, adds_more, adds_none, adds_seen}
 use Rattle.qs_world_links.proofs.Ends.{all_behind, all_front, none_put}
@@ -93,7 +95,7 @@ module _ {D : Type 0} (nodes n : ℕ) (old mid new : Post D) (a : TellsOfActs no
     puts = flat_map-append puts_of a.steps b.steps ∙ (ap (λ (l : List Packet). flat_map puts_of a.steps ++ l) b.puts ∙ sym (append_assoc (flat_map puts_of a.steps) b.out b.rest));
     from = All-append (IsFrom n) (flat_map puts_of a.steps) b.out a.from b.from;
     put = λ m peer. subst (λ (l : List Packet). PutAll l (out_of old.links m) (out_of new.links m)) (sym (filter-append (is_to m) (flat_map puts_of a.steps) b.out))
-        (puts_more (put_to m a.steps) (filter (is_to m) b.out) (out_of old.links m) (out_of mid.links m) (out_of new.links m) (a.put m peer) (b.put m peer));
+        (all_more (put_to m a.steps) (filter (is_to m) b.out) (out_of old.links m) (out_of mid.links m) (out_of new.links m) (a.put m peer) (b.put m peer));
     on = on;
     received = λ m peer. b.received m peer ∙ (ap (λ (l : List Packet). l ++ b.on m) (a.received m peer) ∙ append_assoc (received (into_of old.links m).ring) (a.on m) (b.on m));
     ring = λ m peer. consumer_on (into_of old.links m) (into_of mid.links m) (into_of new.links m) (a.ring m peer) (b.ring m peer);
@@ -107,7 +109,7 @@ module _ {D : Type 0} (told : Type 0) (state : D → DiskState) (own size : D �
   begun = adds_seen nodes n in_act_as (λ s. refl) old.seat.node a.begun.seat.node a.act of.node
 
   of_begun : IsPostOf nodes n a.begun
-  of_begun = post_of_node nodes n old a.begun of a.draws.same begun.node
+  of_begun = post_of_node nodes n old a.begun of a.pulls.same begun.node
 
   peer_old : (m : ℕ) → is_peer nodes n m ≡ true → is_peer_of old.links m ≡ true
   peer_old m peer = peer_there nodes n old of m peer
@@ -116,7 +118,7 @@ module _ {D : Type 0} (told : Type 0) (state : D → DiskState) (own size : D �
   popped m = on_of (into_of old.links m) (into_of a.begun.links m)
 
   inbox : (m : ℕ) → is_peer nodes n m ≡ true → (into_of a.begun.links m).inbox ≡ (into_of old.links m).inbox ++ popped m
-  inbox m peer = inbox_on (into_of old.links m) (into_of a.begun.links m) (a.draws.into m (peer_old m peer))
+  inbox m peer = inbox_on (into_of old.links m) (into_of a.begun.links m) (a.pulls.into m (peer_old m peer))
 
   came : ComeNamed nodes n old.links popped → AreCarriedNamed nodes n a.begun.links
   came named m peer = All-same (Goes m n) (into_of a.begun.links m).inbox ((into_of old.links m).inbox ++ popped m) (inbox m peer) (named m peer)
@@ -141,10 +143,10 @@ module _ {D : Type 0} (told : Type 0) (state : D → DiskState) (own size : D �
     rest = rest;
     puts = puts;
     from = all_front (IsFrom n) out rest (All-same (IsFrom n) (out ++ rest) (flat_map puts_of (all some).steps) (sym puts) (all some).from);
-    put = λ m peer. subst (λ (o : OutgoingValue). PutAll (filter (is_to m) out) o (out_of new.links m)) (a.draws.out m (peer_old m peer) refl) (put m peer);
+    put = λ m peer. subst (λ (o : OutgoingValue). PutAll (filter (is_to m) out) o (out_of new.links m)) (a.pulls.out m (peer_old m peer) refl) (put m peer);
     on = popped;
-    received = λ m peer. ap (λ r. received r) (ring m peer) ∙ received_on (into_of old.links m) (into_of a.begun.links m) (a.draws.into m (peer_old m peer));
-    ring = λ m peer. subst (λ r. SameConsumer (into_of old.links m).ring r) (sym (ring m peer)) (a.draws.into m (peer_old m peer)).ring;
+    received = λ m peer. ap (λ r. received r) (ring m peer) ∙ received_on (into_of old.links m) (into_of a.begun.links m) (a.pulls.into m (peer_old m peer));
+    ring = λ m peer. subst (λ r. SameConsumer (into_of old.links m).ring r) (sym (ring m peer)) (a.pulls.into m (peer_old m peer)).ring;
     took = taken some;
   }
 
@@ -166,7 +168,7 @@ module _ {D : Type 0} (told : Type 0) (state : D → DiskState) (own size : D �
   -- the event was made, and its packets went out in part
   module _ (p : PutsSome told state own size old a.begun new) where
     made : Took nodes n a.begun p.made
-    made = made_one told state own size nodes n a.begun p.made p.makes of_begun
+    made = made_one told state own size nodes n a.begun p.made (one_of told state own size a.begun p.made p.makes) of_begun
 
     of_made : IsPostOf nodes n p.made
     of_made = post_then nodes n a.begun p.made of_begun made
@@ -194,7 +196,7 @@ module _ {D : Type 0} (told : Type 0) (state : D → DiskState) (own size : D �
   act_tells = elim a.within [
     | inl same ↦ unput (some_none nodes n a.begun new (adds_none nodes n a.begun.seat.node new.seat.node (ap (λ (q : Post D). steps_in q.seat.node) same) (subst (λ (q : Post D). IsOfNode nodes n q.seat.node) (sym same) begun.node)))
         (same_ends new.links (ap (λ (q : Post D). q.links) same))
-    | inr (inl (one, ends)) ↦ unput (broken one) ends
+    | inr (inl breaks) ↦ unput (broken (breaks_one told state own size a.begun new breaks).0) (breaks_one told state own size a.begun new breaks).1
     | inr (inr p) ↦ puts_some p
   ]
 

@@ -5,11 +5,14 @@ use Rattle.std.specs.List.{filter, flat_map}
 use Rattle.std.proofs.Math.Seq.{drop-append_seam}
 use Rattle.std.proofs.lemmas.List.Concat.{flat_map-append}
 use Rattle.std.proofs.lemmas.List.Elements.{All-append, All-nil, All-same}
+use Rattle.qs_cell.proofs.Acting.{MakesOne, one_of}
+use Rattle.qs_cell.specs.Acts.{Acts, in_act_as}
 use Rattle.qs_cell.specs.Hearing.{Post}
 use Rattle.qs_cell.specs.Visits.{due, sources_of}
 use Rattle.qs_cell.specs.WholeVisits.{steps_in}
 use Rattle.qs_cell.specs.declared.state.CellState.{CellState}
 use Rattle.qs_cell_chronicle.specs.declared.occasion.Occasion.{Occasion}
+use Rattle.qs_cell_peers.proofs.Putting.{all_more}
 use Rattle.qs_cell_peers.specs.Links.{LinksValue, into_of, is_peer_of, out_of}
 use Rattle.qs_cell_peers.specs.Peers.{is_peer, is_to}
 use Rattle.qs_disk.specs.Disk.{DiskState}
@@ -20,8 +23,7 @@ use Rattle.qs_link.specs.declared.ends.NodeEnds.{NodeEnds}
 use Rattle.qs_node_step.specs.declared.trace.Step.{Step}
 use Rattle.qs_packet.specs.declared.packet.Packet.{Packet}
 use Rattle.rtrb.specs.Ring.{SameConsumer, received}
-use Rattle.qs_world_bursts.proofs.Ends.{consumer_on, inbox_on, none_behind, on_of, puts_more, received_on}
-use Rattle.qs_world_bursts.specs.Acts.{Acts, MakesOne, in_act_as}
+use Rattle.qs_world_bursts.proofs.Ends.{consumer_on, inbox_on, none_behind, on_of, received_on}
 use Rattle.qs_world_bursts.specs.Telling.{ActTells, ActsTellOn, ComeNamed, TellsOfActs}
 use Rattle.qs_world_links.proofs.Adding.{Adds, adds_more, adds_none, adds_seen}
 use Rattle.qs_world_links.proofs.Ends.{all_behind, all_front, none_put}
@@ -56,10 +58,10 @@ module _ {D : Type 0} (told : Type 0) (state : D → DiskState) (own size : D �
     begun = adds_seen nodes n in_act_as (λ s. refl) old.seat.node a.begun.seat.node a.act of.node
 
     of_begun : IsPostOf nodes n a.begun
-    of_begun = post_of_node nodes n old a.begun of a.draws.same begun.node
+    of_begun = post_of_node nodes n old a.begun of a.pulls.same begun.node
 
     made : Took nodes n a.begun a.made
-    made = made_one a.begun a.made a.makes of_begun
+    made = made_one a.begun a.made (one_of told state own size a.begun a.made a.makes) of_begun
 
     of_made : IsPostOf nodes n a.made
     of_made = post_then nodes n a.begun a.made of_begun made
@@ -81,11 +83,11 @@ module _ {D : Type 0} (told : Type 0) (state : D → DiskState) (own size : D �
     on m = on_of (into_of old.links m) (into_of a.begun.links m)
 
     inbox : (m : ℕ) → is_peer nodes n m ≡ true → (into_of a.begun.links m).inbox ≡ (into_of old.links m).inbox ++ on m
-    inbox m peer = inbox_on (into_of old.links m) (into_of a.begun.links m) (a.draws.into m (peer_old m peer))
+    inbox m peer = inbox_on (into_of old.links m) (into_of a.begun.links m) (a.pulls.into m (peer_old m peer))
 
     -- what was put went to the links, and the ends of the others stayed
     puts : (m : ℕ) → is_peer nodes n m ≡ true → PutAll (put_to m adds.steps) (out_of old.links m) (out_of new.links m)
-    puts m peer = subst (λ (o : OutgoingValue). PutAll (put_to m adds.steps) o (out_of new.links m)) (made.out m peer ∙ a.draws.out m (peer_old m peer) refl)
+    puts m peer = subst (λ (o : OutgoingValue). PutAll (put_to m adds.steps) o (out_of new.links m)) (made.out m peer ∙ a.pulls.out m (peer_old m peer) refl)
         (none_behind (put_to m adds.steps) (out_of a.made.links m) (out_of a.put m) (out_of new.links m)
         (subst (λ (l : List Packet). PutAll (filter (is_to m) l) (out_of a.made.links m) (out_of a.put m)) since (a.puts.put m (peer_there nodes n a.made of_made m peer)))
         (a.pushes.out m (peer_there nodes n (record { seat = a.made.seat; links = a.put }) of_put m peer)))
@@ -97,7 +99,7 @@ module _ {D : Type 0} (told : Type 0) (state : D → DiskState) (own size : D �
     rings m peer = ap (λ (d : DrawValue Packet). d.ring) (into m peer) ∙ made.rings m peer
 
     popped : (m : ℕ) → is_peer nodes n m ≡ true → received (into_of new.links m).ring ≡ received (into_of old.links m).ring ++ on m
-    popped m peer = ap (λ r. received r) (rings m peer) ∙ received_on (into_of old.links m) (into_of a.begun.links m) (a.draws.into m (peer_old m peer))
+    popped m peer = ap (λ r. received r) (rings m peer) ∙ received_on (into_of old.links m) (into_of a.begun.links m) (a.pulls.into m (peer_old m peer))
 
     came : ComeNamed nodes n old.links on → AreCarriedNamed nodes n a.begun.links
     came named m peer = All-same (Goes m n) (into_of a.begun.links m).inbox ((into_of old.links m).inbox ++ on m) (inbox m peer) (named m peer)
@@ -117,7 +119,7 @@ module _ {D : Type 0} (told : Type 0) (state : D → DiskState) (own size : D �
     put = puts old new a of;
     on = on old new a of;
     received = popped old new a of;
-    ring = λ m peer. subst (λ r. SameConsumer (into_of old.links m).ring r) (sym (rings old new a of m peer)) (a.draws.into m (peer_there nodes n old of m peer)).ring;
+    ring = λ m peer. subst (λ r. SameConsumer (into_of old.links m).ring r) (sym (rings old new a of m peer)) (a.pulls.into m (peer_there nodes n old of m peer)).ring;
     took = took old new a of;
     post = post_of_node nodes n (record { seat = a.made.seat; links = a.put }) new (of_put old new a of) a.pushes.same
         (subst (λ s. IsOfNode nodes n s.node) (sym a.seat) (of_made old new a of).node);
@@ -170,7 +172,7 @@ module _ {D : Type 0} (nodes n : ℕ) where
         (All-append (IsFrom n) (flat_map puts_of a.steps) (flat_map puts_of b.steps) a.from b.from);
     bears = All-append BearsStamp a.steps b.steps a.bears b.bears;
     put = λ m peer. subst (λ (l : List Packet). PutAll l (out_of old.links m) (out_of new.links m)) (sym (put_to_more m a.steps b.steps))
-        (puts_more (put_to m a.steps) (put_to m b.steps) (out_of old.links m) (out_of mid.links m) (out_of new.links m) (a.put m peer) (b.put m peer));
+        (all_more (put_to m a.steps) (put_to m b.steps) (out_of old.links m) (out_of mid.links m) (out_of new.links m) (a.put m peer) (b.put m peer));
     on = λ m. a.on m ++ b.on m;
     received = λ m peer. b.received m peer ∙ (ap (λ (l : List Packet). l ++ b.on m) (a.received m peer) ∙ append_assoc (received (into_of old.links m).ring) (a.on m) (b.on m));
     ring = λ m peer. consumer_on (into_of old.links m) (into_of mid.links m) (into_of new.links m) (a.ring m peer) (b.ring m peer);

@@ -1,7 +1,3 @@
--- An act of a node in a burst.
-pub mod Acts
--- The turn of a site, and bursts of them.
-pub mod Turns
 -- What an act does with the links of its node.
 pub mod Telling
 -- Bursts between rounds, in the world.

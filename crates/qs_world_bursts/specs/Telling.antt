@@ -1,6 +1,7 @@
 -- What acts do with the links of their node: the trace tells it. What was popped from a ring is said of the consumer's end alone, as the producer's is in another thread.
 use Rattle.std.specs.Prelude.{◌≡◌, ◌≢◌, ◌<◌, ℕ, true, All, List, ◌++◌}
 use Rattle.std.specs.List.{flat_map}
+use Rattle.qs_cell.specs.Acts.{Acts}
 use Rattle.qs_cell.specs.Hearing.{Post}
 use Rattle.qs_cell_peers.specs.Links.{LinksValue, into_of, out_of}
 use Rattle.qs_cell_peers.specs.Peers.{is_peer}
@@ -10,7 +11,6 @@ use Rattle.qs_link.specs.Planned.{PutAll}
 use Rattle.qs_link.specs.declared.outgoing.LinkFault.{LinkFault}
 use Rattle.qs_node_step.specs.declared.trace.Step.{Step}
 use Rattle.qs_packet.specs.declared.packet.Packet.{Packet}
-use Rattle.qs_world_bursts.specs.Acts.{Acts}
 use Rattle.qs_world_links.specs.Between.{BearsStamp, Goes, IsFrom}
 use Rattle.qs_world_links.specs.Everywhere.{LinksAreTold}
 use Rattle.qs_world_links.specs.Posts.{IsPostOf, trace_in}

@@ -5,14 +5,14 @@ use Rattle.qs_book_script.specs.declared.script.Script.{Script}
 use Rattle.qs_disk.specs.Disk.{DiskState}
 use Rattle.qs_link.specs.declared.outgoing.LinkFault.{LinkFault}
 use Rattle.qs_world.specs.World.{Opening}
-use Rattle.qs_world_bursts.specs.Turns.{TakesTurn, TakesTurns}
 use Rattle.qs_world_nodes.specs.Nodes.{AreSitesIn, OpensSites, plans_of}
 use Rattle.qs_world_nodes.specs.Running.{AreTraced}
 use Rattle.qs_world_rounds.specs.Rounds.{Cast}
+use Rattle.qs_world_rounds.specs.Turns.{TakesTurn}
 use Rattle.qs_world_seats.specs.Sites.{IsSiteIn}
-use Rattle.qs_world_sites.specs.Rounds.{IsRound}
+use Rattle.qs_world_sites.specs.Bursts.{Bursts, IsRoundBehind}
 use Rattle.qs_world_sites.specs.Seats.{HasBegun}
-use Rattle.qs_world_sites.specs.Sites.{AreCarried, Each, SitesValue}
+use Rattle.qs_world_sites.specs.Sites.{AreCarried, SitesValue}
 
 -- ---- one site
 
@@ -21,32 +21,21 @@ TurnGoesOn told state own size o n old new = told → TakesTurn told state own s
 
 -- ---- all of them
 
--- each takes so many turns
-abbrev pub Bursts : {D : Type 0} → Type 0 → (D → DiskState) → (D → ℕ) → (D → ℕ) → ℕ → List (Cast D) → List (Cast D) → Type 0
-Bursts told state own size turns old new = Each (TakesTurns told state own size turns) old new
-
 -- a burst, and what is carried behind it
 abbrev pub BurstKeeps : {D : Type 0} → Type 0 → (D → DiskState) → (D → ℕ) → (D → ℕ) → Opening → (ℕ → ℕ → List LinkFault) → ℕ → List (Cast D) → List (Cast D) → List (Cast D) → Type 0
 BurstKeeps told state own size o plans turns old mid new =
     told → Bursts told state own size turns old mid → AreCarried mid new → AreSitesIn told state o plans old → AreSitesIn told state o plans new
 
 -- a burst, and then a round
-pub record IsRoundBehind {D : Type 0} (told : Type 0) (state : D → DiskState) (own size : D → ℕ) (turns : ℕ) (old new : SitesValue D) : Type 0 where
-  pub burst : SitesValue D
-  pub bursts : Bursts told state own size turns old.sites burst.sites
-  pub order : List ℕ
-  pub quiet : Bool
-  pub round : IsRound told state own size order burst new quiet
+abbrev pub RoundBehindKeeps : {D : Type 0} → Type 0 → (D → DiskState) → (D → ℕ) → (D → ℕ) → Opening → (ℕ → ℕ → List LinkFault) → ℕ → List ℕ → SitesValue D → SitesValue D → Bool → Type 0
+RoundBehindKeeps told state own size o plans turns order old new quiet =
+    told → IsRoundBehind told state own size turns order old new quiet → AreSitesIn told state o plans old.sites → AreSitesIn told state o plans new.sites
 
-abbrev pub RoundBehindKeeps : {D : Type 0} → Type 0 → (D → DiskState) → (D → ℕ) → (D → ℕ) → Opening → (ℕ → ℕ → List LinkFault) → ℕ → SitesValue D → SitesValue D → Type 0
-RoundBehindKeeps told state own size o plans turns old new =
-    told → IsRoundBehind told state own size turns old new → AreSitesIn told state o plans old.sites → AreSitesIn told state o plans new.sites
-
--- so many of them
+-- so many of them, each in some order
 abbrev pub RoundsBehind : {D : Type 0} → Type 0 → (D → DiskState) → (D → ℕ) → (D → ℕ) → ℕ → ℕ → SitesValue D → SitesValue D → Type 0
 RoundsBehind told state own size turns zero old new = new ≡ old
 RoundsBehind told state own size turns (suc n) old new =
-    (mid : SitesValue _) × (RoundsBehind told state own size turns n old mid × IsRoundBehind told state own size turns mid new)
+    (mid : SitesValue _) × (RoundsBehind told state own size turns n old mid × ((order : List ℕ) × ((quiet : Bool) × IsRoundBehind told state own size turns order mid new quiet)))
 
 -- after so many of a run that has begun so, what the cells tell is of a run of the world
 abbrev pub RoundsBehindAreTraced : {D : Type 0} → Type 0 → (D → DiskState) → (D → ℕ) → (D → ℕ) → Global → Script → List D → Opening → ℕ → ℕ → SitesValue D → SitesValue D → Type 0

@@ -1,5 +1,7 @@
 -- A node with room in its log has it behind an act, and where memory was refused in one: a packet begins nothing, and what a client begins is new.
 use Rattle.std.proofs.Common.{◌≡◌, ◌⊎◌, inl, inr, refl, subst, sym, ℕ, true, List, [], drop, take}
+use Rattle.qs_cell.proofs.Acting.{BreaksOne, MakesOne, breaks_one, one_of}
+use Rattle.qs_cell.specs.Acts.{Acts, BreaksAct, BreaksAsked, PutsSome, asked_of, in_act_as}
 use Rattle.qs_cell.specs.Hearing.{Hears, Post}
 use Rattle.qs_cell.specs.State.{IsSeenAs, Up}
 use Rattle.qs_cell.specs.Visits.{Seat, due, left_by, sources_of}
@@ -15,8 +17,6 @@ use Rattle.qs_node_step.specs.declared.trace.Step.{Step}
 use Rattle.qs_world.specs.World.{Opening}
 use Rattle.qs_world_bursts.proofs.Told.{made_one}
 use Rattle.qs_world_bursts.proofs.Turning.{turns_one}
-use Rattle.qs_world_bursts.specs.Acts.{Acts, MakesOne, in_act_as}
-use Rattle.qs_world_bursts.specs.Refused.{BreaksAct, BreaksOne, KeepsEnds, PutsSome}
 use Rattle.qs_world_links.proofs.Adding.{Adds, adds_seen}
 use Rattle.qs_world_links.proofs.Hearing.{Took, post_of_node}
 use Rattle.qs_world_links.proofs.Refused.{TookSome, in_hearing}
@@ -107,22 +107,22 @@ module _ {D : Type 0} (told : Type 0) (state : D → DiskState) (own size : D �
 
     pub act_keeps : Acts told state own size old new → Keep new.seat.node
     act_keeps a = subst (λ (s : Seat D). Keep s.node) (sym a.seat)
-        (made_stands a.begun a.made (begun_of a.begun a.act a.ends a.draws.same) (begun_lanes a.begun a.act a.ends a.draws.same) (begun_way a.begun a.act a.ends a.draws.same) a.makes).keeps
+        (made_stands a.begun a.made (begun_of a.begun a.act a.ends a.pulls.same) (begun_lanes a.begun a.act a.ends a.pulls.same) (begun_way a.begun a.act a.ends a.pulls.same) (one_of told state own size a.begun a.made a.makes)).keeps
 
     pub broken_act_room : BreaksAct told state own size old new → IsFront (steps_in new.seat.node) last → IsRoomyCell state size began new.seat.node
     broken_act_room a till = by a.within
       where
         of_begun : IsPostOf o.size k a.begun
-        of_begun = begun_of a.begun a.act a.ends a.draws.same
+        of_begun = begun_of a.begun a.act a.ends a.pulls.same
 
         lanes_begun : AreOfClients a.begun.seat.ends clients
-        lanes_begun = begun_lanes a.begun a.act a.ends a.draws.same
+        lanes_begun = begun_lanes a.begun a.act a.ends a.pulls.same
 
         way : Way a.begun.seat
-        way = begun_way a.begun a.act a.ends a.draws.same
+        way = begun_way a.begun a.act a.ends a.pulls.same
 
-        by : (new ≡ a.begun) ⊎ ((BreaksOne told state own size a.begun new × KeepsEnds a.begun.links new.links) ⊎ PutsSome told state own size old a.begun new) → IsRoomyCell state size began new.seat.node
+        by : (new ≡ a.begun) ⊎ (BreaksAsked (asked_of a.begun) told state own size a.begun new ⊎ PutsSome told state own size old a.begun new) → IsRoomyCell state size began new.seat.node
         by (inl same) = subst (λ (p : Post D). IsRoomyCell state size began p.seat.node) (sym same) (way.keeps.room (subst (λ (p : Post D). IsFront (steps_in p.seat.node) last) same till))
-        by (inr (inl (one, kept))) = broken_room a.begun new of_begun lanes_begun way one till
+        by (inr (inl breaks)) = broken_room a.begun new of_begun lanes_begun way (breaks_one told state own size a.begun new breaks).0 till
         by (inr (inr p)) = subst (λ (s : Seat D). IsRoomyCell state size began s.node) (sym p.seat)
-            ((made_stands a.begun p.made of_begun lanes_begun way p.makes).keeps.room (subst (λ (s : Seat D). IsFront (steps_in s.node) last) p.seat till))
+            ((made_stands a.begun p.made of_begun lanes_begun way (one_of told state own size a.begun p.made p.makes)).keeps.room (subst (λ (s : Seat D). IsFront (steps_in s.node) last) p.seat till))

@@ -1,5 +1,5 @@
 -- Sites with room in their logs have it behind a burst, whatever order in time their turns fell in; and behind rounds with bursts before them.
-use Rattle.std.proofs.Common.{◌≡◌, ◌∙◌, ap, inl, subst, sym, ℕ, zero, suc, ◌<◌, List, ◌++◌, append_assoc, arith, drop, length, slice_get, Some}
+use Rattle.std.proofs.Common.{◌≡◌, ◌∙◌, ap, inl, subst, sym, ℕ, zero, suc, ◌<◌, Bool, List, ◌++◌, append_assoc, arith, drop, length, slice_get, Some}
 use Rattle.std.specs.Prelude.{All}
 use Rattle.std.specs.Global.{Global}
 use Rattle.std.proofs.Math.Seq.{drop-append_seam}
@@ -17,9 +17,9 @@ use Rattle.qs_node_step.specs.declared.trace.Step.{Step}
 use Rattle.qs_world.specs.Openings.{IsOpening}
 use Rattle.qs_world.specs.World.{Opening}
 use Rattle.qs_world_bursts.proofs.Bursting.{behind, each_round_behind}
-use Rattle.qs_world_bursts.proofs.Leaving.{each_refused_burst, some_tells}
-use Rattle.qs_world_bursts.specs.Refused.{TakesSome, TellsOfSome}
-use Rattle.qs_world_bursts.specs.Threads.{Bursts, IsRoundBehind, RoundsBehind}
+use Rattle.qs_world_bursts.proofs.Leaving.{leaves, some_tells}
+use Rattle.qs_world_bursts.specs.Refused.{TellsOfSome}
+use Rattle.qs_world_bursts.specs.Threads.{RoundsBehind}
 use Rattle.qs_world_bursts_left.proofs.Cut.{amid_one_run}
 use Rattle.qs_world_bursts_left.proofs.Turns.{Stays, some_room}
 use Rattle.qs_world_bursts_left.specs.Rooms.{BurstStaysRoomy, RefusedBurstStaysRoomy, RoundBehindStaysRoomy, RoundsBehindLeaveRoom, RoundsBehindStayRoomy}
@@ -35,10 +35,12 @@ use Rattle.qs_world_opening.specs.Scripts.{MayBegin}
 use Rattle.qs_world_rooms.proofs.Amid.{IsFront, whole_front}
 use Rattle.qs_world_rooms.proofs.InOneRun.{IsFresh, running_fresh}
 use Rattle.qs_world_rooms.proofs.Runs as runs
-use Rattle.qs_world_rooms.proofs.Sites.{each_round}
+use Rattle.qs_world_rooms.proofs.Sites.{each_round, rooms_same}
 use Rattle.qs_world_rooms.specs.Rooms.{AreRoomySites}
 use Rattle.qs_world_rounds.specs.Rounds.{Cast}
+use Rattle.qs_world_rounds.specs.Turns.{TakesSome}
 use Rattle.qs_world_seats.specs.Reached.{IsInWorld}
+use Rattle.qs_world_sites.specs.Bursts.{Bursts, IsRefusedBurst, IsRoundBehind}
 use Rattle.qs_world_sites.specs.Sites.{Each, SitesValue}
 use Rattle.qs_world_traces.proofs.LinksBring.{each_link_brings}
 
@@ -85,6 +87,11 @@ module _ {D : Type 0} (told : Type 0) (state : D → DiskState) (own size : D �
         by : (site : Cast D) × (slice_get old k ≡ Some site) → IsRoomyCell state size (began k) after.node.seat.node
         by (site, got) = room_after k site after got now
 
+  -- whatever becomes of the links then
+  pub refused_rooms : (old new : List (Cast D)) → IsRefusedBurst told state own size turns old new → AreSitesIn told state o plans old → AreRoomySites state size began old → AreRoomySites state size began new
+  refused_rooms old new it was rooms = rooms_same state size began it.burst new it.same.count (λ n a b a_is b_is. (it.same.each n a b a_is b_is).node)
+      (rooms_after old it.burst it.some was (leaves told state own size o plans turns old it.burst t it.some it.joined was) rooms)
+
   -- ---- one in which none was, and the round behind it
 
   burst_some : (old new : List (Cast D)) → Bursts told state own size turns old new → Each (TakesSome told state own size turns) old new
@@ -93,8 +100,9 @@ module _ {D : Type 0} (told : Type 0) (state : D → DiskState) (own size : D �
   pub burst_rooms : (old mid : List (Cast D)) → Bursts told state own size turns old mid → AreSitesIn told state o plans old → AreSitesIn told state o plans mid → AreRoomySites state size began old → AreRoomySites state size began mid
   burst_rooms old mid b was there rooms = rooms_after old mid (burst_some old mid b) was (each_cells told state o plans mid there) rooms
 
-  round_room : (old new : SitesValue D) → AreSitesIn told state o plans old.sites → IsRoundBehind told state own size turns old new → AreRoomySites state size began old.sites → AreRoomySites state size began new.sites
-  round_room old new was r rooms = each_round told state own size o plans began r.order r.burst new r.quiet t opens there r.round
+  pub round_room : (order : List ℕ) (old new : SitesValue D) (quiet : Bool) → AreSitesIn told state o plans old.sites → IsRoundBehind told state own size turns order old new quiet → AreRoomySites state size began old.sites
+      → AreRoomySites state size began new.sites
+  round_room order old new quiet was r rooms = each_round told state own size o plans began order r.burst new quiet t opens there r.round
       (burst_rooms old.sites r.burst.sites r.bursts was there rooms)
     where
       there : AreSitesIn told state o plans r.burst.sites
@@ -107,9 +115,9 @@ module _ {D : Type 0} (told : Type 0) (state : D → DiskState) (own size : D �
 
   rounds_room : (n : ℕ) (old new : SitesValue D) → RoundsBehind told state own size turns n old new → Stay old.sites → Stay new.sites
   rounds_room zero old new same was = subst (λ (s : SitesValue D). Stay s.sites) (sym same) was
-  rounds_room (suc n) old new (mid, (before, round)) was =
+  rounds_room (suc n) old new (mid, (before, (order, (quiet, round)))) was =
       let between : Stay mid.sites = rounds_room n old mid before was in
-      record { are = each_round_behind told state own size o plans turns mid new t round between.are; rooms = round_room mid new between.are round between.rooms }
+      record { are = each_round_behind told state own size o plans turns order mid new quiet t round between.are; rooms = round_room order mid new quiet between.are round between.rooms }
 
 -- ---- the laws
 
@@ -118,10 +126,10 @@ module _ {D : Type 0} (told : Type 0) (state : D → DiskState) (own size : D �
   each_burst_roomy old mid new t opens was b c rooms = burst_rooms told state own size o plans began turns t opens old mid b was (behind told state own size o plans turns old mid new t b c was) rooms
 
   pub each_refused_burst_roomy : (old new : List (Cast D)) → RefusedBurstStaysRoomy told state own size o plans began turns old new
-  each_refused_burst_roomy old new t opens was e fifo rooms = rooms_after told state own size o plans began turns t opens old new e was (each_refused_burst told state own size o plans turns old new t e fifo was) rooms
+  each_refused_burst_roomy old new t opens was it rooms = refused_rooms told state own size o plans began turns t opens old new it was rooms
 
-  pub each_round_behind_roomy : (old new : SitesValue D) → RoundBehindStaysRoomy told state own size o plans began turns old new
-  each_round_behind_roomy old new t opens was r rooms = round_room told state own size o plans began turns t opens old new was r rooms
+  pub each_round_behind_roomy : (order : List ℕ) (old new : SitesValue D) (quiet : Bool) → RoundBehindStaysRoomy told state own size o plans began turns order old new quiet
+  each_round_behind_roomy order old new quiet t opens was r rooms = round_room told state own size o plans began turns t opens order old new quiet was r rooms
 
   pub each_rounds_behind_roomy : (n : ℕ) (old new : SitesValue D) → RoundsBehindStayRoomy told state own size o plans began turns n old new
   each_rounds_behind_roomy n old new t opens was r rooms = (rounds_room told state own size o plans began turns t opens n old new r (record { are = was; rooms = rooms })).rooms

@@ -1,7 +1,7 @@
 -- A site whose node has room in its log has it behind its turns in a burst, and where memory was refused in one of them.
-use Rattle.std.proofs.Common.{◌⊎◌, true, ◌≡◌, ◌∙◌, ap, inl, inr, subst, sym, ℕ, zero, suc, Bool, List, map}
+use Rattle.std.proofs.Common.{◌≡◌, ◌∙◌, ap, inl, inr, subst, sym, ℕ, zero, suc, Bool, List}
 use Rattle.qs_cell.specs.Starts.{CellValue, post_of, trace_of}
-use Rattle.qs_cell.specs.State.{Up, cause_of}
+use Rattle.qs_cell.specs.State.{Up}
 use Rattle.qs_cell.specs.WholeVisits.{steps_in}
 use Rattle.qs_cell.specs.declared.state.CellState.{CellState}
 use Rattle.qs_cell.specs.declared.state.CellState.TheVariants as states
@@ -11,9 +11,6 @@ use Rattle.qs_link.specs.declared.ends.NodeEnds.{NodeEnds}
 use Rattle.qs_node_step.specs.declared.trace.Step.{Step}
 use Rattle.qs_world.specs.World.{Opening}
 use Rattle.qs_world_bursts.proofs.Turning.{clients_alone, each_turn, turn_tells}
-use Rattle.qs_world_bursts.specs.Acts.{Acts}
-use Rattle.qs_world_bursts.specs.Refused.{ActIsRefused, BreaksAct, TakesSome, TurnIsRefused}
-use Rattle.qs_world_bursts.specs.Turns.{TakesTurn, TakesTurns}
 use Rattle.qs_world_bursts_left.proofs.Acts.{act_keeps, broken_act_room}
 use Rattle.qs_world_links.specs.Posts.{IsOfNode, IsPostOf}
 use Rattle.qs_world_nodes.proofs.Carrying.{IsSamePost, same_cell}
@@ -21,7 +18,8 @@ use Rattle.qs_world_one.specs.Rooms.{Began, IsRoomyCell}
 use Rattle.qs_world_rooms.proofs.Amid.{IsFront}
 use Rattle.qs_world_rooms.proofs.InOneRun.{IsFresh}
 use Rattle.qs_world_rooms.proofs.OnWay.{Keeps}
-use Rattle.qs_world_rounds.specs.Rounds.{Cast, VisitAll, is_refused}
+use Rattle.qs_world_rounds.specs.Rounds.{Cast, VisitAll}
+use Rattle.qs_world_rounds.specs.Turns.{ActIsRefused, IsRefusedInAct, TakesSome, TakesTurn, TakesTurns, TurnIsRefused, client_places}
 use Rattle.qs_world_seats.proofs.SitesGoOn.{each_site_carries, each_visit_all}
 use Rattle.qs_world_seats.specs.Reached.{IsInWorld}
 use Rattle.qs_world_seats.specs.Sites.{IsSiteIn}
@@ -38,18 +36,18 @@ module _ {D : Type 0} (told : Type 0) (state : D → DiskState) (own size : D �
 
   -- ---- what comes before the node acts
 
-  module _ (old carried visited : Cast D) (carries : CarriesLanes old carried) (clients : List ℕ) (did : Bool) (visits : VisitAll told state own size (map suc clients) carried visited did) (was : Stays old) where
+  module _ (old carried visited : Cast D) (carries : CarriesLanes old carried) (did : Bool) (visits : VisitAll told state own size (client_places carried.clients) carried visited did) (was : Stays old) where
     same : IsSamePost (post_of old.node) (post_of carried.node)
     same = same_cell old.node carried.node old.clients carried.clients carries
 
     alone : visited.node ≡ carried.node
-    alone = clients_alone told state own size clients carried visited did visits
+    alone = clients_alone told state own size carried.clients carried visited did visits
 
     node_is : visited.node.seat.node ≡ old.node.seat.node
     node_is = ap (λ (c : CellValue D). c.seat.node) alone ∙ same.0
 
     visited_in : IsSiteIn told state o k visited
-    visited_in = each_visit_all told state own size o k (map suc clients) carried visited did t visits (each_site_carries told state o k old carried carries was.there)
+    visited_in = each_visit_all told state own size o k (client_places carried.clients) carried visited did t visits (each_site_carries told state o k old carried carries was.there)
 
     visited_of : IsPostOf o.size k (post_of visited.node)
     visited_of = record {
@@ -77,10 +75,10 @@ module _ {D : Type 0} (told : Type 0) (state : D → DiskState) (own size : D �
     where
       keeps : Keeps told state own size o k turn.visited.clients began t first last (fresh turn.visited.clients) new.node.seat.node
       keeps = act_keeps told state own size o k turn.visited.clients began t first last (fresh turn.visited.clients) (post_of turn.visited.node) (post_of new.node)
-          (visited_of old turn.carried turn.visited turn.carries turn.clients turn.did turn.visits was)
-          (visited_in old turn.carried turn.visited turn.carries turn.clients turn.did turn.visits was).lanes
-          (visited_in old turn.carried turn.visited turn.carries turn.clients turn.did turn.visits was).there.there
-          (visited_keeps old turn.carried turn.visited turn.carries turn.clients turn.did turn.visits was) turn.acts
+          (visited_of old turn.carried turn.visited turn.carries turn.did turn.visits was)
+          (visited_in old turn.carried turn.visited turn.carries turn.did turn.visits was).lanes
+          (visited_in old turn.carried turn.visited turn.carries turn.did turn.visits was).there.there
+          (visited_keeps old turn.carried turn.visited turn.carries turn.did turn.visits was) turn.act.acts
 
   pub turns_stay : (turns : ℕ) (old new : Cast D) → TakesTurns told state own size turns old new → Stays old → Stays new
   turns_stay zero old new same was = subst Stays (sym same) was
@@ -92,15 +90,15 @@ module _ {D : Type 0} (told : Type 0) (state : D → DiskState) (own size : D �
   act_room old new r was till = by r.refused
     where
       of : IsPostOf o.size k (post_of r.visited.node)
-      of = visited_of old r.carried r.visited r.carries r.clients r.did r.visits was
+      of = visited_of old r.carried r.visited r.carries r.did r.visits was
 
       into : IsSiteIn told state o k r.visited
-      into = visited_in old r.carried r.visited r.carries r.clients r.did r.visits was
+      into = visited_in old r.carried r.visited r.carries r.did r.visits was
 
       keeps : Keeps told state own size o k r.visited.clients began t first last (fresh r.visited.clients) r.visited.node.seat.node
-      keeps = visited_keeps old r.carried r.visited r.carries r.clients r.did r.visits was
+      keeps = visited_keeps old r.carried r.visited r.carries r.did r.visits was
 
-      by : BreaksAct told state own size (post_of r.visited.node) (post_of new.node) ⊎ (Acts told state own size (post_of r.visited.node) (post_of new.node) × (is_refused (cause_of new.node.seat.node) ≡ true)) → IsRoomyCell state size began new.node.seat.node
+      by : IsRefusedInAct told state own size r.visited.node new.node → IsRoomyCell state size began new.node.seat.node
       by (inl breaks) = broken_act_room told state own size o k r.visited.clients began t first last (fresh r.visited.clients) (post_of r.visited.node) (post_of new.node) of into.lanes into.there.there keeps breaks till
       by (inr (acts, refused)) = (act_keeps told state own size o k r.visited.clients began t first last (fresh r.visited.clients) (post_of r.visited.node) (post_of new.node) of into.lanes into.there.there keeps acts).room till
 

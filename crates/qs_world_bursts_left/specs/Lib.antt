@@ -1,4 +1,4 @@
 -- Room through bursts.
 pub mod Rooms
--- How a run in bursts ends, and what it leaves.
+-- What a run leaves, whichever way it ends.
 pub mod Endings

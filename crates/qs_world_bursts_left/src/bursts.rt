@@ -1,5 +1,5 @@
 //! Room through bursts, and through rounds behind them.
-ghost use Rattle.std.specs.Prelude.{ℕ, List};
+ghost use Rattle.std.specs.Prelude.{ℕ, Bool, List};
 ghost use Rattle.std.specs.Global.{Global};
 ghost use Rattle.qs_book_script.specs.declared.script.Script.{Script};
 ghost use Rattle.qs_link.specs.declared.outgoing.LinkFault.{LinkFault};
@@ -18,7 +18,7 @@ use qs_world_opening::what_fits_may_begin;
 pub fn bursts_stay_roomy<D: Disk>()
     ensures burst { (o : Opening) (plans : ℕ → ℕ → List LinkFault) (began : ℕ → Began) (turns : ℕ) (old mid new : List (Cast D)) → BurstStaysRoomy D.told D.state D.fault_count D.byte_count o plans began turns old mid new }
     ensures refused { (o : Opening) (plans : ℕ → ℕ → List LinkFault) (began : ℕ → Began) (turns : ℕ) (old new : List (Cast D)) → RefusedBurstStaysRoomy D.told D.state D.fault_count D.byte_count o plans began turns old new }
-    ensures round { (o : Opening) (plans : ℕ → ℕ → List LinkFault) (began : ℕ → Began) (turns : ℕ) (old new : SitesValue D) → RoundBehindStaysRoomy D.told D.state D.fault_count D.byte_count o plans began turns old new }
+    ensures round { (o : Opening) (plans : ℕ → ℕ → List LinkFault) (began : ℕ → Began) (turns : ℕ) (order : List ℕ) (old new : SitesValue D) (quiet : Bool) → RoundBehindStaysRoomy D.told D.state D.fault_count D.byte_count o plans began turns order old new quiet }
     ensures rounds { (o : Opening) (plans : ℕ → ℕ → List LinkFault) (began : ℕ → Began) (turns n : ℕ) (old new : SitesValue D) → RoundsBehindStayRoomy D.told D.state D.fault_count D.byte_count o plans began turns n old new }
 {}
 

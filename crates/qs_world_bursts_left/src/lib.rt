@@ -1,8 +1,8 @@
-//! What a run leaves that makes a burst before each of its rounds.
+//! What a run leaves by whichever schedule its rounds follow one another.
 #![tactic(auto)]
 
 mod bursts;
 mod endings;
 
 pub use bursts::{bursts_stay_roomy, rounds_behind_bursts_leave_room};
-pub use endings::runs_in_bursts_leave_all;
+pub use endings::runs_leave_all;

@@ -47,7 +47,7 @@ each_may_begin may told state own alloc script disks all t begun fits coherent =
     may (opening_over alloc script disks all.sites)
     (fits.opens alloc (λ n. inc_by (slice_get all.sites n)) (λ n. log_by (slice_get all.sites n)) (later told state own alloc script disks all t begun)) coherent
 
-lawful_of : EachJournalLawful → (o : Opening) (plans : _) (journal : List Entry) (trace : List Step) → IsOpening o → IsTraced o plans journal trace → IsLawful (book_of o) journal
+pub lawful_of : EachJournalLawful → (o : Opening) (plans : _) (journal : List Entry) (trace : List Step) → IsOpening o → IsTraced o plans journal trace → IsLawful (book_of o) journal
 lawful_of lawful o plans journal trace opening traced =
     subst (IsLawful (book_of o)) traced.run.journal_is (lawful o (untimed traced.run.moves) traced.run.world opening traced.run.run)
 

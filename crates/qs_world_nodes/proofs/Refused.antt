@@ -14,7 +14,7 @@ use Rattle.qs_world_links.proofs.Keeping.{each_took}
 use Rattle.qs_world_links.proofs.Refused.{each_break, each_restart_takes, each_visit_takes}
 use Rattle.qs_world_links.specs.Posts.{IsPostOf, TellsOfTakes, trace_in}
 use Rattle.qs_world_nodes.proofs.Carrying.{each_carries, each_of}
-use Rattle.qs_world_nodes.proofs.Keeping.{keep, keep_at}
+use Rattle.qs_world_nodes.proofs.Keeping.{each_cells, keep_at}
 use Rattle.qs_world_nodes.proofs.Places.{found, post_there, posts_at, same_some, set_length, set_other}
 use Rattle.qs_world_nodes.proofs.Visiting.{each_visit}
 use Rattle.qs_world_nodes.proofs.Visiting as visiting
@@ -107,23 +107,23 @@ module _ {D : Type 0} (told : Type 0) (state : D → DiskState) (own size : D �
   until (place ∷ places) old new t (inl (refused, turns)) was = of_turn (slice_get old.turns place) old.sites new.sites t refused was
   until (place ∷ places) old new t (inr (mid, (did, (visit, rest)))) was = until places mid new t rest (each_visit told state own size o plans place old mid did t visit was)
 
-  -- ---- as the round began
+  -- ---- nothing happens at any node, whatever becomes of the links
 
-  module _ (old new : List (Cast D)) (same : Each HasSameCell old new) (was : AreSitesIn told state o plans old) where
+  module _ (old new : List (Cast D)) (same : Each HasSameCell old new) (was : Cells old) where
     same_at : (n : ℕ) → n < length old → trace_at new n ≡ trace_at old n
     same_at n low = by (found old n low) (found new n (omega (arith, same.count, low)))
       where
         by : (a : Cast D) × (slice_get old n ≡ Some a) → (b : Cast D) × (slice_get new n ≡ Some b) → trace_at new n ≡ trace_at old n
         by (a, a_is) (b, b_is) = ap trace_by b_is ∙ (ap (λ (x : CellState D). (carried_of x).chronicle.told.trace) (same.each n a b a_is b_is).node ∙ sym (ap trace_by a_is))
 
-    same_cells : Cells new
+    pub same_cells : Cells new
     same_cells = record {
       count = same.count ∙ was.count;
-      each = each_of HasSameCell CellAt old new same (λ n a b has there. subst (λ (x : CellState D). IsCellIn told state o n x) (sym has.node) there) (λ n a is. each_site_cell told state o n a (was.each n a is));
+      each = each_of HasSameCell CellAt old new same (λ n a b has there. subst (λ (x : CellState D). IsCellIn told state o n x) (sym has.node) there) was.each;
       keep = λ n m low_n low_m apart. subst (λ (l : List Step). IsTakenByPlan (plans m n) (put_to n l) (took_from m (trace_at new n))) (sym (same_at m (omega (arith, was.count, low_m))))
-          (subst (λ (l : List Step). IsTakenByPlan (plans m n) (put_to n (trace_at old m)) (took_from m l)) (sym (same_at n (omega (arith, was.count, low_n)))) (keep told state o plans old was n m low_n low_m apart));
+          (subst (λ (l : List Step). IsTakenByPlan (plans m n) (put_to n (trace_at old m)) (took_from m l)) (sym (same_at n (omega (arith, was.count, low_n)))) (was.keep n m low_n low_m apart));
     }
 
   pub each_refused : (order : List ℕ) (old new : SitesValue D) → RefusedRoundLeaves told state own size o plans order old new
-  each_refused order old new t (inl same) was = same_cells old.sites new.sites same was
+  each_refused order old new t (inl same) was = same_cells old.sites new.sites same (each_cells told state o plans old.sites was)
   each_refused order old new t (inr it) was = until order it.carried new t it.visits (each_carries told state o plans old.sites it.carried.sites it.carries was)

@@ -7,7 +7,7 @@ mod plan;
 mod spending;
 mod waits;
 
-pub use order::Orders;
+pub use order::{Orders, list_places};
 pub use plan::{NODE, NODE_COUNT, commands_of, crashes_of, points_of, setting_of, stops_of};
 pub use spending::{MOST_DISK_CRASHES, budget, budget_of, disk_crashes};
 pub use waits::waiting_of;

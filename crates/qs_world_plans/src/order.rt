@@ -29,14 +29,14 @@ impl Orders {
     pub fn draw(&mut self, count: usize, places: &mut Vec<usize>) -> Result<(), NoMemory>
         ensures order { OnOk result ((places.new.items, self.new.rng) ≡ drawn_order count self.old.rng) }
     {
-        fill(places, count)?;
+        list_places(places, count)?;
         shuffle(&mut self.rng, places);
         Ok(())
     }
 }
 
-/// The places in order.
-fn fill(places: &mut Vec<usize>, count: usize) -> Result<(), NoMemory>
+/// Puts the places of so many actors, from 0 on, into the list in place of what it holds. The only error is a refusal of memory.
+pub fn list_places(places: &mut Vec<usize>, count: usize) -> Result<(), NoMemory>
     ensures places { OnOk result (places.new.items ≡ places_below count) }
     ensures count { OnOk result (length places.new.items ≡ count) }
 {

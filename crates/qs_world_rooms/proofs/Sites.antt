@@ -51,7 +51,7 @@ module _ {D : Type 0} (state : D → DiskState) (size : D → ℕ) (began : ℕ 
 
   module _ (olds news : List (Cast D)) (count : length news ≡ length olds)
       (same : (n : ℕ) (a b : Cast D) → slice_get olds n ≡ Some a → slice_get news n ≡ Some b → b.node.seat.node ≡ a.node.seat.node) where
-    rooms_same : AreRoomySites state size began olds → AreRoomySites state size began news
+    pub rooms_same : AreRoomySites state size began olds → AreRoomySites state size began news
     rooms_same was n b b_is = by (found olds n (omega (arith, low_of news n b b_is, count)))
       where
         by : (a : Cast D) × (slice_get olds n ≡ Some a) → IsRoomyCell state size (began n) b.node.seat.node

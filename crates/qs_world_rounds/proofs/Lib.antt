@@ -4,3 +4,5 @@ pub mod Repeats
 pub mod Joining
 -- The clients of a script at their seats.
 pub mod Placing
+-- Turns in a burst.
+pub mod Turning

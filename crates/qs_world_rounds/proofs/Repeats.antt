@@ -1,6 +1,5 @@
 -- Visits one after the other, up to one that is cut short, and one round more, whatever is visited.
 use Rattle.std.proofs.Common.{◌≡◌, ◌∙◌, ◌<◌, ap, subst, sym, refl, inl, inr, ℕ, zero, suc, ◌+◌, Bool, true, false, ◌||◌, List, [], ◌∷◌, ◌++◌, length, take, drop, get_or, arith}
-use Rattle.qs_world_plans.specs.Order.{drawn_order}
 use Rattle.qs_world_rounds.specs.Repeats.{AllVisits, RoundsBy, Visit, VisitsUpTo}
 use Rattle.rand_pcg.specs.Lcg.{Lcg}
 
@@ -26,11 +25,11 @@ or_assoc true b e = refl
 or_assoc false b e = refl
 
 module _ {S : Type 0} (At : Visit S) where
-  more : (xs : List ℕ) (p : ℕ) (a b c : S) (d e : Bool) → AllVisits At xs a b d → At p b c e
+  pub visits_then : (xs : List ℕ) (p : ℕ) (a b c : S) (d e : Bool) → AllVisits At xs a b d → At p b c e
       → AllVisits At (xs ++ p ∷ []) a c (d || e)
-  more [] p a b c d e all visit =
+  visits_then [] p a b c d e all visit =
       (c, (e, (false, (subst (λ (x : S). At p x c e) all.0 visit, ((refl, refl), or_rest d e all.1)))))
-  more (x ∷ xs) p a b c d e all visit = (
+  visits_then (x ∷ xs) p a b c d e all visit = (
     all.0,
     (
       all.1.0,
@@ -39,7 +38,7 @@ module _ {S : Type 0} (At : Visit S) where
         (
           all.1.1.1.0,
           (
-            more xs p all.0 b c all.1.1.0 e all.1.1.1.1.0 visit,
+            visits_then xs p all.0 b c all.1.1.0 e all.1.1.1.1.0 visit,
             ap (λ (z : Bool). z || e) all.1.1.1.1.1 ∙ or_assoc all.1.0 all.1.1.0 e,
           ),
         ),
@@ -59,7 +58,7 @@ module _ {S : Type 0} (At : Visit S) where
   visits_more xs i p q a b c d e less is all visit =
       subst (λ (l : List ℕ). AllVisits At l a c (d || e))
       (sym (ap (λ (n : ℕ). take n xs) (one_more i) ∙ take_more xs i q less ∙ ap (λ (x : ℕ). take i xs ++ x ∷ []) (sym is)))
-      (more (take i xs) p a b c d e all visit)
+      (visits_then (take i xs) p a b c d e all visit)
 
   -- the place at which the disk failed, or memory was refused
   pub visits_until : (Comes : ℕ → S → S → Type 0) (xs : List ℕ) (i p q : ℕ) (a b c : S) (d : Bool) → i < length xs → p ≡ get_or xs i q
@@ -70,23 +69,23 @@ module _ {S : Type 0} (At : Visit S) where
 
 -- ---- one more round
 
-module _ {S : Type 0} (count : S → ℕ) (Is : List ℕ → S → S → Bool → Type 0) where
-  further : (rng : Lcg) (n : ℕ) (a b c : S) (later : Lcg) (quiet : Bool) → RoundsBy count Is rng n a b later
-      → Is (drawn_order (count b) later).0 b c quiet → RoundsBy count Is rng (suc n) a c (drawn_order (count b) later).1
+module _ {S : Type 0} (draw : ℕ → Lcg → List ℕ × Lcg) (count : S → ℕ) (Is : List ℕ → S → S → Bool → Type 0) where
+  further : (rng : Lcg) (n : ℕ) (a b c : S) (later : Lcg) (quiet : Bool) → RoundsBy draw count Is rng n a b later
+      → Is (draw (count b) later).0 b c quiet → RoundsBy draw count Is rng (suc n) a c (draw (count b) later).1
   further rng zero a b c later quiet all last =
-      subst (λ (l : Lcg). RoundsBy count Is rng 1 a c (drawn_order (count b) l).1) (sym all.1)
-      (subst (λ (x : S). RoundsBy count Is rng 1 a c (drawn_order (count x) rng).1) (sym all.0)
+      subst (λ (l : Lcg). RoundsBy draw count Is rng 1 a c (draw (count b) l).1) (sym all.1)
+      (subst (λ (x : S). RoundsBy draw count Is rng 1 a c (draw (count x) rng).1) (sym all.0)
       (c, (quiet, (here, (refl, refl)))))
     where
-      here : Is (drawn_order (count a) rng).0 a c quiet
+      here : Is (draw (count a) rng).0 a c quiet
       here =
-          subst (λ (x : S). Is (drawn_order (count x) rng).0 x c quiet) all.0
-          (subst (λ (l : Lcg). Is (drawn_order (count b) l).0 b c quiet) all.1 last)
+          subst (λ (x : S). Is (draw (count x) rng).0 x c quiet) all.0
+          (subst (λ (l : Lcg). Is (draw (count b) l).0 b c quiet) all.1 last)
   further rng (suc n) a b c later quiet all last =
-      (all.0, (all.1.0, (all.1.1.0, further (drawn_order (count a) rng).1 n all.0 b c later quiet all.1.1.1 last)))
+      (all.0, (all.1.0, (all.1.1.0, further (draw (count a) rng).1 n all.0 b c later quiet all.1.1.1 last)))
 
-  pub rounds_more : (rng : Lcg) (n : ℕ) (a b c : S) (later next : Lcg) (quiet : Bool) → RoundsBy count Is rng n a b later
-      → Is (drawn_order (count b) later).0 b c quiet → next ≡ (drawn_order (count b) later).1 → RoundsBy count Is rng (n + 1) a c next
+  pub rounds_more : (rng : Lcg) (n : ℕ) (a b c : S) (later next : Lcg) (quiet : Bool) → RoundsBy draw count Is rng n a b later
+      → Is (draw (count b) later).0 b c quiet → next ≡ (draw (count b) later).1 → RoundsBy draw count Is rng (n + 1) a c next
   rounds_more rng n a b c later next quiet all last is =
-      subst (λ (k : ℕ). RoundsBy count Is rng k a c next) (sym (one_more n))
-      (subst (λ (l : Lcg). RoundsBy count Is rng (suc n) a c l) (sym is) (further rng n a b c later quiet all last))
+      subst (λ (k : ℕ). RoundsBy draw count Is rng k a c next) (sym (one_more n))
+      (subst (λ (l : Lcg). RoundsBy draw count Is rng (suc n) a c l) (sym is) (further rng n a b c later quiet all last))

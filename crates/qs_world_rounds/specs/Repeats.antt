@@ -1,6 +1,5 @@
 -- Visits one after the other, and rounds of them, whatever is visited.
 use Rattle.std.specs.Prelude.{◌≡◌, ◌⊎◌, ℕ, zero, suc, Bool, false, ◌||◌, List, [], ◌∷◌}
-use Rattle.qs_world_plans.specs.Order.{drawn_order}
 use Rattle.rand_pcg.specs.Lcg.{Lcg}
 
 -- what the visit of the actor at a place is, and whether anything was done in it
@@ -19,8 +18,8 @@ VisitsUpTo At Comes [] old new = ⊥
 VisitsUpTo {S} At Comes (place ∷ places) old new =
     Comes place old new ⊎ ((mid : S) × ((did : Bool) × (At place old mid did × VisitsUpTo At Comes places mid new)))
 
--- so many rounds of so many actors, in orders that are drawn one after the other
-abbrev pub RoundsBy : {S : Type 0} → (S → ℕ) → (List ℕ → S → S → Bool → Type 0) → Lcg → ℕ → S → S → Lcg → Type 0
-RoundsBy count Is rng zero old new later = (new ≡ old) × (later ≡ rng)
-RoundsBy {S} count Is rng (suc n) old new later =
-    (mid : S) × ((quiet : Bool) × (Is (drawn_order (count old) rng).0 old mid quiet × RoundsBy count Is (drawn_order (count old) rng).1 n mid new later))
+-- so many rounds of so many actors, in orders that are drawn so, one after the other
+abbrev pub RoundsBy : {S : Type 0} → (ℕ → Lcg → List ℕ × Lcg) → (S → ℕ) → (List ℕ → S → S → Bool → Type 0) → Lcg → ℕ → S → S → Lcg → Type 0
+RoundsBy draw count Is rng zero old new later = (new ≡ old) × (later ≡ rng)
+RoundsBy {S} draw count Is rng (suc n) old new later =
+    (mid : S) × ((quiet : Bool) × (Is (draw (count old) rng).0 old mid quiet × RoundsBy draw count Is (draw (count old) rng).1 n mid new later))

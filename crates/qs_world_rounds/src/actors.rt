@@ -1,5 +1,5 @@
 //! The actors of a node, itself and its clients, in a round of which each is visited once.
-ghost use Rattle.std.specs.Prelude.{◌≡◌, true, ◌<◌, IfOk, OnOk, Err};
+ghost use Rattle.std.specs.Prelude.{◌≡◌, ◌||◌, true, ◌<◌, length, suc, IfOk, OnErr, OnOk, Err};
 ghost use Rattle.qs_base.specs.declared.identifiers.NodeNo.{NodeNo};
 ghost use Rattle.qs_cell.specs.Logged.{most_rounds};
 ghost use Rattle.qs_cell.specs.Starts.{journal_of};
@@ -9,16 +9,18 @@ ghost use Rattle.qs_link.specs.Lane.{IsLane};
 ghost use Rattle.qs_world_rounds.specs.Breaks.{FailsAt, RefusedAt};
 ghost use Rattle.qs_world_rounds.specs.Lanes.{AreJoined};
 ghost use Rattle.std.specs.List.{list_all};
-ghost use Rattle.qs_world_rounds.specs.Rounds.{has_ended, IsSameStart, VisitAt, CarriesAll, all_ended, are_settled, visits_of};
+ghost use Rattle.qs_world_rounds.specs.Rounds.{has_ended, IsSameStart, VisitAll, VisitAt, CarriesAll, all_ended, are_settled, visits_of};
+ghost use Rattle.qs_world_rounds.specs.Turns.{ActsInTurn, IsRefusedInAct, TakesSome, TakesTurn, TakesTurns, TurnIsRefused, client_places};
 ghost use Rattle.qs_world_rounds.specs.declared.faults.RoundFault.TheVariants as faults;
 
 use crate::faults::RoundFault;
 use crate::lanes::carry_all;
-use crate::visits::{visit_client, visit_node};
+use crate::visits::{act_in_burst, visit_client, visit_node};
 use qs_base::NoMemory;
 use qs_cell::NodeCell;
 use qs_client::ClientCell;
 use qs_disk::Disk;
+use qs_io::Gate;
 use std::marker::Model;
 
 /// The node, and its clients by number. In the order of a round the node has place 0, and the clients have the places behind
@@ -104,6 +106,69 @@ impl<D: Disk> Actors<D> {
         Ok(did)
     }
 
+    /// So many turns in a burst, whatever other sites do meanwhile: in each what stands in the lanes is carried, each client has its visit, and the
+    /// node acts, of which the gate is told before. After `NoMemory`, which comes where memory was refused, be it within a step of the node,
+    /// the turns before that one were taken.
+    pub fn take_turns<G: Gate>(&mut self, gate: &G, turns: u32) -> Result<(), NoMemory>
+        ensures turns { OnOk result (TakesTurns D.told D.state D.fault_count D.byte_count turns self.old self.new) }
+        ensures some { TakesSome D.told D.state D.fault_count D.byte_count turns self.old self.new }
+        ensures start { IsSameStart self.old.node self.new.node }
+        ensures grows { Grows (journal_of self.old.node) (journal_of self.new.node) }
+        ensures linked { StayLinked self.old.node.links self.new.node.links }
+    {
+        for _ in 0..turns {
+            self.take_turn(gate)?;
+        }
+        Ok(())
+    }
+
+    fn take_turn<G: Gate>(&mut self, gate: &G) -> Result<(), NoMemory>
+        ensures turn { OnOk result (TakesTurn D.told D.state D.fault_count D.byte_count self.old self.new) }
+        ensures refused { OnErr result (TurnIsRefused D.told D.state D.fault_count D.byte_count self.old self.new) }
+        ensures start { IsSameStart self.old.node self.new.node }
+        ensures grows { Grows (journal_of self.old.node) (journal_of self.new.node) }
+        ensures linked { StayLinked self.old.node.links self.new.node.links }
+    {
+        self.carry()?;
+        self.visit_clients()?;
+        gate.pass(self.node.node(), self.node.acts().saturating_add(1));
+        self.act()
+    }
+
+    /// The visit of each client. Whether anything was done in one is answered.
+    fn visit_clients(&mut self) -> Result<bool, NoMemory>
+        ensures visits { IfOk result (VisitAll D.told D.state D.fault_count D.byte_count (client_places self.old.clients) self.old self.new) }
+        ensures node { self.new.node ≡ self.old.node }
+    {
+        let mut did = false;
+        for at in 0..self.clients.len() {
+            let more = self.visit_one(at)?;
+            did = either(did, more);
+        }
+        Ok(did)
+    }
+
+    /// The visit of the client at that place.
+    fn visit_one(&mut self, at: usize) -> Result<bool, NoMemory>
+        ensures visits { IfOk result (VisitAt D.told D.state D.fault_count D.byte_count (suc at) self.old self.new) }
+        ensures node { self.new.node ≡ self.old.node }
+        ensures count { length self.new.clients ≡ length self.old.clients }
+    {
+        visit_client(&mut self.clients, at)
+    }
+
+    /// The act of the node.
+    fn act(&mut self) -> Result<(), NoMemory>
+        ensures acts { OnOk result (ActsInTurn D.told D.state D.fault_count D.byte_count self.old.node self.new.node) }
+        ensures refused { OnErr result (IsRefusedInAct D.told D.state D.fault_count D.byte_count self.old.node self.new.node) }
+        ensures clients { self.new.clients ≡ self.old.clients }
+        ensures start { IsSameStart self.old.node self.new.node }
+        ensures grows { Grows (journal_of self.old.node) (journal_of self.new.node) }
+        ensures linked { StayLinked self.old.node.links self.new.node.links }
+    {
+        act_in_burst(&mut self.node)
+    }
+
     /// Whether each client stands at the end of its script.
     pub fn all_ended(&self) -> bool
         ensures { result ≡ all_ended self.now }
@@ -129,4 +194,10 @@ fn has_ended(client: &ClientCell) -> bool
     ensures { result ≡ has_ended client.now }
 {
     client.at().is_none()
+}
+
+fn either(first: bool, second: bool) -> bool
+    ensures { result ≡ (first || second) }
+{
+    first || second
 }

@@ -1,5 +1,5 @@
 //! The visits of a round: of the node, and of a client.
-ghost use Rattle.std.specs.Prelude.{◌≡◌, ◌<◌, false, true, List, length, slice_get, Err, IfOk, OnErr};
+ghost use Rattle.std.specs.Prelude.{◌≡◌, ◌<◌, false, true, List, length, slice_get, Err, IfOk, OnErr, OnOk};
 ghost use Rattle.qs_base.specs.declared.identifiers.NodeNo.{NodeNo};
 ghost use Rattle.qs_cell.specs.Joined.{StayJoined};
 ghost use Rattle.qs_cell.specs.Logged.{most_rounds};
@@ -11,6 +11,7 @@ ghost use Rattle.qs_link.specs.declared.ends.NodeEnds.{NodeEnds};
 ghost use Rattle.qs_world_rounds.specs.Breaks.{NodeFails, NodeRefusedIf};
 ghost use Rattle.qs_world_rounds.specs.Lanes.{AllJoined};
 ghost use Rattle.qs_world_rounds.specs.Rounds.{ClientVisitAt, IsSameStart, NodeActs, NodeStarts, NodeVisit, is_refused, is_up};
+ghost use Rattle.qs_world_rounds.specs.Turns.{ActsInTurn, IsRefusedInAct};
 ghost use Rattle.qs_world_rounds.specs.declared.faults.RoundFault.TheVariants as faults;
 
 use crate::faults::RoundFault;
@@ -55,6 +56,22 @@ fn act<D: Disk>(node: &mut NodeCell<D>) -> Result<bool, NoMemory>
         return Err(NoMemory);
     }
     Ok(visited.sent || visited.noted)
+}
+
+/// The act of a node in a burst. `NoMemory` comes where memory was refused, be it within a step.
+pub fn act_in_burst<D: Disk>(node: &mut NodeCell<D>) -> Result<(), NoMemory>
+    ensures acts { OnOk result (ActsInTurn D.told D.state D.fault_count D.byte_count node.old node.new) }
+    ensures refused { OnErr result (IsRefusedInAct D.told D.state D.fault_count D.byte_count node.old node.new) }
+    ensures start { IsSameStart node.old node.new }
+    ensures grows { Grows (journal_of node.old) (journal_of node.new) }
+    ensures joined { StayJoined node.old.seat.ends node.new.seat.ends }
+    ensures linked { StayLinked node.old.links node.new.links }
+{
+    node.act()?;
+    if is_refused(node.cause()) {
+        return Err(NoMemory);
+    }
+    Ok(())
 }
 
 /// Whether a node stopped for want of memory.

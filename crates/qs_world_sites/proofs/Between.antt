@@ -1,15 +1,17 @@
 -- The links between sites, as they are carried one after the other, until all are.
 use Rattle.std.proofs.Common.{◌≡◌, ◌≢◌, ◌⊎◌, ◌∙◌, ◌<◌, ◌==◌, ◌&&◌, ◌||◌, ap, subst, sym, refl, inl, inr, ℕ, Bool, true, false, List, length, arith}
 use Rattle.std.proofs.lemmas.Bool.Decides.{nat_tests}
-use Rattle.std.specs.Prelude.{Some, Result, Ok, not, slice_get}
+use Rattle.std.specs.Prelude.{Some, Result, Ok, Err, OnOk, not, slice_get}
+use Rattle.std.specs.Result.{result_and}
 use Rattle.qs_base.specs.declared.memory.NoMemory.{NoMemory}
 use Rattle.qs_cell_peers.specs.Links.{CarriesLink, HasCarried, StayLinked, into_of, is_peer_of, out_of}
-use Rattle.qs_link.specs.Lane.{DrawValue}
+use Rattle.qs_link.specs.Lane.{DrawValue, IsFifo}
 use Rattle.qs_link.specs.Plan.{OutgoingValue}
 use Rattle.qs_packet.specs.declared.packet.Packet.{Packet}
 use Rattle.qs_world_rounds.specs.Rounds.{Cast}
 use Rattle.qs_world_sites.proofs.Staying.{each_on, each_same, got_at, got_below, links_none, links_on, peer_at, Got}
-use Rattle.qs_world_sites.specs.Carrying.{CarriesWhere}
+use Rattle.qs_world_sites.specs.Bursts.{AreFifoSites}
+use Rattle.qs_world_sites.specs.Carrying.{CarriesWhere, Comes, WasLookedAt, WasMet}
 use Rattle.qs_world_sites.specs.Sites.{AreLinked, AreLinksCarried, Each, HasOtherLinks, WasCarried, links_of}
 use Rattle.rtrb.specs.Ring.{SameConsumer, SameProducer}
 
@@ -23,28 +25,28 @@ out site m = out_of (links_of site) m
 abbrev into : {D : Type 0} → Cast D → ℕ → DrawValue Packet
 into site n = into_of (links_of site) n
 
-carried_as : (o p q r : OutgoingValue) (i j k l : DrawValue Packet) → q ≡ o → r ≡ p → k ≡ i → l ≡ j → WasCarried o p i j → WasCarried q r k l
-carried_as o p q r i j k l first second third fourth was =
-    subst (λ (x : OutgoingValue). WasCarried x r k l) (sym first) (subst (λ (x : OutgoingValue). WasCarried o x k l) (sym second)
-    (subst (λ (x : DrawValue Packet). WasCarried o p x l) (sym third) (subst (λ (x : DrawValue Packet). WasCarried o p i x) (sym fourth) was)))
+came_as : (Came : Comes) (o p q r : OutgoingValue) (i j k l : DrawValue Packet) → q ≡ o → r ≡ p → k ≡ i → l ≡ j → Came o p i j → Came q r k l
+came_as Came o p q r i j k l first second third fourth was =
+    subst (λ (x : OutgoingValue). Came x r k l) (sym first) (subst (λ (x : OutgoingValue). Came o x k l) (sym second)
+    (subst (λ (x : DrawValue Packet). Came o p x l) (sym third) (subst (λ (x : DrawValue Packet). Came o p i x) (sym fourth) was)))
 
-module _ {D : Type 0} where
-  pub where_none : (xs : List (Cast D)) → CarriesWhere (λ n m. false) xs xs
+module _ {D : Type 0} (Came : Comes) where
+  pub where_none : (xs : List (Cast D)) → CarriesWhere Came (λ n m. false) xs xs
   where_none xs = record {
     others = each_same HasOtherLinks links_none xs;
     moved = λ n m a b c d here there at to apart no. absurd (cc no);
     kept = λ n m a b c d here there at to apart no. (ap (λ (x : Cast D). out x m) (one (sym there ∙ here)), ap (λ (x : Cast D). into x n) (one (sym to ∙ at)));
   }
 
-  pub where_is : (done same : ℕ → ℕ → Bool) (old new : List (Cast D)) → ((n m : ℕ) → n < length old → m < length old → n ≢ m → same n m ≡ done n m) → CarriesWhere done old new → CarriesWhere same old new
+  pub where_is : (done same : ℕ → ℕ → Bool) (old new : List (Cast D)) → ((n m : ℕ) → n < length old → m < length old → n ≢ m → same n m ≡ done n m) → CarriesWhere Came done old new → CarriesWhere Came same old new
   where_is done same old new is carries = record {
     others = carries.others;
     moved = λ n m a b c d here there at to apart done_is. carries.moved n m a b c d here there at to apart (sym (is n m (got_below old n a here) (got_below old m c at) apart) ∙ done_is);
     kept = λ n m a b c d here there at to apart no. carries.kept n m a b c d here there at to apart (sym (is n m (got_below old n a here) (got_below old m c at) apart) ∙ no);
   }
 
-  pub where_on : (first second : ℕ → ℕ → Bool) → ((n m : ℕ) → first n m ≡ true → second n m ≡ false) → (xs ys zs : List (Cast D)) → CarriesWhere first xs ys → CarriesWhere second ys zs
-      → CarriesWhere (λ n m. first n m || second n m) xs zs
+  pub where_on : (first second : ℕ → ℕ → Bool) → ((n m : ℕ) → first n m ≡ true → second n m ≡ false) → (xs ys zs : List (Cast D)) → CarriesWhere Came first xs ys → CarriesWhere Came second ys zs
+      → CarriesWhere Came (λ n m. first n m || second n m) xs zs
   where_on first second apart xs ys zs front back = record {
     others = each_on HasOtherLinks HasOtherLinks HasOtherLinks links_on xs ys zs front.others back.others;
     moved = λ n m a b c d here there at to differ done_is. moves n m a b c d here there at to differ (mid n a here) (mid m c at) (first n m) refl done_is;
@@ -55,15 +57,15 @@ module _ {D : Type 0} where
       mid n a here = got_at ys n (let less = got_below xs n a here in let same = front.others.count in omega arith)
 
       moves : (n m : ℕ) (a b c d : Cast D) → slice_get xs n ≡ Some a → slice_get zs n ≡ Some b → slice_get xs m ≡ Some c → slice_get zs m ≡ Some d → n ≢ m → (x : Got ys n) (y : Got ys m)
-          → (e : Bool) → first n m ≡ e → (e || second n m) ≡ true → WasCarried (out a m) (out b m) (into c n) (into d n)
+          → (e : Bool) → first n m ≡ e → (e || second n m) ≡ true → Came (out a m) (out b m) (into c n) (into d n)
       moves n m a b c d here there at to differ x y true is done_is =
           let was = front.moved n m a x.item c y.item here x.is at y.is differ is in
           let still = back.kept n m x.item b y.item d x.is there y.is to differ (apart n m is) in
-          carried_as (out a m) (out x.item m) (out a m) (out b m) (into c n) (into y.item n) (into c n) (into d n) refl still.0 refl still.1 was
+          came_as Came (out a m) (out x.item m) (out a m) (out b m) (into c n) (into y.item n) (into c n) (into d n) refl still.0 refl still.1 was
       moves n m a b c d here there at to differ x y false is done_is =
           let still = front.kept n m a x.item c y.item here x.is at y.is differ is in
           let was = back.moved n m x.item b y.item d x.is there y.is to differ done_is in
-          carried_as (out x.item m) (out b m) (out a m) (out b m) (into y.item n) (into d n) (into c n) (into d n) (sym still.0) refl (sym still.1) refl was
+          came_as Came (out x.item m) (out b m) (out a m) (out b m) (into y.item n) (into d n) (into c n) (into d n) (sym still.0) refl (sym still.1) refl was
 
       stays : (n m : ℕ) (a b c d : Cast D) → slice_get xs n ≡ Some a → slice_get zs n ≡ Some b → slice_get xs m ≡ Some c → slice_get zs m ≡ Some d → n ≢ m → (x : Got ys n) (y : Got ys m)
           → (e : Bool) → first n m ≡ e → (e || second n m) ≡ false → (out b m ≡ out a m) × (into d n ≡ into c n)
@@ -73,8 +75,48 @@ module _ {D : Type 0} where
           let after = back.kept n m x.item b y.item d x.is there y.is to differ not_done in
           (after.0 ∙ before.0, after.1 ∙ before.1)
 
-  pub all_carried : (old new : List (Cast D)) → CarriesWhere (λ n m. true) old new → AreLinksCarried old new
-  all_carried old new carries = record { others = carries.others; links = λ n m a b c d here there at to apart. carries.moved n m a b c d here there at to apart refl }
+-- so of what came less
+pub where_less : {D : Type 0} (Came Less : Comes) → ((o p : OutgoingValue) (i j : DrawValue Packet) → Came o p i j → Less o p i j) → (done : ℕ → ℕ → Bool) (old new : List (Cast D)) → CarriesWhere Came done old new → CarriesWhere Less done old new
+where_less Came Less less done old new carries = record {
+  others = carries.others;
+  moved = λ n m a b c d here there at to apart done_is. less (out a m) (out b m) (into c n) (into d n) (carries.moved n m a b c d here there at to apart done_is);
+  kept = carries.kept;
+}
+
+-- ---- two calls, of which memory may have been refused to either
+
+looked : (o p : OutgoingValue) (i j : DrawValue Packet) → WasCarried o p i j → WasLookedAt o p i j
+looked o p i j was = record { result = Ok was.held; carried = was.carried }
+
+pub met_first : (a b : Result (Unit {0}) NoMemory) (o p : OutgoingValue) (i j : DrawValue Packet) → WasMet a o p i j → WasMet (result_and a b) o p i j
+met_first (Ok done) (Ok also) o p i j was = was
+met_first (Ok done) (Err refused) o p i j was = looked o p i j was
+met_first (Err refused) b o p i j was = was
+
+pub met_second : (a b : Result (Unit {0}) NoMemory) (o p : OutgoingValue) (i j : DrawValue Packet) → WasMet b o p i j → WasMet (result_and a b) o p i j
+met_second (Ok done) b o p i j was = was
+met_second (Err refused) (Ok done) o p i j was = looked o p i j was
+met_second (Err refused) (Err also) o p i j was = was
+
+met_fifo : (came : Result (Unit {0}) NoMemory) (o p : OutgoingValue) (i j : DrawValue Packet) → WasMet came o p i j → IsFifo o.feed i
+met_fifo (Ok done) o p i j was = was.carried.fifo.0
+met_fifo (Err refused) o p i j was = was.carried.fifo.0
+
+-- ---- all links
+
+module _ {D : Type 0} (old new : List (Cast D)) where
+  pub all_carried : (came : Result (Unit {0}) NoMemory) → CarriesWhere (WasMet came) (λ n m. true) old new → OnOk came (AreLinksCarried old new)
+  all_carried (Ok done) carries = record { others = carries.others; links = λ n m a b c d here there at to apart. carries.moved n m a b c d here there at to apart refl }
+  all_carried (Err refused) carries = tt
+
+  pub all_fifo : (came : Result (Unit {0}) NoMemory) → CarriesWhere (WasMet came) (λ n m. true) old new → AreFifoSites old
+  all_fifo came carries n m a c here at apart =
+      let there = now n a here in
+      let to = now m c at in
+      met_fifo came (out a m) (out there.item m) (into c n) (into to.item n) (carries.moved n m a there.item c to.item here there.is at to.is apart refl)
+    where
+      now : (k : ℕ) (x : Cast D) → slice_get old k ≡ Some x → Got new k
+      now k x here = got_at new k (let less = got_below old k x here in let same = carries.others.count in omega arith)
 
 -- ---- one link
 
@@ -227,9 +269,9 @@ module _ {D : Type 0} (result : Result ℕ NoMemory) (from to : ℕ) (old new : 
           ap (λ (z : Cast D). into z n) (sym new_is) ∙ (into_stays n peer (not_it is) ∙ ap (λ (z : Cast D). into z n) old_is)
       by (inr (inr apart)) = ap (λ (z : Cast D). into z n) (one (sym there ∙ (c.rest m apart.0 apart.1 ∙ here)))
 
-  module _ (held : ℕ) (ok : result ≡ Ok held) where
-    pub one_where : CarriesWhere (λ n m. (n == from) && (m == to)) old new
-    one_where = record {
+  module _ (Came : Comes) (was : Came (out x to) (out x' to) (into y from) (into y' from)) where
+    one_came : CarriesWhere Came (λ n m. (n == from) && (m == to)) old new
+    one_came = record {
       others = one_others;
       moved = λ n m a b d e here there at to_is differ done. moves n m a b d e here there at to_is (both_are n m from to done);
       kept = λ n m a b d e here there at to_is differ not_done. (
@@ -238,17 +280,21 @@ module _ {D : Type 0} (result : Result ℕ NoMemory) (from to : ℕ) (old new : 
       );
     }
       where
-        was : WasCarried (out x to) (out x' to) (into y from) (into y' from)
-        was = record { held = held; carried = subst (λ (r : Result ℕ NoMemory). HasCarried r (out x to) (out x' to) (into y from) (into y' from)) ok carried }
-
         no_both : (n m : ℕ) → n ≡ from → m ≡ to → ((n == from) && (m == to)) ≡ false → ⊥
         no_both n m is there_is not_done = refused n m from to is there_is not_done
 
         moves : (n m : ℕ) (a b d e : Cast D) → slice_get old n ≡ Some a → slice_get new n ≡ Some b → slice_get old m ≡ Some d → slice_get new m ≡ Some e → (n ≡ from) × (m ≡ to)
-            → WasCarried (out a m) (out b m) (into d n) (into e n)
+            → Came (out a m) (out b m) (into d n) (into e n)
         moves n m a b d e here there at now is =
-            subst (λ (k : ℕ). WasCarried (out a m) (out b m) (into d k) (into e k)) (sym is.0)
-            (subst (λ (k : ℕ). WasCarried (out a k) (out b k) (into d from) (into e from)) (sym is.1)
-            (carried_as (out x to) (out x' to) (out a to) (out b to) (into y from) (into y' from) (into d from) (into e from)
+            subst (λ (k : ℕ). Came (out a m) (out b m) (into d k) (into e k)) (sym is.0)
+            (subst (λ (k : ℕ). Came (out a k) (out b k) (into d from) (into e from)) (sym is.1)
+            (came_as Came (out x to) (out x' to) (out a to) (out b to) (into y from) (into y' from) (into d from) (into e from)
             (ap (λ (z : Cast D). out z to) (sym (at_from a (ap (slice_get old) (sym is.0) ∙ here)))) (ap (λ (z : Cast D). out z to) (sym (now_from b (ap (slice_get new) (sym is.0) ∙ there))))
             (ap (λ (z : Cast D). into z from) (sym (at_to d (ap (slice_get old) (sym is.1) ∙ at)))) (ap (λ (z : Cast D). into z from) (sym (now_to e (ap (slice_get new) (sym is.1) ∙ now)))) was))
+
+  -- all of it was carried, or memory was refused
+  pub one_where : (held : ℕ) → result ≡ Ok held → CarriesWhere (WasMet (Ok tt)) (λ n m. (n == from) && (m == to)) old new
+  one_where held ok = one_came (WasMet (Ok tt)) (record { held = held; carried = subst (λ (r : Result ℕ NoMemory). HasCarried r (out x to) (out x' to) (into y from) (into y' from)) ok carried })
+
+  pub one_looked : (e : NoMemory) → CarriesWhere (WasMet (Err e)) (λ n m. (n == from) && (m == to)) old new
+  one_looked e = one_came (WasMet (Err e)) (record { result = result; carried = carried })

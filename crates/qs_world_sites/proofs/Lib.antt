@@ -17,3 +17,5 @@ pub mod Joining
 pub mod Over
 -- The turn of a client.
 pub mod Turned
+-- Where the threads have joined.
+pub mod Meeting

@@ -8,8 +8,12 @@ pub mod Rounds
 pub mod Breaks
 -- How often nodes are visited.
 pub mod Late
+-- Bursts before rounds.
+pub mod Bursts
 -- How the rounds of a run end.
 pub mod Endings
+-- And how they follow one another, serially or in threads.
+pub mod Schedules
 -- The sites as a run begins.
 pub mod Seats
 -- Within the making of their links.

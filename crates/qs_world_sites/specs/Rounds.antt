@@ -2,6 +2,7 @@
 use Rattle.std.specs.Prelude.{◌≡◌, ℕ, Bool, false, not, ◌&&◌, List, Option, Some, None, slice_get, slice_set}
 use Rattle.std.specs.List.{list_all, list_any}
 use Rattle.qs_disk.specs.Disk.{DiskState}
+use Rattle.qs_world_plans.specs.Order.{drawn_order}
 use Rattle.qs_world_rounds.specs.Repeats.{AllVisits, RoundsBy}
 use Rattle.qs_world_rounds.specs.Rounds as one
 use Rattle.qs_world_rounds.specs.Rounds.{Cast, is_up}
@@ -47,7 +48,7 @@ pub record IsRound {D : Type 0} (told : Type 0) (state : D → DiskState) (own s
 
 -- so many rounds, in orders that are drawn one after the other
 abbrev pub Rounds : {D : Type 0} → Type 0 → (D → DiskState) → (D → ℕ) → (D → ℕ) → Lcg → ℕ → SitesValue D → SitesValue D → Lcg → Type 0
-Rounds told state own size rng n old new later = RoundsBy count_of (IsRound told state own size) rng n old new later
+Rounds told state own size rng n old new later = RoundsBy drawn_order count_of (IsRound told state own size) rng n old new later
 
 -- ---- where the actors stand
 

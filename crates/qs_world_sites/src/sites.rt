@@ -1,21 +1,26 @@
 //! The sites of a run, and a round over them all.
-ghost use Rattle.std.specs.Prelude.{◌≡◌, ◌<◌, ◌+◌, ◌&&◌, ◌||◌, not, length, slice_get, Err, IfOk, OnOk};
+ghost use Rattle.std.specs.Prelude.{◌≡◌, ◌<◌, ◌+◌, ◌&&◌, ◌||◌, not, length, slice_get, Err, IfOk, OnErr, OnOk};
 ghost use Rattle.std.specs.List.{list_all, list_any};
 ghost use Rattle.qs_base.specs.declared.identifiers.NodeNo.{NodeNo};
 ghost use Rattle.qs_world_rounds.specs.Rounds.{is_up};
+ghost use Rattle.qs_world_rounds.specs.Turns.{TakesSome};
 ghost use Rattle.qs_world_rounds.specs.declared.faults.RoundFault.TheVariants as faults;
 ghost use Rattle.qs_world_sites.specs.Breaks.{BreaksRound, FailsAt, HasRisen, RefusedAt, RefusesRound, VisitsUntil};
+ghost use Rattle.qs_world_sites.specs.Bursts.{AreFifoSites, Bursts, IsRefusedBurst};
 ghost use Rattle.qs_world_sites.specs.Late.{IsLate, RisesBy};
 ghost use Rattle.qs_world_sites.specs.Rounds.{IsRound, VisitAll, VisitAt, all_ended, all_up, any_packets, are_settled};
 ghost use Rattle.qs_world_sites.specs.Sites.{AreCarried, AreLinked, Each, GoesOn, HasSameCell, count_of, has_packets};
 
-use crate::carrying::carry_all;
+use crate::bursts::take_all;
+use crate::carrying::{carry_all, carry_links};
 use crate::turn::Turn;
 use crate::visits::visit_turn;
 use qs_base::NoMemory;
 use qs_disk::Disk;
+use qs_io::Gate;
 use qs_world_rounds::{Actors, RoundEnd, RoundFault};
 use std::marker::Model;
+use std::thread::Threads;
 
 /// The sites of a run, each a node with its clients, and whom each place in the order of a round means.
 #[derive(Drop)]
@@ -75,6 +80,7 @@ impl<D: Disk> Sites<D> {
         ensures broken { (node : NodeNo) → result ≡ Err (faults.DiskFault node) → BreaksRound D.told D.state D.fault_count D.byte_count order.now node self.old self.new }
         ensures refused { result ≡ Err faults.NoMemory → RefusesRound D.told D.state D.fault_count D.byte_count order.now self.old self.new }
         ensures damaged { D.told → result ≡ Err faults.Damaged → IsLate (length order.now) self.old.sites }
+        ensures joined { AreFifoSites self.old.sites }
         ensures rises { OnOk result (Each (RisesBy (length order.now)) self.old.sites self.new.sites) }
         ensures stays { Each GoesOn self.old.sites self.new.sites }
     {
@@ -87,9 +93,20 @@ impl<D: Disk> Sites<D> {
         })
     }
 
+    /// Each ring of a link is looked at from both ends, now that the threads have joined; what stands on the link may be carried by that.
+    fn look(&mut self)
+        ensures joined { AreFifoSites self.old.sites }
+        ensures cells { Each HasSameCell self.old.sites self.new.sites }
+        ensures turns { self.new.turns ≡ self.old.turns }
+    {
+        // (a refusal is told already)
+        let _ = carry_links(self.sites.as_mut_slice());
+    }
+
     /// What stands in each lane and on each link is carried into the inbox of its receiver.
     fn carry(&mut self) -> Result<(), NoMemory>
         ensures carries { OnOk result (AreCarried self.old.sites self.new.sites) }
+        ensures joined { AreFifoSites self.old.sites }
         ensures cells { Each HasSameCell self.old.sites self.new.sites }
         ensures turns { self.new.turns ≡ self.old.turns }
     {
@@ -157,6 +174,49 @@ impl<D: Disk> Sites<D> {
         ensures { result ≡ are_settled self.now }
     {
         self.sites.iter().all(Actors::are_settled)
+    }
+}
+
+impl<D: Disk + Send> Sites<D> {
+    /// A burst: each site takes so many turns, side by side with the others, in threads where these can be made. After `NoMemory`, which comes where
+    /// memory was refused at one site or at several, be it within a step of a node, the others took all their turns.
+    pub fn burst<R: Threads + Sync, G: Gate + Sync>(
+        &mut self,
+        rt: &R,
+        gate: &G,
+        turns: u32,
+    ) -> Result<(), NoMemory>
+        ensures bursts { OnOk result (Bursts D.told D.state D.fault_count D.byte_count turns self.old.sites self.new.sites) }
+        ensures refused { OnErr result (IsRefusedBurst D.told D.state D.fault_count D.byte_count turns self.old.sites self.new.sites) }
+        ensures turns { self.new.turns ≡ self.old.turns }
+        ensures rises { OnOk result (Each (RisesBy 0) self.old.sites self.new.sites) }
+        ensures stays { Each GoesOn self.old.sites self.new.sites }
+    {
+        if turns == 0 {
+            return Ok(());
+        }
+        match self.take_turns(rt, gate, turns) {
+            Ok(()) => Ok(()),
+            Err(refused) => {
+                self.look();
+                Err(refused)
+            }
+        }
+    }
+
+    /// The turns of each site.
+    fn take_turns<R: Threads + Sync, G: Gate + Sync>(
+        &mut self,
+        rt: &R,
+        gate: &G,
+        turns: u32,
+    ) -> Result<(), NoMemory>
+        ensures bursts { OnOk result (Bursts D.told D.state D.fault_count D.byte_count turns self.old.sites self.new.sites) }
+        ensures some { Each (TakesSome D.told D.state D.fault_count D.byte_count turns) self.old.sites self.new.sites }
+        ensures turns { self.new.turns ≡ self.old.turns }
+        ensures stays { Each GoesOn self.old.sites self.new.sites }
+    {
+        take_all(rt, gate, turns, self.sites.as_mut_slice())
     }
 }
 

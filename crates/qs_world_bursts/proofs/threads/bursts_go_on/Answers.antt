@@ -6,5 +6,5 @@ pub returns : goal.returns
 returns g c = record {
   turn = λ o n old new. each_turn g.D.Disk.told g.D.Disk.state g.D.Disk.fault_count g.D.Disk.byte_count o n old new;
   burst = λ o plans turns old mid new. each_burst g.D.Disk.told g.D.Disk.state g.D.Disk.fault_count g.D.Disk.byte_count o plans turns old mid new;
-  round = λ o plans turns old new. each_round_behind g.D.Disk.told g.D.Disk.state g.D.Disk.fault_count g.D.Disk.byte_count o plans turns old new;
+  round = λ o plans turns order old new quiet. each_round_behind g.D.Disk.told g.D.Disk.state g.D.Disk.fault_count g.D.Disk.byte_count o plans turns order old new quiet;
 }

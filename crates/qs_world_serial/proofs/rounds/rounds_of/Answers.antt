@@ -1,6 +1,6 @@
 use Rattle.std.proofs.Common.{◌+◌, ◌∙◌, refl, rules}
 use Rattle.qs_world_plans.specs.Budget.{most_budget}
-use Rattle.qs_world_plans.specs.Order.{seeded}
+use Rattle.qs_world_plans.specs.Order.{drawn_order, seeded}
 use Rattle.qs_world_rounds.proofs.Repeats.{rounds_more}
 use Rattle.qs_world_serial.proofs.Repeating.{cut_at, ending_with, late_after, refused_at, rises_more, round_turns}
 use Rattle.qs_world_serial.proofs.Spending.{budget_least, budget_most, lt_le_on, more_on, most_on, rises_none}
@@ -58,7 +58,7 @@ returns-in-Some-clause-stays g c =
 
 pub loop-rounds-preserved : goal.loop-rounds-preserved
 loop-rounds-preserved g c = record {
-  made = rounds_more count_of (IsRound g.D.Disk.told g.D.Disk.state g.D.Disk.fault_count g.D.Disk.byte_count) (seeded c.args.seed) c.loop-rounds.rounds c.args.sites.now
+  made = rounds_more drawn_order count_of (IsRound g.D.Disk.told g.D.Disk.state g.D.Disk.fault_count g.D.Disk.byte_count) (seeded c.args.seed) c.loop-rounds.rounds c.args.sites.now
       c.loop-rounds.sites c.next_round.new.sites c.loop-rounds.orders.rng c.next_round.new.orders.rng c.in_ok-end.end.quiet c.loop-rounds.invariant.made
       c.in_ok-end.ensures.round c.in_ok-end.ensures.drawn;
   more = lt_le_on (c.loop-rounds.rounds + 1) c.ending_of.new.most (budget_of c.args.script.now c.next_round.new.sites)

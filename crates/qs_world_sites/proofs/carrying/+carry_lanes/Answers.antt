@@ -1,6 +1,7 @@
-use Rattle.std.proofs.Common.{◌≡◌, ◌∷◌, rules, subst, sym}
+use Rattle.std.proofs.Common.{◌≡◌, ◌∷◌, refl, rules, subst, sym}
 use Rattle.qs_cell.proofs.Turning.{on_ok_map}
 use Rattle.qs_world_sites.proofs.Staying.{cell_none, each_more, each_same, same_cell}
+use Rattle.qs_world_sites.specs.Carrying.{HasSameLinks}
 use Rattle.qs_world_sites.specs.Sites.{CarriesLanes, Each, HasSameCell}
 use Rattle.qs_world_sites.proofs.carrying.+carry_lanes.Goals as goal
 
@@ -24,3 +25,15 @@ returns-in_ok-carry-in-Some-clause-cells g t c =
     subst (λ l. Each HasSameCell l (c.carry.new.self ∷ c.carry_lanes.new.sites)) (sym split)
     (each_more HasSameCell c.in-Some.site.now c.carry.new.self c.in-Some.sites.now c.carry_lanes.new.sites
     (same_cell c.in-Some.site.now c.carry.new.self c.carry.ensures.node c.carry.ensures.links c.carry.ensures.start) c.carry_lanes.ensures.cells)
+
+pub returns-in_err-carry-in-Some-clause-links : goal.returns-in_err-carry-in-Some-clause-links
+returns-in_err-carry-in-Some-clause-links g t c =
+    let split : c.args.sites.now ≡ c.in-Some.site.now ∷ c.in-Some.sites.now = search rules in
+    subst (λ l. Each HasSameLinks l (c.carry.new.self ∷ c.in-Some.sites.now)) (sym split)
+    (each_more HasSameLinks c.in-Some.site.now c.carry.new.self c.in-Some.sites.now c.in-Some.sites.now c.carry.ensures.links (each_same HasSameLinks (λ a. refl) c.in-Some.sites.now))
+
+pub returns-in_ok-carry-in-Some-clause-links : goal.returns-in_ok-carry-in-Some-clause-links
+returns-in_ok-carry-in-Some-clause-links g t c =
+    let split : c.args.sites.now ≡ c.in-Some.site.now ∷ c.in-Some.sites.now = search rules in
+    subst (λ l. Each HasSameLinks l (c.carry.new.self ∷ c.carry_lanes.new.sites)) (sym split)
+    (each_more HasSameLinks c.in-Some.site.now c.carry.new.self c.in-Some.sites.now c.carry_lanes.new.sites c.carry.ensures.links c.carry_lanes.ensures.links)

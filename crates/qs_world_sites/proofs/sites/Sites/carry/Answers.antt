@@ -1,5 +1,6 @@
 use Rattle.std.proofs.Common.{◌∙◌, OnOk, ap, subst, sym}
 use Rattle.qs_world_sites.proofs.Written.{written}
+use Rattle.qs_world_sites.specs.Bursts.{AreFifoSites}
 use Rattle.qs_world_sites.specs.Sites.{AreCarried, AreLinked, Each, HasSameCell}
 use Rattle.qs_world_sites.proofs.sites.Sites.carry.Goals as goal
 
@@ -24,3 +25,6 @@ returns-clause-cells g c =
 
 pub returns-clause-turns : goal.returns-clause-turns
 returns-clause-turns g c = ap (λ v. v.turns) c.self.view_is
+
+pub returns-clause-joined : goal.returns-clause-joined
+returns-clause-joined g c = subst AreFifoSites (c.as_mut_slice.ensures.value ∙ ap (λ v. v.sites) c.self.view_is) c.carry_all.ensures.joined
